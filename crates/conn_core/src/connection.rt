@@ -40,6 +40,8 @@ pub struct Connection {
     due: VecDeque<CallEvent>,
     /// An error of the connection was met.
     ended: bool,
+    /// Which, for an operator alone.
+    failure: Option<ErrorCode>,
     /// Nothing changed since the pump found nothing more to put.
     at_rest: bool,
     /// How many live streams the client reset since it took bytes last.
@@ -56,6 +58,7 @@ impl Drop for Connection {
             calls,
             due,
             ended: _,
+            failure: _,
             at_rest: _,
             reset_count: _,
         } = self;
@@ -112,6 +115,7 @@ impl Connection {
             calls: Vec::new(alloc),
             due: VecDeque::new(alloc),
             ended: false,
+            failure: None,
             at_rest: false,
             reset_count: 0,
         })
@@ -294,6 +298,11 @@ impl Connection {
         ensures { result ≡ self.now.ended }
     {
         self.ended
+    }
+
+    /// The code of the error of the connection that was met, if one was.
+    pub fn failure(&self) -> Option<ErrorCode> {
+        self.failure
     }
 
     /// Whether a call is in course: a stream is open or half-closed, and no error of the connection

@@ -51,7 +51,7 @@ pub fn on_head(
 
 /// A whole message of a request comes: that of a `Write` is carried out, the first of another
 /// method is kept.
-pub fn on_message(
+fn take_message(
     alloc: Global,
     settings: &Settings,
     contents: &mut Contents,
@@ -122,6 +122,41 @@ pub fn on_message(
     }
 }
 
+/// A whole message of a request comes: that of a `Write` is carried out, the first of another
+/// method is kept. It is counted.
+pub fn on_message(
+    alloc: Global,
+    settings: &Settings,
+    contents: &mut Contents,
+    pool: &mut Pool,
+    calls: &mut Calls,
+    id: CallId,
+    message: Vec<u8>,
+) -> Result<Vec<Reply>, AllocError>
+    requires request { IsShortRequest message.items }
+    requires kept { AreContentsInPool settings.now pool.old contents.old }
+    ensures replies { (jobs : Jobs JobValue) (p : Slots) →
+        let old = contents_state settings.now pool.old contents.old
+        (record { jobs = jobs; calls = calls.old }) in
+        Gives p result (message_answer old id message.items (call_at id calls.old)).replies }
+    ensures given { (k : ℕ) → result_holders result k ≡ 0 }
+    ensures changed { (jobs : Jobs JobValue) →
+        let old = contents_state settings.now pool.old contents.old
+        (record { jobs = jobs; calls = calls.old }) in
+        let new = contents_state settings.now pool.new contents.new
+        (record { jobs = jobs; calls = calls.new }) in
+        Makes result (message_answer old id message.items (call_at id calls.old)).changes old new }
+    ensures executions { contents.new.executions ≡ contents.old.executions }
+    ensures moves { Moves pool.old pool.new (holders contents.old.view)
+        (holders contents.new.view) }
+    ensures within { AreContentsWithin settings.now pool.new contents.new }
+    ensures results { contents.new.results ≡ contents.old.results }
+    ensures calls { AreInCourse calls.new }
+{
+    calls.count_message(id, message.len());
+    take_message(alloc, settings, contents, pool, calls, id, message)
+}
+
 /// The data of a request are no sequence of messages.
 pub fn on_fault(
     alloc: Global,
@@ -159,7 +194,7 @@ fn watched_in(outcome: &Result<Answer, CallError>) -> Option<u64>
 }
 
 /// A call was answered: it watches the job of a number from now on, or ends.
-fn settle(calls: &mut Calls, id: CallId, watched: Option<u64>)
+fn watch_or_end(calls: &mut Calls, id: CallId, watched: Option<u64>)
     ensures settled { (call : CallValue) → call_at id calls.old ≡ Some call
         → calls.new ≡ settled id call.method watched calls.old }
     ensures calls { AreInCourse calls.new }
@@ -168,6 +203,17 @@ fn settle(calls: &mut Calls, id: CallId, watched: Option<u64>)
         Some(number) => calls.watch(id, number),
         None => calls.end(id),
     }
+}
+
+/// A call of the method was answered by these replies: it watches the job of a number from now on,
+/// or ends. It is counted.
+fn settle(calls: &mut Calls, id: CallId, method: Method, watched: Option<u64>, replies: &[Reply])
+    ensures settled { (call : CallValue) → call_at id calls.old ≡ Some call
+        → calls.new ≡ settled id call.method watched calls.old }
+    ensures calls { AreInCourse calls.new }
+{
+    calls.count_answer(method, watched.is_some(), replies);
+    watch_or_end(calls, id, watched);
 }
 
 /// A request is at its end.
@@ -208,7 +254,7 @@ pub fn on_end(
             let outcome = carry_out(alloc, settings, contents, parent, pool, method, message);
             let watched = watched_in(&outcome);
             let replies = reply_to_request(alloc, pool, id, outcome)?;
-            settle(calls, id, watched);
+            settle(calls, id, method, watched, &replies);
             Ok(replies)
         }
         Progress::Writes(write) => {

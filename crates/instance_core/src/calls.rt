@@ -1,6 +1,6 @@
 //! The calls in course.
 
-ghost use Rattle.std.specs.Prelude.{◌≡◌, ◌<◌, ◌^◌, ◌==◌, not, [], Some, IsSome, filter, length, option_map, slice_get, OnOk, OnErr};
+ghost use Rattle.std.specs.Prelude.{◌≡◌, ◌<◌, ◌^◌, ◌==◌, not, [], Some, IsSome, filter, length, option_map, slice_get, IfOk, OnOk, OnErr};
 ghost use Rattle.std.specs.List.{IsDistinct};
 ghost use Rattle.std.specs.Map.{keys_of};
 ghost use Rattle.std.specs.Option.{option_copied};
@@ -11,8 +11,9 @@ ghost use Rattle.executor.specs.Taking.{steps_shown};
 ghost use Rattle.instance_core.specs.Apart.{calls_apart};
 ghost use Rattle.instance_core.specs.Shown.{progress_shown};
 
-use crate::event::CallId;
+use crate::event::{CallId, Reply, ReplyItem};
 use bytestream::OpenWrite;
+use call_counts::CallCounts;
 use executor::{Step, Told};
 use indexmap::IndexMap;
 use rpc::Method;
@@ -22,6 +23,9 @@ use std::marker::Model;
 /// From this size on the C library asks the system for a block of its own, and gives it back when
 /// it is freed: until one as large was freed, after which it keeps such blocks among the others.
 const OWN_BLOCK: usize = 131_072;
+
+/// The gRPC status code of a call that was given up.
+const CANCELLED: usize = 1;
 
 /// How much of a call's request has come.
 #[derive(Drop)]
@@ -102,6 +106,42 @@ pub fn let_go(mut message: Vec<u8>) {
     }
 }
 
+/// The gRPC status code with which these replies end a call.
+fn status_of(replies: &[Reply]) -> usize {
+    for reply in replies {
+        if let [ReplyItem::Refuses(refusal)] = reply.items.as_slice() {
+            return refusal.code() as usize;
+        }
+    }
+    0
+}
+
+/// Counts that a call of the method ended with a gRPC status code.
+fn count_end(counts: &mut CallCounts, method: Method, code: usize) {
+    counts.add_end(method, code);
+    if code == 0 {
+        counts.add_execution(method, true);
+    }
+}
+
+/// Counts what a call of the method is given.
+fn count_sent(counts: &mut CallCounts, method: Method, replies: &[Reply]) {
+    for reply in replies {
+        for item in reply.items.iter() {
+            counts.add_sent(method, length_of(item));
+        }
+    }
+}
+
+/// How many bytes of messages an item of a reply has.
+fn length_of(item: &ReplyItem) -> u64 {
+    match item {
+        ReplyItem::Says(message) => message.len() as u64,
+        ReplyItem::Gives(range) => range.until.saturating_sub(range.from),
+        ReplyItem::Begins | ReplyItem::Ends | ReplyItem::Refuses(_) => 0,
+    }
+}
+
 /// Puts a call in the place of the one of that name, which is there.
 fn replace(by_id: &mut IndexMap<CallId, Call>, id: CallId, call: Call)
     requires there { IsSome (call_at id by_id.old.entries) }
@@ -114,10 +154,12 @@ fn replace(by_id: &mut IndexMap<CallId, Call>, id: CallId, call: Call)
     }
 }
 
-/// The calls in course, in the order in which they began.
+/// The calls in course, in the order in which they began, and counts of those that were. Nothing but
+/// the calls in course is of any consequence to what is answered.
 #[derive(Drop)]
 pub struct Calls {
     by_id: IndexMap<CallId, Call>,
+    counts: Box<CallCounts>,
 }
 
 impl Model for Calls {
@@ -132,12 +174,62 @@ impl Model for Calls {
 
 impl Calls {
     /// No calls yet.
-    pub fn new(alloc: Global) -> Calls
-        ensures none { result ≡ [] }
-        ensures calls { AreInCourse result }
+    pub fn new(alloc: Global) -> Result<Calls, AllocError>
+        ensures none { IfOk result (λ calls. calls ≡ []) }
+        ensures calls { IfOk result AreInCourse }
     {
-        Calls {
+        let counts = Box::new(alloc, CallCounts::new())?;
+        Ok(Calls {
             by_id: IndexMap::new(alloc),
+            counts,
+        })
+    }
+
+    /// How many calls came to what.
+    pub fn counts(&self) -> &CallCounts {
+        &self.counts
+    }
+
+    /// Counts a message of this many bytes of a request.
+    pub fn count_message(&mut self, id: CallId, bytes: usize)
+        ensures same { self.new ≡ self.old }
+    {
+        if let Some(call) = self.by_id.get(&id) {
+            let method = call.method();
+            self.counts.add_received(method, bytes);
+        }
+    }
+
+    /// Counts that the call of that name ends with these replies.
+    fn count_finished(&mut self, id: CallId, replies: &[Reply])
+        ensures same { self.new ≡ self.old }
+    {
+        if let Some(call) = self.by_id.get(&id) {
+            let method = call.method();
+            count_sent(&mut self.counts, method, replies);
+            count_end(&mut self.counts, method, status_of(replies));
+        }
+    }
+
+    /// Counts that nobody waits for the call of that name any more.
+    fn count_cancelled(&mut self, id: CallId)
+        ensures same { self.new ≡ self.old }
+    {
+        if let Some(call) = self.by_id.get(&id) {
+            let method = call.method();
+            self.counts.add_end(method, CANCELLED);
+        }
+    }
+
+    /// Counts what a call was answered, which ends, or watches a job from now on.
+    pub fn count_answer(&mut self, method: Method, is_watching: bool, replies: &[Reply])
+        ensures same { self.new ≡ self.old }
+    {
+        count_sent(&mut self.counts, method, replies);
+        if is_watching {
+            self.counts.add_execution(method, false);
+        } else {
+            count_end(&mut self.counts, method, status_of(replies));
         }
     }
 
@@ -168,6 +260,26 @@ impl Calls {
         if let Some(call) = self.by_id.shift_remove(&id) {
             call.let_go();
         }
+    }
+
+    /// Takes out the call of that name, which these replies end, and counts it. The others keep
+    /// their order.
+    pub fn finish(&mut self, id: CallId, replies: &[Reply])
+        ensures ended { self.new ≡ without_call id self.old }
+        ensures calls { AreInCourse self.new }
+    {
+        self.count_finished(id, replies);
+        self.end(id);
+    }
+
+    /// Takes out the call of that name, for which nobody waits any more, and counts it. The others
+    /// keep their order.
+    pub fn cancel(&mut self, id: CallId)
+        ensures ended { self.new ≡ without_call id self.old }
+        ensures calls { AreInCourse self.new }
+    {
+        self.count_cancelled(id);
+        self.end(id);
     }
 
     /// The call of that name, which is in course, watches the job of a number from now on.
@@ -225,8 +337,24 @@ impl Calls {
     {
         let mut left = steps;
         while let [first, rest @ ..] = left {
+            self.count_told(&first.told());
             self.end_if_last(&first.told());
             left = rest;
+        }
+    }
+
+    /// Counts what the calls are told that watch a job.
+    fn count_told(&mut self, told: &Told<'_>)
+        ensures same { self.new ≡ self.old }
+    {
+        for call in self.by_id.values() {
+            if call.watches(told.number) {
+                self.counts
+                    .add_sent(call.method(), told.operation.len() as u64);
+                if told.is_last {
+                    self.counts.add_end(call.method(), 0);
+                }
+            }
         }
     }
 

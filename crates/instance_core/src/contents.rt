@@ -2,7 +2,7 @@
 
 use action_cache::Results;
 use executor::Executions;
-use instance_view::View;
+use instance_view::{Dropped, View};
 use uploads::Uploads;
 
 /// What an instance is configured as, and the moment of what happens to it.
@@ -22,4 +22,22 @@ pub struct Contents {
     pub uploads: Uploads,
     pub results: Results,
     pub executions: Executions,
+}
+
+/// How much an instance has now.
+#[derive(Clone, Copy, Debug, PartialEq, Eq)]
+pub struct InstanceSizes {
+    pub blobs: usize,
+    /// Of its blobs.
+    pub bytes: u64,
+    pub quota: u64,
+    /// Uploads that are not finished.
+    pub uploads: usize,
+    pub results: usize,
+    /// Jobs that wait.
+    pub waiting: usize,
+    /// Jobs that run.
+    pub running: usize,
+    /// What it dropped since the start.
+    pub dropped: Dropped,
 }

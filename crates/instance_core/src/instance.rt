@@ -1,12 +1,13 @@
 //! One instance: its settings, what it keeps, and the calls in course.
 
-ghost use Rattle.std.specs.Prelude.{◌≡◌, ◌≤◌, ◌+◌, ◌^◌, ℕ, List, [], is_some, map, option_map, OnOk, OnErr, IfOk};
+ghost use Rattle.std.specs.Prelude.{◌≡◌, ◌≤◌, ◌+◌, ◌^◌, ℕ, List, [], is_some, length, map, option_map, OnOk, OnErr, IfOk};
 ghost use Rattle.std.specs.List.{AllByRecursion};
 ghost use Rattle.blob_pool.specs.Slots.{Slots, count_at};
 ghost use Rattle.blob_pool.specs.Moves.{Moves};
 ghost use Rattle.instance_core.specs.Calls.{IsShortEvent, cancel, tick, start_jobs, end_late_jobs, end_job};
 ghost use Rattle.instance_core.specs.Apart.{calls_apart, replies_on, AreRepliesTo};
 ghost use Rattle.instance_core.specs.State.{InstanceState, IsInstanceWithin, new_instance, at_moment, seeing};
+ghost use Rattle.instance_view.specs.Shown.{sizes as total_of};
 ghost use Rattle.instance_view.specs.Visible.{Blob};
 ghost use Rattle.instance_core.specs.Slots.{KeepsConfig, state_in, state_beside, holders_of_instance, IsInstanceInPool, IsBeside, IsKeptSomewhere};
 ghost use Rattle.instance_core.specs.Changes.{MadeInPart, Settles, state_after_change, state_after_changes};
@@ -25,12 +26,13 @@ ghost use Rattle.quota_evict.specs.Within.{most_stored_bytes};
 
 use crate::answers::{on_end, on_fault, on_head, on_message};
 use crate::calls::Calls;
-use crate::contents::{Contents, Settings};
+use crate::contents::{Contents, InstanceSizes, Settings};
 use crate::ending::on_outcome;
 use crate::event::{CallEvent, CallId, Reply};
 use crate::turns::{Turn, make_ready};
 use action_cache::Results;
 use blob_pool::Pool;
+use call_counts::CallCounts;
 use executor::{Executions, Step, Task, forget_job, start_steps, take_steps, task_of, tick_steps};
 use instance_view::View;
 use job_queue::Queue;
@@ -97,6 +99,7 @@ impl Instance {
             slots: slots as usize,
             queue: Queue::new(alloc)?,
         };
+        let calls = Calls::new(alloc)?;
         Ok(Instance {
             settings: Settings {
                 name,
@@ -110,7 +113,7 @@ impl Instance {
                 results,
                 executions,
             },
-            calls: Calls::new(alloc),
+            calls,
         })
     }
 
@@ -119,6 +122,39 @@ impl Instance {
         ensures { result.now ≡ self.now.view }
     {
         &self.contents.view
+    }
+
+    /// How many of its calls came to what.
+    pub fn call_counts(&self) -> &CallCounts {
+        self.calls.counts()
+    }
+
+    /// How much it has now.
+    pub fn sizes(&self) -> InstanceSizes
+        ensures blobs { result.blobs ≡ length self.now.view.entries }
+        ensures bytes { result.bytes ≡ total_of self.now.view.entries }
+        ensures quota { result.quota ≡ self.now.quota }
+        ensures uploads { result.uploads ≡ length self.now.uploads }
+        ensures results { result.results ≡ length self.now.results }
+        ensures waiting { result.waiting ≡ length self.now.jobs.waiting }
+        ensures running { result.running ≡ length self.now.jobs.running }
+    {
+        let Contents {
+            view,
+            uploads,
+            results,
+            executions,
+        } = &self.contents;
+        InstanceSizes {
+            blobs: view.len(),
+            bytes: view.total(),
+            quota: self.settings.quota,
+            uploads: uploads.len(),
+            results: results.len(),
+            waiting: executions.queue.waiting_count(),
+            running: executions.queue.running_count(),
+            dropped: view.dropped(),
+        }
     }
 
     /// The moment of what happens, in milliseconds.
@@ -138,6 +174,7 @@ impl Instance {
         ensures config { KeepsConfig self.old self.new }
     {
         self.settings.moment = moment;
+        self.contents.view.set_moment(moment);
     }
 
     /// Carries out an event of a call, and gives the replies that it brings. An event of a call
@@ -225,7 +262,7 @@ impl Instance {
         ensures kept { (p : Slots) → IsInstanceInPool p self.old → IsInstanceInPool p self.new }
         ensures config { KeepsConfig self.old self.new }
     {
-        self.calls.end(call);
+        self.calls.cancel(call);
     }
 
     /// The connection is gone: each of its calls in course ends without a reply. This takes no

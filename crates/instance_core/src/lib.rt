@@ -23,6 +23,7 @@ mod trees;
 mod turns;
 mod writing;
 
+pub use contents::InstanceSizes;
 pub use event::{CallEvent, CallId, GivenRange, Reply, ReplyItem};
 pub use executor::{Order, Step, Task};
 pub use instance::Instance;

@@ -45,7 +45,7 @@ pub fn finish(
     ensures calls { AreInCourse calls.new }
 {
     let replies = reply_with(alloc, id, outcome)?;
-    calls.end(id);
+    calls.finish(id, &replies);
     Ok(replies)
 }
 

@@ -1,7 +1,7 @@
 -- Entries and the texts that they find in a pool.
 use Rattle.std.proofs.Common.{◌≡◌, ℕ, zero, suc, ◌+◌, ◌-◌, ◌<◌, ◌≤◌, Bool, true, false, cond, List, [], ◌∷◌, ◌++◌, length, take, Option, Some, None, refl, sym, ap, subst, ◌∙◌, arith}
 use Rattle.std.specs.Prelude.{is_some, option_map, IfSome, IfNone}
-use Rattle.std.specs.Map.{lookup, lookup_entry, remove_entry}
+use Rattle.std.specs.Map.{lookup, lookup_entry, remove_entry, set_value}
 use Rattle.lru.specs.LruCache.{LruCache, put_entries, last_entry}
 use Rattle.digest.specs.declared.Digest.{Digest}
 use Rattle.digest.specs.Naming.{same_digest, is_empty_digest}
@@ -167,3 +167,27 @@ popped_empty v (Some e) is = tt
 pub popped_sizes : (v : List ViewEntry) (o : Option ViewEntry) → o ≡ last_entry v → sizes (take (length v - 1) v) + size_of o ≡ sizes v
 popped_sizes v None is = rw (last_none v (sym is)) refl
 popped_sizes v (Some e) is = sym (ap sizes (last_some v e (sym is)) ∙ sizes-push (take (length v - 1) v) e)
+
+-- to write the value that stands there changes nothing of a use
+pub rewritten : (t : Digest → Bool) (v : List ViewEntry) (w : ℕ) → lookup t v ≡ Some w → set_value t (with_match_first t v) w ≡ with_match_first t v
+rewritten t v w there = go (lookup_entry t v) refl where
+  finds : (v : List ViewEntry) (e : ViewEntry) → lookup_entry t v ≡ Some e → (t e.0 ≡ true) × (lookup t v ≡ Some e.1)
+  finds [] e is = cc
+  finds (x ∷ v) e is = at (t x.0) refl is (λ later. finds v e later) where
+    at : (c : Bool) → t x.0 ≡ c → cond c (Some x) (lookup_entry t v) ≡ Some e → (lookup_entry t v ≡ Some e → (t e.0 ≡ true) × (lookup t v ≡ Some e.1)) → (t e.0 ≡ true) × (lookup t (x ∷ v) ≡ Some e.1)
+    at true c is ih = let same : x ≡ e = cc in (sym (ap (λ (y : ViewEntry). t y.0) same) ∙ c, rw c (ap (λ (y : ViewEntry). Some y.1) same))
+    at false c is ih = let rest = ih is in (rest.0, rw c rest.1)
+
+  misses : (v : List ViewEntry) → lookup_entry t v ≡ None → lookup t v ≡ None
+  misses [] is = refl
+  misses (x ∷ v) is = at (t x.0) refl is (λ later. misses v later) where
+    at : (c : Bool) → t x.0 ≡ c → cond c (Some x) (lookup_entry t v) ≡ None → (lookup_entry t v ≡ None → lookup t v ≡ None) → lookup t (x ∷ v) ≡ None
+    at true c is ih = cc
+    at false c is ih = rw c (ih is)
+
+  go : (o : Option ViewEntry) → lookup_entry t v ≡ o → set_value t (with_match_first t v) w ≡ with_match_first t v
+  go None is = let not_there = misses v is in cc
+  go (Some e) is =
+      let front = finds v e is in
+      let value : e.1 ≡ w = cc in
+      rw (is, front.0) (ap (λ (n : ℕ). (e.0, n) ∷ remove_entry t v) (sym value))

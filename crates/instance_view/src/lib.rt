@@ -5,4 +5,4 @@ mod sight;
 mod view;
 
 pub use sight::Sight;
-pub use view::{MOST_LIMIT, Seen, View, copy_of};
+pub use view::{Dropped, MOST_LIMIT, Seen, View, copy_of};

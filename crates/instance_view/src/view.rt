@@ -20,7 +20,50 @@ use std::num::NonZeroUsize;
 /// The largest limit of a view, so that the holders of a text are always counted.
 pub const MOST_LIMIT: usize = 1 << 31;
 
-type Cache = LruCache<Digest, Kept>;
+type Cache = LruCache<Digest, Used>;
+
+/// Where a text lies in the pool, and the moment of its last use, which is for an operator alone.
+#[derive(Drop)]
+struct Used {
+    kept: Kept,
+    moment: u64,
+}
+
+impl Model for Used {
+    ghost use Rattle.std.specs.Prelude.{ℕ};
+
+    ghost Value = { ℕ };
+
+    ghost view = { λ u. u.kept };
+}
+
+impl Used {
+    fn new(kept: Kept, moment: u64) -> Used
+        ensures { result ≡ kept }
+    {
+        Used { kept, moment }
+    }
+
+    fn kept(&self) -> Kept
+        ensures { result ≡ self.now }
+    {
+        self.kept
+    }
+
+    /// How many milliseconds went by since its last use.
+    fn age(&self, moment: u64) -> u64 {
+        moment.saturating_sub(self.moment)
+    }
+}
+
+/// What was dropped to make room.
+#[derive(Clone, Copy, Debug, PartialEq, Eq)]
+pub struct Dropped {
+    /// How many texts; 2^64 - 1 where it were more.
+    pub count: u64,
+    /// How many milliseconds lay between the last use of the last of them and its end.
+    pub last_age: u64,
+}
 
 /// A text that an instance has.
 #[derive(Clone, Copy)]
@@ -32,7 +75,7 @@ pub enum Seen {
 }
 
 /// Makes the pair of the digest the most recently used, and says whether there is one.
-fn promote(cache: &mut Cache, digest: &Digest) -> bool
+fn promote(cache: &mut Cache, digest: &Digest, moment: u64) -> bool
     ensures found { (p : Slots) → result
         ≡ is_some (lookup (same_digest digest.now) (blobs_in p cache.old.entries)) }
     ensures used { (p : Slots) → blobs_in p cache.new.entries
@@ -43,29 +86,35 @@ fn promote(cache: &mut Cache, digest: &Digest) -> bool
     ensures sizes { sizes cache.new.entries ≡ sizes cache.old.entries }
     ensures cap { cache.new.cap ≡ cache.old.cap }
 {
-    cache.promote(digest)
+    match cache.get_mut(digest) {
+        Some(used) => {
+            used.moment = moment;
+            true
+        }
+        None => false,
+    }
 }
 
 /// Adds a pair that is not there.
-fn put(cache: &mut Cache, digest: Digest, kept: Kept) -> Result<(), AllocError>
+fn put(cache: &mut Cache, digest: Digest, used: Used) -> Result<(), AllocError>
     requires absent { lookup (same_digest digest) cache.old.entries ≡ None }
     requires room { length cache.old.entries < cache.old.cap }
-    ensures ok { OnOk result (cache.new.entries ≡ (digest, kept) ∷ cache.old.entries) }
+    ensures ok { OnOk result (cache.new.entries ≡ (digest, used) ∷ cache.old.entries) }
     ensures cap { cache.new.cap ≡ cache.old.cap }
     ensures err { OnErr result (cache.new ≡ cache.old) }
 {
-    cache.push(digest, kept)?;
+    cache.push(digest, used)?;
     Ok(())
 }
 
 /// Sets the slot of the pair that was added last.
-fn set(cache: &mut Cache, digest: Digest, kept: Kept)
+fn set(cache: &mut Cache, digest: Digest, used: Used)
     requires { (k : ℕ) × (v : List ViewEntry) × (cache.old.entries ≡ (digest, k) ∷ v) }
     ensures entries { (k : ℕ) (v : List ViewEntry) → cache.old.entries ≡ (digest, k) ∷ v →
-        cache.new.entries ≡ (digest, kept) ∷ v }
+        cache.new.entries ≡ (digest, used) ∷ v }
     ensures cap { cache.new.cap ≡ cache.old.cap }
 {
-    let done: Result<_, _> = cache.put(digest, kept);
+    let done: Result<_, _> = cache.put(digest, used);
     done.unwrap();
 }
 
@@ -79,7 +128,7 @@ fn pop_newest(cache: &mut Cache)
 }
 
 /// Takes out the least recently used pair.
-fn pop(cache: &mut Cache) -> Option<(Digest, Kept)>
+fn pop(cache: &mut Cache) -> Option<(Digest, Used)>
     ensures some { IfSome result (λ e. cache.old.entries ≡ cache.new.entries ++ e ∷ []) }
     ensures none { IfNone result (cache.old.entries ≡ []) }
     ensures none_new { IfNone result (cache.new.entries ≡ []) }
@@ -95,6 +144,10 @@ pub struct View {
     cache: Cache,
     limit: usize,
     bytes: u64,
+    /// The moment of what happens, in milliseconds. It and what was dropped are for an operator
+    /// alone: nothing else depends on them.
+    moment: u64,
+    dropped: Dropped,
 }
 
 // Written out, so that no crate above proves again that each part of it may be dropped.
@@ -104,6 +157,8 @@ impl Drop for View {
             cache,
             limit: _,
             bytes: _,
+            moment: _,
+            dropped: _,
         } = self;
         drop(cache);
     }
@@ -136,7 +191,24 @@ impl View {
             cache,
             limit,
             bytes: 0,
+            moment: 0,
+            dropped: Dropped {
+                count: 0,
+                last_age: 0,
+            },
         })
+    }
+
+    /// Sets the moment of what happens from now on, in milliseconds.
+    pub fn set_moment(&mut self, moment: u64)
+        ensures same { self.new ≡ self.old }
+    {
+        self.moment = moment;
+    }
+
+    /// What was dropped to make room.
+    pub fn dropped(&self) -> Dropped {
+        self.dropped
     }
 
     /// How many texts there may be.
@@ -192,7 +264,7 @@ impl View {
         ensures limit { self.new.limit ≡ self.old.limit }
         ensures unseen { result ≡ false → self.new ≡ self.old }
     {
-        promote(&mut self.cache, digest) || digest.is_empty()
+        promote(&mut self.cache, digest, self.moment) || digest.is_empty()
     }
 
     /// Adds a text that is not there, as the most recently used. The pool counts what the view
@@ -212,12 +284,14 @@ impl View {
         ensures err { OnErr result ((self.new ≡ self.old) × (pool.new ≡ pool.old)) }
         ensures back { IfErr result (λ given. given.text ≡ draft.text) }
     {
-        if put(&mut self.cache, *digest, Kept::nowhere()).is_err() {
+        let nowhere = Used::new(Kept::nowhere(), self.moment);
+        if put(&mut self.cache, *digest, nowhere).is_err() {
             return Err(draft);
         }
         match pool.seal(draft) {
             Ok(hold) => {
-                set(&mut self.cache, *digest, keep(hold));
+                let used = Used::new(keep(hold), self.moment);
+                set(&mut self.cache, *digest, used);
                 self.bytes += digest.size;
                 Ok(())
             }
@@ -238,7 +312,11 @@ impl View {
     {
         if let Some(entry) = pop(&mut self.cache) {
             self.bytes -= entry.0.size;
-            release_kept(pool, entry.1);
+            self.dropped = Dropped {
+                count: self.dropped.count.saturating_add(1),
+                last_age: entry.1.age(self.moment),
+            };
+            release_kept(pool, entry.1.kept());
         }
     }
 }
@@ -251,7 +329,7 @@ fn find(cache: &Cache, digest: &Digest) -> Option<Seen>
         holders_seen s k ≤ entry_holders cache.now.entries k) }
 {
     let kept = cache.peek(digest)?;
-    Some(Seen::Text(*kept))
+    Some(Seen::Text(kept.kept()))
 }
 
 /// A copy of a text that an instance has.

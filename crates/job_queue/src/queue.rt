@@ -274,6 +274,13 @@ impl<J: Drop> Queue<J> {
         self.waiting.get(place)
     }
 
+    /// How many jobs wait.
+    pub fn waiting_count(&self) -> usize
+        ensures { result ≡ length self.now.waiting }
+    {
+        self.waiting.len()
+    }
+
     /// The jobs that run, in rising number.
     pub fn running(&self) -> &[(u64, Running<J>)]
         ensures value { result.now ≡ self.now.running }

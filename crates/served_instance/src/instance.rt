@@ -38,6 +38,7 @@ use crate::refusal::EventRefusal;
 use crate::release::release_all;
 use blob_pool::Pool;
 use conn_core::Connection;
+use http2_frames::ErrorCode;
 use instance_core::{Instance, Order, Task};
 use instance_view::View;
 use server_events::{Event, InstanceConfig, What};
@@ -104,6 +105,20 @@ impl ServedInstance {
         ensures { result.now ≡ self.now.instance.view }
     {
         self.instance.view()
+    }
+
+    /// What it has but for its connections.
+    pub fn instance(&self) -> &Instance
+        ensures { result.now ≡ self.now.instance }
+    {
+        &self.instance
+    }
+
+    /// How many connections are open.
+    pub fn connection_count(&self) -> usize
+        ensures { result ≡ length self.now.connections }
+    {
+        self.connections.len()
     }
 
     /// The task of the job that runs under a number, where one does. Its texts lie in the pool.
@@ -181,6 +196,11 @@ impl ServedInstance {
                 Ok(orders)
             }
         }
+    }
+
+    /// The code of the error that was met on an open connection, if one was.
+    pub fn failure(&self, connection: u32) -> Option<ErrorCode> {
+        connection_at(&self.connections, connection)?.failure()
     }
 
     /// The bytes that were put on an open connection and not taken.

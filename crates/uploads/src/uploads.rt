@@ -55,6 +55,13 @@ impl Uploads {
         }
     }
 
+    /// How many uploads there are.
+    pub fn len(&self) -> usize
+        ensures { result ≡ length self.now }
+    {
+        self.table.len()
+    }
+
     /// How many bytes of an upload there are so far, where it is there.
     pub fn committed(&self, key: &UploadKey) -> Option<u64>
         ensures value { result ≡ option_map (λ upload. length upload.text)

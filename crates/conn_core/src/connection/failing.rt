@@ -25,6 +25,7 @@ impl Connection {
         ensures sources { KeepsSources self.old.sending self.new.sending }
     {
         self.ended = true;
+        self.failure = Some(code);
         self.at_rest = false;
         self.sender
             .put_control(&goaway(self.streams.highest(), code));

@@ -8,14 +8,14 @@ pub returns-clause-within : goal.returns-clause-within
 returns-clause-within c = λ p. record {
   quota = c.requires.quota;
   texts = rw c.in_ok-view.ensures (nothing_within most_blobs c.args.quota);
-  uploads = rw c.new-4.ensures (record { bytes = omega arith; count = omega arith });
+  uploads = rw c.new-5.ensures (record { bytes = omega arith; count = omega arith });
   results = rw c.in_ok-results.ensures (record { few = omega arith; short = omega arith });
   slots = c.requires.slots;
   jobs = rw c.in_ok-new.ensures none_in_order;
   running = rw c.in_ok-new.ensures (omega arith);
   whole = rw c.in_ok-new.ensures none_whole;
   told = rw c.in_ok-new.ensures tt;
-  calls = c.new-5.ensures.calls.once;
-  messages = c.new-5.ensures.calls.messages;
+  calls = c.in_ok-calls.ensures.calls.once;
+  messages = c.in_ok-calls.ensures.calls.messages;
   parent = tt;
 }

@@ -1,0 +1,2 @@
+-- What calls came to.
+pub mod Counts

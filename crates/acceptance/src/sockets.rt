@@ -10,6 +10,7 @@
 
 mod alone;
 mod fake;
+mod log;
 mod no_runs;
 mod peers;
 mod silent;
@@ -24,7 +25,7 @@ use decimals::decimal;
 use hex::FromHexError;
 use program_status::{Fault, Output, Status};
 use script::lines;
-use serve::Sockets;
+use serve::{LoggedSockets, Sockets};
 use server_events::Configs;
 
 /// How many turns a case takes.
@@ -79,13 +80,14 @@ fn clients<'a>(
 /// Serves so many clients with these habits, and tells what came of it.
 fn case(configs: &Configs, texts: &[Vec<u8>], count: usize, habits: Habits, output: &mut Output) {
     let clients = clients(texts, count, habits.is_steady, output);
-    let mut fake = Fake::new(output.alloc, clients, habits);
-    serve_alone(configs, &mut fake, TURNS, output);
-    if fake.is_out_of_memory {
+    let fake = Fake::new(output.alloc, clients, habits);
+    let mut sockets = LoggedSockets::new(output.alloc, fake);
+    serve_alone(configs, &mut sockets, TURNS, output);
+    if sockets.sockets.is_out_of_memory {
         output.fail(Fault::OutOfMemory);
     }
-    let outcome = judge(configs, &mut fake, output);
-    tell(habits, outcome, fake.faults() > 0, output);
+    let outcome = judge(configs, &mut sockets, output);
+    tell(habits, outcome, sockets.faults() > 0, output);
 }
 
 /// Tells what came of a case.

@@ -3,13 +3,14 @@
 use crate::counting::{CallFault, Calls, Deed, Failing};
 use crate::fake_folder::FakeFolder;
 use crate::fake_programs::FakePrograms;
-use crate::fake_sockets::{Client, FakeSockets};
+use crate::fake_sockets::{Client, FakeSockets, Habits};
 use job_runs::JobRunner;
 use program_status::Output;
 use runner::RunKey;
-use serve::serve;
+use serve::{ErrorLines, Nobody, Sockets, serve};
 use server_events::Configs;
 use std::alloc::{AllocError, Global};
+use std::io::ErrorKind;
 
 /// How many turns a run of the case takes.
 pub const TURNS: u64 = 70;
@@ -17,12 +18,18 @@ pub const TURNS: u64 = 70;
 /// The names of the instances.
 pub static NAMES: [&str; 3] = ["red", "blue", "green"];
 
-/// In the order of the lines that the clients send: their instances, and how many bytes each sends
-/// or takes at once. The second has nothing executed.
-static CLIENTS: [(u32, usize); 4] = [(0, 16_384), (0, 16_384), (1, 500), (2, 16_384)];
+/// In the order of the lines that the clients send: their instances, how many bytes each sends or
+/// takes at once, and whether it leaves once it has sent all.
+static CLIENTS: [(u32, usize, bool); 5] = [
+    (0, 16_384, false),
+    (0, 16_384, false),
+    (1, 500, false),
+    (2, 16_384, false),
+    (2, 16_384, true),
+];
 
-/// The place of the client that has nothing executed.
-pub const BYSTANDER: usize = 1;
+/// The places of the clients that have nothing executed.
+pub static BYSTANDERS: [usize; 2] = [1, 4];
 
 /// The fakes.
 #[derive(Clone, Copy)]
@@ -52,8 +59,13 @@ pub struct Told<'a> {
 
 fn clients<'a>(alloc: Global, texts: &'a [Vec<u8>]) -> Result<Vec<Client<'a>>, AllocError> {
     let mut clients = Vec::new(alloc);
-    for ((instance, most), text) in CLIENTS.iter().zip(texts) {
-        clients.push(Client::new(alloc, *instance, *most, text))?;
+    for ((instance, most, leaves), text) in CLIENTS.iter().zip(texts) {
+        let habits = Habits {
+            instance: *instance,
+            most: *most,
+            leaves: *leaves,
+        };
+        clients.push(Client::new(alloc, habits, text))?;
     }
     Ok(clients)
 }
@@ -115,9 +127,17 @@ pub fn carry_out<'a>(
     let programs = FakePrograms::new(alloc, of_programs);
     let mut sockets = FakeSockets::new(clients(alloc, texts)?, of_sockets);
     let mut runs = JobRunner::new(alloc, folder, programs, NAMES.len())?;
-    let mut errors = Vec::new(alloc);
-    serve(alloc, configs, &mut sockets, &mut runs, &mut errors, TURNS)?;
-    Ok(tell(fake, sockets, &runs, errors))
+    let mut errors = ErrorLines::new(alloc, Vec::new(alloc), NAMES.len())?;
+    serve(
+        alloc,
+        configs,
+        &mut sockets,
+        &mut runs,
+        &mut errors,
+        &mut Nobody,
+        TURNS,
+    )?;
+    Ok(tell(fake, sockets, &runs, errors.into_output()))
 }
 
 /// Tells what is left of programs and folders.
@@ -127,32 +147,57 @@ fn tell_left(runs: &JobRunner<FakeFolder, FakePrograms>, output: &mut Output) {
     output.print_text(format!(in output.alloc; "{programs} programs, {nodes} nodes\n"));
 }
 
-/// Tells what is left where only so many turns are taken, and then where all that is left was ended.
-pub fn cut_short(
+/// Tells what is left where only so many turns are taken, and then where all that is left was ended;
+/// and that where the first call of the folders fails by which it is ended.
+pub fn cut_short_each(
     configs: &Configs,
     texts: &[Vec<u8>],
     turns: u64,
     output: &mut Output,
 ) -> Result<(), AllocError> {
+    let at = cut_short(configs, texts, turns, 0, output)?;
+    cut_short(configs, texts, turns, at.saturating_add(1), output)?;
+    Ok(())
+}
+
+/// Tells what is left where only so many turns are taken, and then where all that is left was ended,
+/// while the call of the folders of this number fails. How many came before the end.
+fn cut_short(
+    configs: &Configs,
+    texts: &[Vec<u8>],
+    turns: u64,
+    at: u64,
+    output: &mut Output,
+) -> Result<u64, AllocError> {
     let alloc = output.alloc;
     let never = Failing {
         at: 0,
-        fault: CallFault::IsTooLong,
+        fault: CallFault::Fails(ErrorKind::Other),
     };
-    let folder = FakeFolder::new(alloc, never);
+    let folder = FakeFolder::new(alloc, Failing { at, ..never });
     let programs = FakePrograms::new(alloc, never);
     let mut sockets = FakeSockets::new(clients(alloc, texts)?, never);
     let mut runs = JobRunner::new(alloc, folder, programs, NAMES.len())?;
-    let mut errors = Vec::new(alloc);
-    serve(alloc, configs, &mut sockets, &mut runs, &mut errors, turns)?;
+    let mut errors = ErrorLines::new(alloc, Vec::new(alloc), NAMES.len())?;
+    serve(
+        alloc,
+        configs,
+        &mut sockets,
+        &mut runs,
+        &mut errors,
+        &mut Nobody,
+        turns,
+    )?;
     output.print_text(format!(in alloc; "after {turns} turns: "));
     tell_left(&runs, output);
+    let calls = runs.runner().folder().calls.count;
     for _ in 0..TURNS {
-        if runs.end_all() == 0 {
+        if runs.end_all(configs, sockets.now(), &mut errors) == 0 {
             break;
         }
     }
     output.print(b"all ended: ");
     tell_left(&runs, output);
-    Ok(())
+    output.print(&errors.output);
+    Ok(calls)
 }

@@ -20,6 +20,7 @@ pub enum Deed {
     Accept(u32),
     Read(Socket),
     Write(Socket),
+    Close(Socket),
 }
 
 /// How a call goes wrong.

@@ -7,14 +7,22 @@ use serve::{Socket, Sockets};
 use std::alloc::Global;
 use std::io::{self, ErrorKind};
 
+/// What a client does.
+#[derive(Clone, Copy)]
+pub struct Habits {
+    pub instance: u32,
+    /// How many bytes it sends or takes at once.
+    pub most: usize,
+    /// Whether it leaves once it has sent all.
+    pub leaves: bool,
+}
+
 /// A client.
 #[derive(Drop)]
 pub struct Client<'a> {
-    pub instance: u32,
+    pub habits: Habits,
     /// What it has still to send.
     unsent: &'a [u8],
-    /// How many bytes it sends or takes at once.
-    most: usize,
     /// Under which number it was let in.
     number: Option<u32>,
     pub received: Vec<u8>,
@@ -22,11 +30,10 @@ pub struct Client<'a> {
 }
 
 impl<'a> Client<'a> {
-    pub fn new(alloc: Global, instance: u32, most: usize, unsent: &'a [u8]) -> Client<'a> {
+    pub fn new(alloc: Global, habits: Habits, unsent: &'a [u8]) -> Client<'a> {
         Client {
-            instance,
+            habits,
             unsent,
-            most,
             number: None,
             received: Vec::new(alloc),
             is_closed: false,
@@ -35,15 +42,15 @@ impl<'a> Client<'a> {
 
     /// Whether it is the client that was let in so.
     pub fn is_at(&self, socket: Socket) -> bool {
-        self.number == Some(socket.connection) && self.instance == socket.instance
+        self.number == Some(socket.connection) && self.habits.instance == socket.instance
     }
 
     /// Gives the next bytes that it has to send.
     fn give(&mut self, room: &mut [u8]) -> io::Result<usize>
         ensures { IfOk result (λ count. count ≤ length room.new) }
     {
-        let count = self.unsent.len().min(self.most).min(room.len());
-        if count == 0 {
+        let count = self.unsent.len().min(self.habits.most).min(room.len());
+        if count == 0 && !self.habits.leaves {
             return Err(io::Error::from(ErrorKind::WouldBlock));
         }
         room[..count].copy_from_slice(&self.unsent[..count]);
@@ -99,7 +106,7 @@ impl<'a> Sockets for FakeSockets<'a> {
     fn accept(&mut self, socket: Socket) -> io::Result<()> {
         self.calls.next(Deed::Accept(socket.instance))?;
         for client in self.clients.iter_mut() {
-            if client.number.is_none() && client.instance == socket.instance {
+            if client.number.is_none() && client.habits.instance == socket.instance {
                 client.number = Some(socket.connection);
                 return Ok(());
             }
@@ -115,15 +122,15 @@ impl<'a> Sockets for FakeSockets<'a> {
     fn write(&mut self, socket: Socket, bytes: &[u8]) -> io::Result<usize> {
         self.calls.next(Deed::Write(socket))?;
         let client = self.client(socket)?;
-        let count = bytes.len().min(client.most);
+        let count = bytes.len().min(client.habits.most);
         client.received.extend_from_slice(&bytes[..count])?;
         Ok(count)
     }
 
-    fn close(&mut self, socket: Socket) {
-        if let Ok(client) = self.client(socket) {
-            client.is_closed = true;
-        }
+    /// The client is gone also where that fails.
+    fn close(&mut self, socket: Socket) -> io::Result<()> {
+        self.client(socket)?.is_closed = true;
+        self.calls.next(Deed::Close(socket))
     }
 
     fn faults(&self) -> u64 {

@@ -1,6 +1,6 @@
 //! What is right of a run of the case.
 
-use crate::case::{BYSTANDER, NAMES, TURNS, Told};
+use crate::case::{BYSTANDERS, NAMES, TURNS, Told};
 use crate::counting::Deed;
 use crate::fake_sockets::Client;
 use program_status::Output;
@@ -39,7 +39,7 @@ fn is_broken(wrong: Option<Deed>, client: &Client<'_>) -> bool {
 /// The run that fails, if it is one that this client watches.
 fn watched(wrong: Option<Deed>, place: usize, client: &Client<'_>) -> Option<RunKey> {
     let run = failed_run(wrong)?;
-    if client.instance == run.instance && place != BYSTANDER {
+    if client.habits.instance == run.instance && !BYSTANDERS.contains(&place) {
         Some(run)
     } else {
         None
@@ -124,7 +124,9 @@ impl Judge {
         let is_broken = is_broken(told.wrong, client);
         match self.sent(failed, place) {
             Some(bytes) if is_broken => bytes.starts_with(&client.received) && client.is_closed,
-            Some(bytes) => bytes == client.received.as_slice() && !client.is_closed,
+            Some(bytes) => {
+                bytes == client.received.as_slice() && client.is_closed == client.habits.leaves
+            }
             None => false,
         }
     }

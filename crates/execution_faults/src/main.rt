@@ -5,7 +5,9 @@
 //! is sent, where nothing goes wrong and where the run of a job fails; and then for each way to go
 //! wrong how many calls there are, how many runs of the whole there were, how many of these came to
 //! something that is not right, and what the others came to; and last what is left where only a few
-//! turns are taken, and what then, once all that is left was ended.
+//! turns are taken, and what then, once all that is left was ended, also where the first removal of
+//! these fails. Behind that stand lines that were written to an output which takes some in part, or
+//! not at once.
 #![tactic(auto)]
 
 mod case;
@@ -14,11 +16,13 @@ mod fake_folder;
 mod fake_programs;
 mod fake_sockets;
 mod judging;
+mod slow_errors;
 
-use crate::case::{Fake, NAMES, carry_out, cut_short};
+use crate::case::{Fake, NAMES, carry_out, cut_short_each};
 use crate::counting::CallFault::{Fails, IsTooLong};
 use crate::counting::{CallFault, Deed, Failing};
 use crate::judging::Judge;
+use crate::slow_errors::write_lines;
 use hex::FromHexError;
 use program_status::{Fault, Output, Status, read_all};
 use script::lines;
@@ -36,10 +40,16 @@ const MOST_CALLS: u64 = 10_000;
 /// What goes wrong, at which fake, and how; and why a run fails then, as it is written to the errors.
 type Pass = (&'static str, Fake, CallFault, &'static str);
 
-static PASSES: [Pass; 6] = [
+static PASSES: [Pass; 7] = [
     ("folders fail", Fake::Folder, Fails(OTHER), "folder"),
     ("folders lack memory", Fake::Folder, Fails(LACK), "memory"),
     ("programs fail", Fake::Programs, Fails(OTHER), "start"),
+    (
+        "launchers are lost",
+        Fake::Programs,
+        Fails(ErrorKind::ConnectionAborted),
+        "launcher: it is \\\"lost\\\"\\n\\xff",
+    ),
     (
         "programs lack memory",
         Fake::Programs,
@@ -81,6 +91,7 @@ fn due(deed: Deed) -> &'static str {
         Deed::Accept(_) => "let in later",
         Deed::Read(_) => "closed on read",
         Deed::Write(_) => "closed on write",
+        Deed::Close(_) => "gone all the same",
     }
 }
 
@@ -213,9 +224,11 @@ fn carry_out_all(input: &[u8], output: &mut Output) {
         carry_out_pass(&configs, &texts, *pass, &mut judge, output);
     }
     for turns in [4, 8, 12] {
-        let told = cut_short(&configs, &texts, turns, output);
+        let told = cut_short_each(&configs, &texts, turns, output);
         output.expect(told);
     }
+    let told = write_lines(output);
+    output.expect(told);
 }
 
 fn run(rt: &HostRuntime) -> Result<(), Fault> {

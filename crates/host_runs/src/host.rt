@@ -2,11 +2,15 @@
 
 use crate::files::found_at;
 use crate::sessions::SESSION;
-use std::io;
+use std::fs;
+use std::io::{self, ErrorKind};
 use std::process::{Command, Stdio};
 
 /// A program that every host has.
 const SHELL: &str = "/bin/sh";
+
+/// Where the system says whether it has leases.
+const LEASES: &str = "/proc/sys/fs/leases-enable";
 
 /// The system's number for a program that cannot be waited for.
 const NO_CHILD: i32 = 10;
@@ -34,6 +38,17 @@ fn sees_end_of(rt: &HostRuntime, command: &mut Command) -> io::Result<bool> {
         Ok(_) => Ok(true),
         Err(error) if error.raw_os_error() == Some(NO_CHILD) => Ok(false),
         Err(error) => Err(error),
+    }
+}
+
+/// Whether a program can take a lease on a file of its own: whoever opens that then waits until the
+/// lease is given back, or for some seconds.
+pub fn has_leases(rt: &HostRuntime) -> io::Result<bool> {
+    match fs::read(rt, LEASES) {
+        Ok(text) => Ok(text.first() != Some(&b'0')),
+        Err(error) if error.kind() == ErrorKind::OutOfMemory => Err(error),
+        // Where the system does not tell, it has none.
+        Err(_) => Ok(false),
     }
 }
 

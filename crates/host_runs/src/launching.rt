@@ -30,6 +30,12 @@ impl Launcher {
         Launcher { program, instances }
     }
 
+    /// Whether it is still there. Otherwise its absence would show as the code of what is started
+    /// first.
+    pub(crate) fn check(&self, rt: &HostRuntime) -> io::Result<()> {
+        check_program(rt, self.program.as_str())
+    }
+
     /// The command that starts it for a program of the run with this folder. It is in no directory
     /// and has no variables of an action.
     pub(crate) fn command(
@@ -141,14 +147,21 @@ fn can_be_told(ordered: &Ordered) -> bool {
     }
 }
 
+/// Whether a path is that of a file that may be executed.
+fn check_program(rt: &HostRuntime, path: &str) -> io::Result<()> {
+    if is_executable(&fs::metadata(rt, path)?) {
+        Ok(())
+    } else {
+        Err(io::Error::from(ErrorKind::PermissionDenied))
+    }
+}
+
 /// The absolute path of a launcher, where it is a file that may be executed.
 pub fn launcher_path(rt: &HostRuntime, program: &str) -> io::Result<String> {
     let whole = fs::canonicalize(rt, program)?;
     let Some(path) = whole.to_str() else {
         return Err(io::Error::from(ErrorKind::InvalidFilename));
     };
-    if !is_executable(&fs::metadata(rt, path)?) {
-        return Err(io::Error::from(ErrorKind::PermissionDenied));
-    }
+    check_program(rt, path)?;
     Ok(String::from_str(rt.alloc(), path)?)
 }

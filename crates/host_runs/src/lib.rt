@@ -24,7 +24,7 @@ mod starts;
 mod work;
 
 pub use folder::HostFolder;
-pub use host::{has_sessions, most_open, sees_ends};
+pub use host::{has_leases, has_sessions, most_open, sees_ends};
 pub use launching::{Launcher, launcher_path};
 pub use laws::two_runs_have_two_folders;
 pub use programs::HostPrograms;

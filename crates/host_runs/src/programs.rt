@@ -71,6 +71,7 @@ impl<'a> Table<'a> {
     /// The command that starts a launcher. The program is not looked for: it may be there for the
     /// launcher alone.
     fn told(&self, launcher: &Launcher, place: &Place, ordered: &Ordered) -> io::Result<Command> {
+        launcher.check(self.rt)?;
         let alloc = self.rt.alloc();
         let root = root_path(alloc, self.work.as_str(), place.run)?;
         launcher.command(alloc, self.has_sessions, place, root.as_str(), ordered)
@@ -187,6 +188,15 @@ impl<'a> Table<'a> {
         self.at(run)?.read(alloc, stream, from, most)
     }
 
+    fn last_words(&self, run: RunKey, most: u32) -> io::Result<Vec<u8>>
+        ensures { IfOk result (λ bytes. length bytes.items ≤ most) }
+    {
+        match self.started.iter().find(|started| started.is_of(run)) {
+            Some(started) => started.last_words(self.rt.alloc(), most),
+            None => Err(io::Error::from(ErrorKind::NotFound)),
+        }
+    }
+
     fn forget(&mut self, run: RunKey) {
         drop(self.take_sought(run));
         let place = self.started.iter().position(|started| started.is_of(run));
@@ -275,6 +285,10 @@ impl<'a> Programs for HostPrograms<'a> {
 
     fn forget(&mut self, run: RunKey) {
         self.table.forget(run);
+    }
+
+    fn last_words(&self, run: RunKey, most: u32) -> io::Result<Vec<u8>> {
+        self.table.last_words(run, most)
     }
 
     fn faults(&self) -> u64 {

@@ -1,7 +1,11 @@
 //! Programs that were started, and what they write.
 
-ghost use Rattle.std.specs.Prelude.{◌≤◌, IfOk, IfSome, length};
+ghost use Rattle.std.specs.Prelude.{◌≡◌, ◌≤◌, None, Ok, IfOk, IfSome, IsErrAnd, length};
+ghost use Rattle.std.specs.IoError.{error_kind};
+ghost use Rattle.std.specs.Process.{exit_code};
+ghost use Rattle.std.specs.declared.io.ErrorKind.TheVariants.{ConnectionAborted};
 ghost use Rattle.runner.specs.Values.{IsInRange};
+ghost use Rattle.host_runs.specs.declared.started.StartedAs.TheVariants.{Launcher};
 
 use crate::children::{is_reaped, kill_child};
 use crate::files::read_part;
@@ -117,9 +121,12 @@ pub(crate) fn start(
 }
 
 /// The code with which a program ended. A launcher that was ended by a signal could not start the
-/// program, or lost it: its run has none.
+/// program, or lost it: its run has none, and the error says so.
 fn code_of(started_as: StartedAs, status: ExitStatus) -> io::Result<i32>
-    ensures { IfOk result IsInRange }
+    ensures range { IfOk result IsInRange }
+    ensures own { IfSome (exit_code status) (λ code. result ≡ Ok code) }
+    ensures lost { exit_code status ≡ None → started_as ≡ Launcher →
+        IsErrAnd result (λ error. error_kind error ≡ ConnectionAborted) }
 {
     match (status.code(), started_as) {
         (Some(code), _) => Ok(code),
@@ -127,7 +134,7 @@ fn code_of(started_as: StartedAs, status: ExitStatus) -> io::Result<i32>
             let signal = status.signal().unwrap_or(0);
             Ok(signal.saturating_add(CODE_OF_SIGNALS))
         }
-        (None, StartedAs::Launcher) => Err(io::Error::from(ErrorKind::Other)),
+        (None, StartedAs::Launcher) => Err(io::Error::from(ErrorKind::ConnectionAborted)),
     }
 }
 
@@ -228,6 +235,19 @@ impl Started {
             (Stream::Error, None) => (&self.stderr, u64::MAX),
         };
         read_part(alloc, file, from, most_from(end, from, most))
+    }
+
+    /// The last bytes of its standard error, at most so many.
+    pub(crate) fn last_words(&self, alloc: Global, most: u32) -> io::Result<Vec<u8>>
+        ensures { IfOk result (λ bytes. length bytes.items ≤ most) }
+    {
+        let length = self.stderr.metadata()?.len();
+        read_part(
+            alloc,
+            &self.stderr,
+            length.saturating_sub(u64::from(most)),
+            most,
+        )
     }
 
     /// What is to be waited for.

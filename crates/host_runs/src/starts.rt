@@ -29,7 +29,7 @@ pub(crate) fn starts_in(alloc: Global, directory: &Directory) -> io::Result<Vec<
             break;
         };
         if let Ok(name) = String::from_utf8(name) {
-            if is_of_start(name.as_str()) {
+            if number_of(name.as_str()).is_some() {
                 starts.push(name)?;
             }
         }
@@ -37,16 +37,15 @@ pub(crate) fn starts_in(alloc: Global, directory: &Directory) -> io::Result<Vec<
     Ok(starts)
 }
 
-fn is_of_start(name: &str) -> bool {
-    match name.strip_prefix(START) {
-        Some(digits) => digits.bytes().all(|byte| byte.is_ascii_digit()),
-        None => false,
-    }
-}
-
-/// The number of a start whose folder has this name.
+/// The number of a start whose folder has this name. No other name is one of a start's folder: not
+/// that with a zero before the number.
 fn number_of(name: &str) -> Option<u64> {
-    name.strip_prefix(START)?.parse::<u64>().ok()
+    let digits = name.strip_prefix(START)?;
+    let first = digits.bytes().next()?;
+    if !first.is_ascii_digit() || (first == b'0' && digits.len() > 1) {
+        return None;
+    }
+    digits.parse::<u64>().ok()
 }
 
 /// A number for a start: at least the milliseconds since 1970, and greater than those of former starts,

@@ -1,4 +1,4 @@
-//! The sockets of this host, on 127.0.0.1, and its clock.
+//! The sockets of this host, and its clock.
 #![tactic(auto)]
 
 use mio::net::{TcpListener, TcpStream};
@@ -110,7 +110,11 @@ impl<'a> HostSockets<'a> {
 
     /// Listens on a port of 127.0.0.1, for the next instance. With port 0 the system chooses one.
     pub fn listen(&mut self, port: u16) -> io::Result<()> {
-        let address = SocketAddr::from((Ipv4Addr::LOCALHOST, port));
+        self.listen_at(SocketAddr::from((Ipv4Addr::LOCALHOST, port)))
+    }
+
+    /// Listens on a port of an address, for the next instance.
+    pub fn listen_at(&mut self, address: SocketAddr) -> io::Result<()> {
         let mut listener = TcpListener::bind(self.rt, address)?;
         let token = Token(self.ports.len());
         let registry = self.poll.registry();
@@ -146,6 +150,20 @@ impl<'a> HostSockets<'a> {
             Ok(_) => Ok(()),
             Err(_) => Err(io::Error::from(ErrorKind::OutOfMemory)),
         }
+    }
+
+    /// Sends no more on a connection, and keeps it for what its client still sends.
+    fn close_now(&mut self, socket: Socket) -> io::Result<()> {
+        let Some(stream) = self.streams.remove(&socket) else {
+            return Err(io::Error::from(ErrorKind::NotConnected));
+        };
+        stream.shutdown(Shutdown::Write)?;
+        if self.lingering.len() < LINGERING_LIMIT {
+            let since = self.moment;
+            let kept: Result<(), _> = self.lingering.push(Lingering { stream, since });
+            drop(kept);
+        }
+        Ok(())
     }
 
     /// Counts a fault.
@@ -236,17 +254,10 @@ impl<'a> Sockets for HostSockets<'a> {
         outcome
     }
 
-    fn close(&mut self, socket: Socket) {
-        let Some(stream) = self.streams.remove(&socket) else {
-            return;
-        };
-        let shut = stream.shutdown(Shutdown::Write);
-        self.count(&shut);
-        if shut.is_ok() && self.lingering.len() < LINGERING_LIMIT {
-            let since = self.moment;
-            let kept: Result<(), _> = self.lingering.push(Lingering { stream, since });
-            drop(kept);
-        }
+    fn close(&mut self, socket: Socket) -> io::Result<()> {
+        let outcome = self.close_now(socket);
+        self.count(&outcome);
+        outcome
     }
 
     fn faults(&self) -> u64 {

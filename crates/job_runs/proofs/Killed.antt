@@ -1,44 +1,36 @@
 -- Runs that are killed one after another, the last first.
 use Rattle.std.proofs.Common.{◌≡◌, ◌≤◌, ◌<◌, ℕ, zero, suc, ◌-◌, List, refl, subst, arith}
-use Rattle.std.specs.Prelude.{⊤, Option, Some, None, option_map, Result, slice_get}
-use Rattle.runner.specs.declared.fault.RunFault.{RunFault}
+use Rattle.std.specs.Prelude.{Option, Some, None, option_map, slice_get}
 use Rattle.runner.specs.declared.task.RunKey.{RunKey}
 use Rattle.runner.specs.declared.stage.Run.{Run}
-use Rattle.runner.specs.Calls.{FolderCall, ProgramCall}
-use Rattle.runner.specs.Runs.{IsKilled}
-use Rattle.job_runs.specs.Runs.{IsKilledIf, AreKilled}
+use Rattle.server_events.specs.Configs.{ConfigValue}
+use Rattle.job_runs.specs.Runs.{Standing, IsKilledAt, IsKilledIf, AreKilled}
 
 abbrev key_of : Run → RunKey
 key_of run = run.place.run
 
-abbrev Folders : Type 0
-Folders = Option (List FolderCall)
+killed_some : (configs : List ConfigValue) (moment : ℕ) (o : Option Run) (key : RunKey) (old new : Standing) → Some key ≡ option_map key_of o → IsKilledAt configs moment key old new → IsKilledIf configs moment o old new
+killed_some configs moment None key old new is h = absurd (let no : Some key ≡ None = is in cc)
+killed_some configs moment (Some r) key old new is h = let same : key ≡ r.place.run = cc in subst (λ k. IsKilledAt configs moment k old new) same h
 
-abbrev Programs : Type 0
-Programs = Option (List ProgramCall)
+killed_none : (configs : List ConfigValue) (moment : ℕ) (o : Option Run) (old : Standing) → None ≡ option_map key_of o → IsKilledIf configs moment o old old
+killed_none configs moment None old is = refl
+killed_none configs moment (Some r) old is = absurd (let no : None ≡ Some (key_of r) = is in cc)
 
-killed_some : (o : Option Run) (key : RunKey) (told : Result ⊤ RunFault) (old new : List Run) (f g : Folders) (p q : Programs) → Some key ≡ option_map key_of o → IsKilled key told old new f g p q → IsKilledIf o old new f g p q
-killed_some None key told old new f g p q is h = absurd (let no : Some key ≡ None = is in cc)
-killed_some (Some r) key told old new f g p q is h = let same : key ≡ r.place.run = cc in (told, subst (λ k. IsKilled k told old new f g p q) same h)
-
-killed_none : (o : Option Run) (runs : List Run) (f : Folders) (p : Programs) → None ≡ option_map key_of o → IsKilledIf o runs runs f f p p
-killed_none None runs f p is = (refl, refl, refl)
-killed_none (Some r) runs f p is = absurd (let no : None ≡ Some (key_of r) = is in cc)
-
-pub killed_more : (left : ℕ) (old mid new : List Run) (f g h : Folders) (p q s : Programs) → 0 < left → IsKilledIf (slice_get old (left - 1)) old mid f g p q → AreKilled (left - 1) mid new g h q s → AreKilled left old new f h p s
-killed_more zero old mid new f g h p q s some first rest = absurd (omega (arith, some))
-killed_more (suc left) old mid new f g h p q s some first rest =
+killed_more : (configs : List ConfigValue) (moment left : ℕ) (old mid new : Standing) → 0 < left → IsKilledIf configs moment (slice_get old.runs (left - 1)) old mid → AreKilled configs moment (left - 1) mid new → AreKilled configs moment left old new
+killed_more configs moment zero old mid new some first rest = absurd (omega (arith, some))
+killed_more configs moment (suc left) old mid new some first rest =
     let e : suc left - 1 ≡ left = omega arith in
-    (mid, g, q, subst (λ n. IsKilledIf (slice_get old n) old mid f g p q) e first, subst (λ n. AreKilled n mid new g h q s) e rest)
+    (mid, subst (λ n. IsKilledIf configs moment (slice_get old.runs n) old mid) e first, subst (λ n. AreKilled configs moment n mid new) e rest)
 
-pub killed_next : (left : ℕ) (key : RunKey) (told : Result ⊤ RunFault) (old mid new : List Run) (f g h : Folders) (p q s : Programs) → 0 < left → Some key ≡ option_map key_of (slice_get old (left - 1)) → IsKilled key told old mid f g p q → AreKilled (left - 1) mid new g h q s → AreKilled left old new f h p s
-killed_next left key told old mid new f g h p q s some is killed rest =
-    killed_more left old mid new f g h p q s some (killed_some (slice_get old (left - 1)) key told old mid f g p q is killed) rest
+pub killed_next : (configs : List ConfigValue) (moment left : ℕ) (key : RunKey) (old mid new : Standing) → 0 < left → Some key ≡ option_map key_of (slice_get old.runs (left - 1)) → IsKilledAt configs moment key old mid → AreKilled configs moment (left - 1) mid new → AreKilled configs moment left old new
+killed_next configs moment left key old mid new some is killed rest =
+    killed_more configs moment left old mid new some (killed_some configs moment (slice_get old.runs (left - 1)) key old mid is killed) rest
 
-pub killed_no : (left : ℕ) (old new : List Run) (f h : Folders) (p s : Programs) → 0 < left → None ≡ option_map key_of (slice_get old (left - 1)) → AreKilled (left - 1) old new f h p s → AreKilled left old new f h p s
-killed_no left old new f h p s some is rest =
-    killed_more left old old new f f h p p s some (killed_none (slice_get old (left - 1)) old f p is) rest
+pub killed_no : (configs : List ConfigValue) (moment left : ℕ) (old new : Standing) → 0 < left → None ≡ option_map key_of (slice_get old.runs (left - 1)) → AreKilled configs moment (left - 1) old new → AreKilled configs moment left old new
+killed_no configs moment left old new some is rest =
+    killed_more configs moment left old old new some (killed_none configs moment (slice_get old.runs (left - 1)) old is) rest
 
-pub killed_all : (left : ℕ) (runs : List Run) (f : Folders) (p : Programs) → left ≤ 0 → AreKilled left runs runs f f p p
-killed_all zero runs f p none = (refl, refl, refl)
-killed_all (suc left) runs f p none = absurd (omega (arith, none))
+pub killed_all : (configs : List ConfigValue) (moment left : ℕ) (old : Standing) → left ≤ 0 → AreKilled configs moment left old old
+killed_all configs moment zero old none = refl
+killed_all configs moment (suc left) old none = absurd (omega (arith, none))

@@ -13,6 +13,9 @@ use Rattle.runner.specs.declared.task.Task.{Task}
 use Rattle.runner.specs.declared.stage.Run.{Run}
 use Rattle.runner.specs.Calls.{FolderCall, ProgramCall}
 use Rattle.runner.specs.Runs.{IsAsked, IsKilled, IsOver, IsStarted}
+use Rattle.server_events.specs.Configs.{ConfigValue}
+use Rattle.serve.specs.declared.error_lines.Backlog.{Backlog}
+use Rattle.serve.specs.FaultLines.{TellsAnswer}
 use Rattle.run_tasks.specs.Given.{outcome_given}
 use Rattle.run_tasks.specs.Tasks.{IsTaskOf}
 use Rattle.run_tasks.specs.Texts.{numbered_text}
@@ -79,22 +82,30 @@ IsOnlyEnded (Some task) run runs = IsOver run runs
 
 -- ---- all runs
 
--- this run is killed, where there is one
-abbrev pub IsKilledIf : Option Run → List Run → List Run →
-    Option (List FolderCall) → Option (List FolderCall) →
-    Option (List ProgramCall) → Option (List ProgramCall) → Type 0
-IsKilledIf None old new f_before f_now p_before p_now =
-    (new ≡ old) × (f_now ≡ f_before) × (p_now ≡ p_before)
-IsKilledIf (Some run) old new f_before f_now p_before p_now =
-    IsEnded run.place.run old new f_before f_now p_before p_now
+-- runs, what was asked for them, and the lines about them: those that were written, and what is
+-- still to be
+pub record Standing : Type 0 where
+  pub runs : List Run
+  pub folders : Option (List FolderCall)
+  pub programs : Option (List ProgramCall)
+  pub text : Option (List ℕ)
+  pub backlog : Backlog
+
+-- a run is killed at a moment, and where that answers a fault, that is a line
+abbrev pub IsKilledAt : List ConfigValue → ℕ → RunKey → Standing → Standing → Type 0
+IsKilledAt configs moment key old new =
+    (told : Result ⊤ RunFault)
+    × IsKilled key told old.runs new.runs old.folders new.folders old.programs new.programs
+    × TellsAnswer configs moment key told old.text old.backlog new.text new.backlog
+
+-- where there is a run it is killed
+abbrev pub IsKilledIf : List ConfigValue → ℕ → Option Run → Standing → Standing → Type 0
+IsKilledIf configs moment None old new = new ≡ old
+IsKilledIf configs moment (Some run) old new = IsKilledAt configs moment run.place.run old new
 
 -- of the first so many runs each is killed, the last first
-abbrev pub AreKilled : ℕ → List Run → List Run →
-    Option (List FolderCall) → Option (List FolderCall) →
-    Option (List ProgramCall) → Option (List ProgramCall) → Type 0
-AreKilled zero old new f_before f_now p_before p_now =
-    (new ≡ old) × (f_now ≡ f_before) × (p_now ≡ p_before)
-AreKilled (suc place) old new f_before f_now p_before p_now =
-    (mid : List Run) × (f_mid : Option (List FolderCall)) × (p_mid : Option (List ProgramCall))
-    × IsKilledIf (slice_get old place) old mid f_before f_mid p_before p_mid
-    × AreKilled place mid new f_mid f_now p_mid p_now
+abbrev pub AreKilled : List ConfigValue → ℕ → ℕ → Standing → Standing → Type 0
+AreKilled configs moment zero old new = new ≡ old
+AreKilled configs moment (suc place) old new =
+    (mid : Standing) × IsKilledIf configs moment (slice_get old.runs place) old mid
+    × AreKilled configs moment place mid new

@@ -9,14 +9,16 @@ ghost use Rattle.runner.specs.declared.fault.RunFault.TheVariants.{NoMemory};
 ghost use Rattle.runner.specs.declared.stage.Run.{Run};
 ghost use Rattle.server_core.specs.Lent.{lent_shown};
 ghost use Rattle.job_runs.specs.Keys.{AreOnce, all_keys, count_of, has_key, is_key, turn_in, without_key};
-ghost use Rattle.job_runs.specs.Runs.{AreKilled, IsAnswered, IsAnsweredFor, IsBegun, IsEnded, IsNoted, IsOnlyEnded, IsTold};
+ghost use Rattle.job_runs.specs.Runs.{AreKilled, IsAnswered, IsAnsweredFor, IsBegun, IsEnded, IsKilledAt, IsNoted, IsOnlyEnded, IsTold};
 
 use outcomes::Outcome;
 use run_tasks::{LentTexts, outcome_told, run_task};
 use runner::{Folder, Programs, RunFault, RunKey, Runner};
-use serve::Runs;
+use serve::{ErrorLines, Runs};
 use server_core::LentTask;
+use server_events::Configs;
 use std::alloc::{AllocError, Global};
+use std::io::{self, Write};
 
 /// The runs of a server's jobs, in folders and by programs.
 #[derive(Drop)]
@@ -59,17 +61,33 @@ impl<F: Folder + Drop, P: Programs + Drop> JobRunner<F, P> {
     }
 
     /// Ends what runs, by a bounded piece of work for each run, and says how many are left: it is
-    /// to be called until none is.
-    pub fn end_all(&mut self) -> usize
-        ensures killed { AreKilled (vec_len self.old.runner.runs)
-            self.old.runner.runs.items self.new.runner.runs.items
-            (F.asked self.old.runner.folder) (F.asked self.new.runner.folder)
-            (P.asked self.old.runner.programs) (P.asked self.new.runner.programs) }
+    /// to be called until none is. A folder that is left then is a line.
+    pub fn end_all<E: Write>(
+        &mut self,
+        configs: &Configs,
+        moment: u64,
+        errors: &mut ErrorLines<E>,
+    ) -> usize
+        ensures killed { AreKilled configs.now moment (vec_len self.old.runner.runs)
+            (record {
+              runs = self.old.runner.runs.items;
+              folders = F.asked self.old.runner.folder;
+              programs = P.asked self.old.runner.programs;
+              text = E.contents errors.old.output;
+              backlog = errors.old.backlog;
+            })
+            (record {
+              runs = self.new.runner.runs.items;
+              folders = F.asked self.new.runner.folder;
+              programs = P.asked self.new.runner.programs;
+              text = E.contents errors.new.output;
+              backlog = errors.new.backlog;
+            }) }
         ensures unbegun { self.new.unbegun.items ≡ [] }
         ensures left { result ≡ vec_len self.new.runner.runs }
     {
         self.unbegun.clear();
-        kill_each(&mut self.runner);
+        kill_each(&mut self.runner, configs, moment, errors);
         self.runner.count()
     }
 
@@ -123,17 +141,63 @@ fn take(unbegun: &mut Vec<RunKey>, run: RunKey) -> bool
     was_among
 }
 
+/// Ends a run by a bounded piece of work, and tells where its folder is left.
+fn kill_told<F: Folder + Drop, P: Programs + Drop, E: Write>(
+    runner: &mut Runner<F, P>,
+    run: RunKey,
+    configs: &Configs,
+    moment: u64,
+    errors: &mut ErrorLines<E>,
+)
+    ensures { IsKilledAt configs.now moment run
+        (record {
+          runs = runner.old.runs.items;
+          folders = F.asked runner.old.folder;
+          programs = P.asked runner.old.programs;
+          text = E.contents errors.old.output;
+          backlog = errors.old.backlog;
+        })
+        (record {
+          runs = runner.new.runs.items;
+          folders = F.asked runner.new.folder;
+          programs = P.asked runner.new.programs;
+          text = E.contents errors.new.output;
+          backlog = errors.new.backlog;
+        }) }
+{
+    if let Err(fault) = runner.kill(run.instance, run.job) {
+        errors.tell_fault(configs, moment, run, fault, &[]);
+    }
+}
+
 /// Ends each run by a bounded piece of work, the last first.
-fn kill_each<F: Folder + Drop, P: Programs + Drop>(runner: &mut Runner<F, P>)
-    ensures { AreKilled (vec_len runner.old.runs) runner.old.runs.items runner.new.runs.items
-        (F.asked runner.old.folder) (F.asked runner.new.folder)
-        (P.asked runner.old.programs) (P.asked runner.new.programs) }
+fn kill_each<F: Folder + Drop, P: Programs + Drop, E: Write>(
+    runner: &mut Runner<F, P>,
+    configs: &Configs,
+    moment: u64,
+    errors: &mut ErrorLines<E>,
+)
+    ensures { AreKilled configs.now moment (vec_len runner.old.runs)
+        (record {
+          runs = runner.old.runs.items;
+          folders = F.asked runner.old.folder;
+          programs = P.asked runner.old.programs;
+          text = E.contents errors.old.output;
+          backlog = errors.old.backlog;
+        })
+        (record {
+          runs = runner.new.runs.items;
+          folders = F.asked runner.new.folder;
+          programs = P.asked runner.new.programs;
+          text = E.contents errors.new.output;
+          backlog = errors.new.backlog;
+        }) }
 {
     let mut left = runner.count();
     while left > 0 {
         left -= 1;
         if let Some(run) = runner.run(left) {
-            let _ended = runner.kill(run.instance, run.job);
+            kill_told(runner, run, configs, moment, errors);
         }
     }
 }
@@ -258,6 +322,10 @@ impl<F: Folder + Drop, P: Programs + Drop> Runs for JobRunner<F, P> {
                 Ok(None)
             }
         }
+    }
+
+    fn last_words(&self, run: RunKey, most: u32) -> io::Result<Vec<u8>> {
+        self.runner.programs().last_words(run, most)
     }
 
     fn is_busy(&self) -> bool

@@ -3,7 +3,7 @@ use Rattle.std.proofs.Common.{◌≡◌, ◌≤◌, inl, ℕ, ◌+◌, List, [],
 use Rattle.std.specs.Prelude.{Option, Result, Ok, Err}
 use Rattle.runner.specs.Values.{PlaceValue}
 use Rattle.std.specs.declared.io.ErrorKind.{ErrorKind}
-use Rattle.runner.specs.Calls.{FolderCall, FolderQuestion, FolderAnswer, ProgramCall, ProgramQuestion, ProgramAnswer, of_folder, of_programs, folder_call, program_call, folder_calls, program_calls, call, called, after, Adds, collect}
+use Rattle.runner.specs.Calls.{FolderCall, FolderQuestion, FolderAnswer, ProgramCall, ProgramQuestion, ProgramAnswer, of_folder, of_programs, folder_call, program_call, folder_calls, program_calls, call, called, Adds, collect}
 use Rattle.runner.specs.Made.{made, made_by}
 use Rattle.runner.specs.Gathered.{items_answered, call_items, answer_items}
 use Rattle.runner.specs.Told.{items_told, call_told, starts, start_of, forgets, forget_of}
@@ -13,7 +13,7 @@ use Rattle.runner.specs.declared.stage.Stage.{Stage}
 use Rattle.runner.specs.declared.stage.Step.{Step}
 use Rattle.runner.specs.declared.stage.Step.TheVariants as steps
 use Rattle.runner.specs.Sizes.{most_bytes, held, folder_told, program_told, Fits}
-use Rattle.runner.proofs.Calls.{adds_more, after_none}
+use Rattle.runner.proofs.Calls.{adds_more, adds_none, adds_same}
 use Rattle.runner.proofs.Sizes.{fits_append, held_then}
 use Rattle.runner.proofs.Walks.{Moves, meets_one, meets_append}
 
@@ -43,8 +43,8 @@ pub goes_drops : (text : ℕ → List ℕ) (place : PlaceValue) (from : Stage) (
     → Goes text place from to f f p p
 goes_drops text place from to f p makes starts_it looks_at gathers told closes = record {
   calls = [];
-  folder_asked = sym (after_none f);
-  programs_asked = sym (after_none p);
+  folder_asked = adds_none f;
+  programs_asked = adds_none p;
   makes = makes;
   starts_it = starts_it;
   looks_at = looks_at;
@@ -72,7 +72,7 @@ pub goes_folder_with : (before : Walk) (text : ℕ → List ℕ) (place : PlaceV
 goes_folder_with before text place from to f g p q a adds makes starts_it looks_at gathers told fits moves = record {
   calls = of_folder record { question = q; answer = a } ∷ [];
   folder_asked = adds;
-  programs_asked = sym (after_none p);
+  programs_asked = adds_none p;
   makes = makes ∙ ap (λ zs. zs ++ then_to_make text place to) (sym (append-nil (made_by q)));
   starts_it = starts_it;
   looks_at = looks_at ∙ ap (λ zs. zs ++ then_to_look place to) (sym (append-nil (look_of q)));
@@ -101,7 +101,7 @@ pub goes_program : (text : ℕ → List ℕ) (place : PlaceValue) (from : Stage)
     → Goes text place from to f f p s
 goes_program text place from to f p s q a adds makes starts_it looks_at gathers told fits same keeps = record {
   calls = of_programs record { question = q; answer = a } ∷ [];
-  folder_asked = sym (after_none f);
+  folder_asked = adds_none f;
   programs_asked = adds;
   makes = makes;
   starts_it = starts_it ∙ ap (λ zs. zs ++ then_to_start place to) (sym (append-nil (start_of q)));
@@ -121,8 +121,8 @@ goes_on text place from mid cost to f g h p s t first next =
     let programs : program_calls (first.calls ++ next.calls) ≡ program_calls first.calls ++ program_calls next.calls = collect_append program_call first.calls next.calls in
     record {
       calls = first.calls ++ next.calls;
-      folder_asked = adds_more f g h (folder_calls first.calls) (folder_calls next.calls) first.folder_asked next.folder_asked ∙ ap (after f) (sym folders);
-      programs_asked = adds_more p s t (program_calls first.calls) (program_calls next.calls) first.programs_asked next.programs_asked ∙ ap (after p) (sym programs);
+      folder_asked = adds_same f h _ _ (sym folders) (adds_more f g h (folder_calls first.calls) (folder_calls next.calls) first.folder_asked next.folder_asked);
+      programs_asked = adds_same p t _ _ (sym programs) (adds_more p s t (program_calls first.calls) (program_calls next.calls) first.programs_asked next.programs_asked);
       makes = fronts (λ c. made_by c.question) (folder_calls first.calls) (folder_calls next.calls) _ _ _ first.makes next.makes ∙ ap (λ cs. made cs ++ then_to_make text place to) (sym folders);
       starts_it = fronts (λ c. start_of c.question) (program_calls first.calls) (program_calls next.calls) _ _ _ first.starts_it next.starts_it ∙ ap (λ cs. starts cs ++ then_to_start place to) (sym programs);
       looks_at = fronts (λ c. look_of c.question) (folder_calls first.calls) (folder_calls next.calls) _ _ _ first.looks_at next.looks_at ∙ ap (λ cs. looks cs ++ then_to_look place to) (sym folders);

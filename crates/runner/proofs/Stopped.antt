@@ -2,7 +2,7 @@
 use Rattle.std.proofs.Common.{◌≡◌, ◌<◌, ℕ, ◌+◌, List, [], ◌∷◌, ◌++◌, map, length, refl, sym, ap, ◌∙◌, subst, arith}
 use Rattle.std.specs.Prelude.{Option, Result, Ok, Err, IfErr, IsErrAnd}
 use Rattle.runner.specs.declared.fault.RunFault.{RunFault}
-use Rattle.runner.specs.declared.fault.RunFault.TheVariants.{Folder, Start, TooLarge, NoMemory, Left}
+use Rattle.runner.specs.declared.fault.RunFault.TheVariants.{Folder, Start, Launcher, TooLarge, NoMemory, Left}
 use Rattle.runner.specs.declared.stage.Gathering.{Gathering}
 use Rattle.runner.specs.declared.stage.Stage.{Stage}
 use Rattle.runner.specs.declared.stage.Stage.TheVariants as stages
@@ -10,7 +10,7 @@ use Rattle.runner.specs.declared.tree.Tree.{Tree}
 use Rattle.runner.specs.Values.{PlaceValue}
 use Rattle.std.specs.IoError.{error_kind}
 use Rattle.std.specs.declared.io.Error.{Error}
-use Rattle.std.specs.declared.io.ErrorKind.TheVariants.{OutOfMemory}
+use Rattle.std.specs.declared.io.ErrorKind.TheVariants.{OutOfMemory, ConnectionAborted}
 use Rattle.runner.specs.Faults.{FolderAnswered, ProgramsAnswered, folder_fault, programs_fault}
 use Rattle.std.specs.declared.io.ErrorKind.{ErrorKind}
 use Rattle.runner.specs.Calls.{FolderCall, FolderQuestion, FolderAnswer, call, ProgramCall, ProgramQuestion, ProgramAnswer, called, RunCall, of_folder, of_programs, Adds}
@@ -18,7 +18,7 @@ use Rattle.runner.specs.Made.{MadeItem}
 use Rattle.runner.specs.Sizes.{most_bytes, exited_length, nodes_length, held, folder_told, program_told}
 use Rattle.runner.specs.Stops.{IsMadeNext, AsksFolder, AsksPrograms, AsksNext, IsTrueOf, IsOwnFault, IsFolderFault, IsProgramsFault, StopsWith, Stops, FolderStops, FolderStopsWith}
 use Rattle.runner.specs.Listed.{Walk, walk_at}
-use Rattle.runner.proofs.Calls.{after_none}
+use Rattle.runner.proofs.Calls.{adds_none}
 
 -- a fault that says nothing of sizes
 abbrev pub IsSizeless : RunFault → Type 0
@@ -35,6 +35,7 @@ folder_kind _ = tt
 
 programs_kind : (kind : ErrorKind) → IsSizeless (programs_fault kind)
 programs_kind OutOfMemory = tt
+programs_kind ConnectionAborted = tt
 programs_kind _ = tt
 
 -- what a fault says of what was answered last
@@ -71,6 +72,7 @@ programs_memory fault a x was is = (no_memory fault is, subst (IsProgramsFault f
 is_true : (fault : RunFault) (n : ℕ) (calls : List RunCall) → IsSizeless fault → IsTrueOf fault n calls
 is_true Folder n calls small = tt
 is_true Start n calls small = tt
+is_true Launcher n calls small = tt
 is_true TooLarge n calls small = absurd small
 is_true NoMemory n calls small = tt
 is_true Left n calls small = tt
@@ -80,8 +82,8 @@ pub stops_alone : (before : Walk) (text : ℕ → List ℕ) (place : PlaceValue)
     → fault ≡ NoMemory → StopsWith before text place from fault f f p p
 stops_alone before text place from fault f p is = record {
   calls = [];
-  folder_asked = sym (after_none f);
-  programs_asked = sym (after_none p);
+  folder_asked = adds_none f;
+  programs_asked = adds_none p;
   asks = tt;
   is_true = is_true fault (held from) [] (no_memory fault is);
   is_of = memory_own fault is;
@@ -93,7 +95,7 @@ pub folder_stops_with : (before : Walk) (text : ℕ → List ℕ) (place : Place
 folder_stops_with before text place from fault f g p q a small adds asks = record {
   calls = of_folder record { question = q; answer = a } ∷ [];
   folder_asked = adds;
-  programs_asked = sym (after_none p);
+  programs_asked = adds_none p;
   asks = asks;
   is_true = is_true fault (held from) (of_folder record { question = q; answer = a } ∷ []) small.0;
   is_of = small.1;
@@ -108,7 +110,7 @@ pub program_stops : (text : ℕ → List ℕ) (place : PlaceValue) (from : Stage
     → IsOfPrograms fault a → Adds p s (called q a) → AsksPrograms place from q → Stops text place from fault f f p s
 program_stops text place from fault f p s q a small adds asks = record {
   calls = of_programs record { question = q; answer = a } ∷ [];
-  folder_asked = sym (after_none f);
+  folder_asked = adds_none f;
   programs_asked = adds;
   asks = asks;
   is_true = is_true fault (held from) (of_programs record { question = q; answer = a } ∷ []) small.0;
@@ -121,7 +123,7 @@ pub folder_surpasses_with : (before : Walk) (text : ℕ → List ℕ) (place : P
 folder_surpasses_with before text place from f g p q a k x was adds is more asks = record {
   calls = of_folder record { question = q; answer = a } ∷ [];
   folder_asked = adds;
-  programs_asked = sym (after_none p);
+  programs_asked = adds_none p;
   asks = asks;
   is_true = λ fits. let le = fits.0 in omega (arith, le, is, more);
   is_of = subst (IsFolderFault TooLarge) (sym was) tt;
@@ -135,7 +137,7 @@ pub program_surpasses : (text : ℕ → List ℕ) (place : PlaceValue) (from : S
     → a ≡ Ok x → Adds p s (called q a) → program_told q a ≡ k → most_bytes < held from + k → AsksPrograms place from q → Stops text place from TooLarge f f p s
 program_surpasses text place from f p s q a k x was adds is more asks = record {
   calls = of_programs record { question = q; answer = a } ∷ [];
-  folder_asked = sym (after_none f);
+  folder_asked = adds_none f;
   programs_asked = adds;
   asks = asks;
   is_true = λ fits. let le = fits.0 in omega (arith, le, is, more);

@@ -1,6 +1,6 @@
 -- What the calls of a run come to, from a stage to its exit.
-use Rattle.std.proofs.Common.{◌≡◌, ℕ, List, [], ◌∷◌, ◌++◌, map, refl, sym, ap, subst, ◌∙◌, append-nil}
-use Rattle.std.specs.Prelude.{Option, Some, string_bytes}
+use Rattle.std.proofs.Common.{◌≡◌, ℕ, List, [], ◌∷◌, ◌++◌, map, refl, sym, ap, subst, ◌∙◌, append-nil, inl, inr}
+use Rattle.std.specs.Prelude.{Option, Some, None, string_bytes}
 use Rattle.runner.specs.declared.folder.Place.{Place}
 use Rattle.runner.specs.declared.outcome.Exited.{Exited}
 use Rattle.runner.specs.declared.task.Task.{Task}
@@ -10,7 +10,7 @@ use Rattle.runner.specs.declared.stage.Stage.TheVariants as stages
 use Rattle.runner.specs.declared.stage.Step.{Step}
 use Rattle.runner.specs.declared.stage.Step.TheVariants as steps
 use Rattle.runner.specs.Values.{PlaceValue, place_shown, command_shown}
-use Rattle.runner.specs.Calls.{FolderCall, ProgramCall, look_asked, start_asked, RunCall, folder_call, program_call, folder_calls, program_calls}
+use Rattle.runner.specs.Calls.{FolderCall, ProgramCall, look_asked, start_asked, RunCall, folder_call, program_call, folder_calls, program_calls, Adds}
 use Rattle.runner.specs.Made.{root_item, directory_item, parents_item, nodes_made, made}
 use Rattle.runner.specs.Gathered.{items_answered}
 use Rattle.runner.specs.Told.{items_told, starts, forgets}
@@ -26,8 +26,8 @@ is_part text place from to f g p q h = record {
   calls = h.calls;
   goes_by = record {
     calls = h.calls;
-    folder_asked = refl;
-    programs_asked = refl;
+    folder_asked = inr refl;
+    programs_asked = inr refl;
     makes = h.makes;
     starts_it = h.starts_it;
     looks_at = h.looks_at;
@@ -44,12 +44,17 @@ is_part text place from to f g p q h = record {
 of_some : {A : Type 0} (x y : A) → Some x ≡ Some y → x ≡ y
 of_some x y is = let same : x ≡ y = cc in same
 
+-- the calls that were added, where all are known
+added : {C : Type 0} (xs ys more : List C) → Adds (Some xs) (Some ys) more → ys ≡ xs ++ more
+added xs ys more (inl lost) = let same : ys ≡ xs ++ more = cc in same
+added xs ys more (inr adds) = of_some ys (xs ++ more) adds
+
 -- the same calls behind others
 behind : (text : ℕ → List ℕ) (place : PlaceValue) (from : Stage) (to : Step) (fs : List FolderCall) (ps : List ProgramCall) (calls : List RunCall) → GoesBy text place from to calls → Goes text place from to (Some fs) (Some (fs ++ folder_calls calls)) (Some ps) (Some (ps ++ program_calls calls))
 behind text place from to fs ps calls h = record {
   calls = h.calls;
-  folder_asked = ap (λ cs. Some (fs ++ cs)) (of_some (folder_calls calls) (folder_calls h.calls) h.folder_asked);
-  programs_asked = ap (λ cs. Some (ps ++ cs)) (of_some (program_calls calls) (program_calls h.calls) h.programs_asked);
+  folder_asked = inr (ap (λ cs. Some (fs ++ cs)) (added [] (folder_calls calls) (folder_calls h.calls) h.folder_asked));
+  programs_asked = inr (ap (λ cs. Some (ps ++ cs)) (added [] (program_calls calls) (program_calls h.calls) h.programs_asked));
   makes = h.makes;
   starts_it = h.starts_it;
   looks_at = h.looks_at;
@@ -78,8 +83,8 @@ exits text place from (calls ∷ more ∷ parts) e x =
 
 whole : (text : ℕ → List ℕ) (place : PlaceValue) (task : Task) (from : Stage) (calls : List RunCall) (e : Exited) → IsStageOf from task → GoesBy text place from (steps.Exits e) calls → IsWhole text place task e calls
 whole text place task (stages.Making (makings.Root n)) calls e h g =
-    let fs : folder_calls g.calls ≡ folder_calls calls = sym (of_some (folder_calls calls) (folder_calls g.calls) g.folder_asked) in
-    let ps : program_calls g.calls ≡ program_calls calls = sym (of_some (program_calls calls) (program_calls g.calls) g.programs_asked) in
+    let fs : folder_calls g.calls ≡ folder_calls calls = sym (added [] (folder_calls calls) (folder_calls g.calls) g.folder_asked) in
+    let ps : program_calls g.calls ≡ program_calls calls = sym (added [] (program_calls calls) (program_calls g.calls) g.programs_asked) in
     record {
       makes = ap made (sym fs) ∙ sym (append-nil (made (folder_calls g.calls))) ∙ sym g.makes
           ∙ ap (λ above. root_item place.run ∷ (nodes_made text place.run (map string_bytes above) n.left.items ++ directory_item place ∷ map (λ o. parents_item place (string_bytes o)) n.next.outputs.items)) h.0

@@ -1,5 +1,5 @@
 -- What is asked of folders and of programs, and what they answer.
-use Rattle.std.specs.Prelude.{◌≡◌, ℕ, ℤ, Bool, List, [], ◌∷◌, ◌++◌, map, Option, Some, None, Result, Ok, Err, ⊤}
+use Rattle.std.specs.Prelude.{◌≡◌, ◌⊎◌, ℕ, ℤ, Bool, List, [], ◌∷◌, ◌++◌, map, Option, Some, None, Result, Ok, Err, ⊤}
 use Rattle.std.specs.Option.{option_map}
 use Rattle.std.specs.Global.{Vec}
 use Rattle.std.specs.IoError.{error_kind}
@@ -136,9 +136,9 @@ bytes_of (Err e) = Err (error_kind e)
 abbrev pub after : {C : Type 0} → Option (List C) → List C → Option (List C)
 after known more = option_map (λ h. h ++ more) known
 
--- where it is known what was asked, this was asked next
+-- where it is known then what was asked, it was known before, and this was asked next
 abbrev pub Adds : {C : Type 0} → Option (List C) → Option (List C) → List C → Type 0
-Adds before now more = now ≡ after before more
+Adds before now more = (now ≡ None) ⊎ (now ≡ after before more)
 
 -- what each gives, in order
 abbrev pub collect : {C A : Type 0} → (C → List A) → List C → List A

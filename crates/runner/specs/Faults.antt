@@ -3,9 +3,9 @@ use Rattle.std.specs.Prelude.{◌≡◌, ◌≤◌, ◌<◌, ◌+◌, ℕ, min, 
 use Rattle.std.specs.IoError.{error_kind}
 use Rattle.std.specs.declared.io.Error.{Error}
 use Rattle.std.specs.declared.io.ErrorKind.{ErrorKind}
-use Rattle.std.specs.declared.io.ErrorKind.TheVariants.{OutOfMemory}
+use Rattle.std.specs.declared.io.ErrorKind.TheVariants.{OutOfMemory, ConnectionAborted}
 use Rattle.runner.specs.declared.fault.RunFault.{RunFault}
-use Rattle.runner.specs.declared.fault.RunFault.TheVariants.{Folder, Start, TooLarge, NoMemory, Left}
+use Rattle.runner.specs.declared.fault.RunFault.TheVariants.{Folder, Start, Launcher, TooLarge, NoMemory, Left}
 
 abbrev pub most_failures : ℕ
 most_failures = 18446744073709551615
@@ -25,13 +25,14 @@ Rises old new = (old < new) ⊎ (most_failures ≤ new)
 
 -- ---- what a fault of one call says
 
--- want of memory is told apart
+-- want of memory is told apart, and of programs that what started one was lost
 abbrev pub folder_fault : ErrorKind → RunFault
 folder_fault OutOfMemory = NoMemory
 folder_fault kind = Folder
 
 abbrev pub programs_fault : ErrorKind → RunFault
 programs_fault OutOfMemory = NoMemory
+programs_fault ConnectionAborted = Launcher
 programs_fault kind = Start
 
 abbrev pub FolderAnswered : {A : Type 0} → Result A Error → Result A RunFault → Type 0
@@ -47,6 +48,7 @@ ProgramsAnswered (Err e) result = result ≡ Err (programs_fault (error_kind e))
 abbrev pub FolderFaultCounts : RunFault → ℕ → ℕ → Type 0
 FolderFaultCounts Folder old new = Rises old new
 FolderFaultCounts Start old new = ⊥
+FolderFaultCounts Launcher old new = ⊥
 FolderFaultCounts TooLarge old new = Unit {0}
 FolderFaultCounts NoMemory old new = Unit {0}
 FolderFaultCounts Left old new = ⊥
@@ -57,6 +59,7 @@ FolderCounts (Err f) old new = FolderFaultCounts f old new
 
 abbrev pub ProgramsFaultCounts : RunFault → ℕ → ℕ → Type 0
 ProgramsFaultCounts Start old new = Rises old new
+ProgramsFaultCounts Launcher old new = Rises old new
 ProgramsFaultCounts Folder old new = ⊥
 ProgramsFaultCounts TooLarge old new = Unit {0}
 ProgramsFaultCounts NoMemory old new = Unit {0}
@@ -69,10 +72,11 @@ ProgramsCounts (Err f) old new = ProgramsFaultCounts f old new
 -- ---- of a whole call
 
 -- the folders' fault comes only where their count rose, as does that a folder is left, and the programs'
--- where theirs did
+-- two where theirs did
 abbrev pub FaultFailed : RunFault → ℕ → ℕ → ℕ → ℕ → Type 0
 FaultFailed Folder f_old f_new p_old p_new = Rises f_old f_new
 FaultFailed Start f_old f_new p_old p_new = Rises p_old p_new
+FaultFailed Launcher f_old f_new p_old p_new = Rises p_old p_new
 FaultFailed TooLarge f_old f_new p_old p_new = Unit {0}
 FaultFailed NoMemory f_old f_new p_old p_new = Unit {0}
 FaultFailed Left f_old f_new p_old p_new = Rises f_old f_new

@@ -11,3 +11,4 @@ pub mod Steps
 pub mod Stops
 pub mod Runs
 pub mod Whole
+pub mod Logged

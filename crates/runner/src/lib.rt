@@ -2,11 +2,14 @@
 #![tactic(auto)]
 
 mod content;
+mod copies;
 mod fault;
 mod folder;
 mod gathering;
 mod going;
 mod laws;
+mod logged_folder;
+mod logged_programs;
 mod making;
 mod outcome;
 mod programs;
@@ -21,6 +24,8 @@ mod turn;
 pub use fault::RunFault;
 pub use folder::{Entry, FileFacts, Folder, Found, Place};
 pub use laws::a_run_is_whole;
+pub use logged_folder::{FolderAnswered, FolderAsked, FolderRecord, LoggedFolder};
+pub use logged_programs::{LoggedPrograms, ProgramAnswered, ProgramAsked, ProgramRecord};
 pub use outcome::{Exited, Outcome, Output, OutputKind, OutputNode, OutputNodeKind};
 pub use programs::{Programs, Stream};
 pub use runs::Runner;

@@ -33,7 +33,8 @@ pub trait Programs {
             (started_of result)) }
         ensures counts { Counts result (failures self.old) (failures self.new) };
 
-    /// The code with which a program ended, or `None` while it runs.
+    /// The code with which a program ended, or `None` while it runs. The error `ConnectionAborted`
+    /// says that what started it was lost.
     fn ask(&mut self, run: RunKey) -> io::Result<Option<i32>>
         ensures adds { Adds (asked self.old) (asked self.new)
             (called (end_asked run) (state_of result)) }
@@ -66,6 +67,11 @@ pub trait Programs {
         ensures adds { Adds (asked self.old) (asked self.new)
             (called (forget_asked run) (Ok program_done)) }
         ensures counts { failures self.new ≡ failures self.old };
+
+    /// The last bytes that were written to the standard error of a program that was not forgotten, at
+    /// most so many.
+    fn last_words(&self, run: RunKey, most: u32) -> io::Result<Vec<u8>>
+        ensures within { IfOk result (λ bytes. length bytes.items ≤ most) };
 
     /// How many calls failed, 2^64 - 1 at most.
     fn faults(&self) -> u64

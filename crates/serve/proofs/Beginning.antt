@@ -11,7 +11,8 @@ use Rattle.served_instance.specs.StandsFor.{ServedState}
 use Rattle.server_core.specs.Families.{family_in}
 use Rattle.server_core.specs.LoneOutput.{config_at}
 use Rattle.server_core.specs.StandsFor.{ServerState, StandsAt}
-use Rattle.serve.specs.Served.{StandsBeside, StandsServing, begun}
+use Rattle.serve.specs.Served.{begun}
+use Rattle.serve.specs.KeepsServing.{StandsBeside, StandsServing}
 
 abbrev Starts : List ConfigValue → List ServedState → Type 0
 Starts configs vs = (i : ℕ) (config : ConfigValue) → config_at i configs ≡ Some config → StandsAt i vs (new_lone config.name config.quota config.slots)

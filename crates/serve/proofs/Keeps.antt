@@ -42,7 +42,9 @@ use Rattle.serve.specs.SocketEvents.{SocketEvent, PortEvent, port, what_of, mome
 use Rattle.serve.specs.declared.carrying.Counting.{Counting}
 use Rattle.serve.specs.RunEvents.{RunEvent, ordered, gave, AddsRuns, AddsAllRuns}
 use Rattle.serve.specs.Happenings.{Happening, MarkedHappening, IsOfOne, at_sockets, told, at_runs, ran, timed_events, run_events, cut_on, cuts, with_times, all_timed, moment_then, moment_on, moment_behind, own_event, event_for}
-use Rattle.serve.specs.Served.{AtWork, with_orders, AreCarriedOut, Comes, HappenedTogether, HasParents, MayHappen, MayHappenTo, ParentMayHappen, MayStep, MayTake, IsFaithful, IsServed, Serves, StandsBeside, StandsServing, IsServerAt, IsServing, WasServed, TakesEvent, IsCount, most_counted, cut_after, is_for_memory, at_rest, begun, texts_of}
+use Rattle.serve.specs.Served.{AtWork, with_orders, Comes, HappenedTogether, MayHappen, MayHappenTo, ParentMayHappen, MayStep, MayTake, IsFaithful, IsServed, Serves, WasServed, IsCount, most_counted, at_rest, begun, texts_of}
+use Rattle.serve.specs.declared.counts.ServeCounts.{ServeCounts}
+use Rattle.serve.specs.KeepsServing.{AreCarriedOut, HasParents, StandsBeside, StandsServing, IsServerAt, IsServing, TakesEvent, cut_after, is_for_memory}
 use Rattle.served_instance.proofs.Moments.{took_taken}
 use Rattle.serve.proofs.Happenings.{AreOf, IsNot, both, parts_of, parts_on, parts_ordered, moment_more, cuts_more, moment_together, may_serve_on, carried, parent_carried, passed, may_within}
 
@@ -617,3 +619,16 @@ on_error P (Err error) so = so
 -- no answer for a connection that is not open
 pub pends_none : (i c : ℕ) (vs : List ServedState) (answer : Option (List ℕ)) → answer ≡ None → Pends i c vs answer → Pends i c vs None
 pends_none i c vs answer is pends = subst (λ (a : Option (List ℕ)). Pends i c vs a) is pends
+
+-- what is counted beside it does not matter
+pub recounted : (configs : List ConfigValue) (sockets : Option (List SocketEvent)) (runs : Option (List RunEvent)) (server : Counting) (m : ℕ) (counts : ServeCounts) → IsServing configs sockets runs server m → IsServing configs sockets runs (record server { counts = counts }) m
+recounted configs None runs server m counts at = tt
+recounted configs (Some s) None server m counts at = tt
+recounted configs (Some s) (Some r) server m counts at = record {
+  h = at.h;
+  together = at.together;
+  counted = at.counted;
+  parents = record { same = at.parents.same; good = at.parents.good };
+  each = at.each;
+  moment = at.moment;
+}

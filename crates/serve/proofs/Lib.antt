@@ -8,3 +8,4 @@ mod Numbers
 mod Logs
 mod Written
 mod Did
+mod FaultLines

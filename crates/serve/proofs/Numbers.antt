@@ -10,7 +10,8 @@ use Rattle.std.proofs.lemmas.List.Folds.{list_any-append, list_any_at}
 use Rattle.serve.specs.declared.open_socket.OpenSocket.{OpenSocket}
 use Rattle.serve.specs.declared.sockets.Socket.{Socket}
 use Rattle.serve.specs.SocketEvents.{SocketEvent, PortEvent, clock, port, accepted, shut, Adds, AddsAll}
-use Rattle.serve.specs.Numbers.{AreWithin, NumbersAreApart, AreAmong, AreOpenAt, StayOpen, StayOpenBut, IsNext, HasOpen, is_taken, sockets_of}
+use Rattle.serve.specs.Numbers.{NumbersAreApart}
+use Rattle.serve.specs.KeepsOpen.{AreWithin, AreAmong, AreOpenAt, StayOpen, StayOpenBut, IsNext, HasOpen, is_taken, sockets_of}
 
 -- ---- one more that happened
 

@@ -2,7 +2,11 @@ pub mod SocketEvents
 pub mod RunEvents
 pub mod Happenings
 pub mod Served
+pub mod KeepsServing
 pub mod Did
 pub mod Numbers
+pub mod KeepsOpen
 pub mod Silence
 pub mod Logged
+pub mod FaultLines
+pub mod Plain

@@ -1,33 +1,23 @@
 -- What a server has to do with what happens at its sockets and at the runs of its jobs, also where
 -- memory is refused. To be read from `IsServed` up.
-use Rattle.std.specs.Prelude.{◌≡◌, ◌≢◌, ◌+◌, ◌-◌, ◌^◌, ◌≤◌, ◌<◌, ℕ, min, Bool, true, false, List, [], ◌∷◌, map, length, Option, Some, None, IsSomeAnd, IfSome}
+use Rattle.std.specs.Prelude.{◌≡◌, ◌≢◌, ◌-◌, ◌^◌, ℕ, min, Bool, true, false, List, [], ◌∷◌, length, Option, Some, None, IsSomeAnd, IfSome}
 use Rattle.std.specs.Option.{option_map, option_map_or}
 use Rattle.std.specs.List.{AllByRecursion}
 use Rattle.std.specs.Io.{StartsWith}
-use Rattle.executor.specs.declared.orders.Order.{Order}
 use Rattle.executor.specs.Orders.{OrderValue, task_of}
-use Rattle.instance_core.specs.Turns.{orders_meant}
 use Rattle.instance_core.specs.Visible.{Blob}
 use Rattle.served_instance.specs.Bytes.{pending_bytes}
-use Rattle.server_events.specs.Configs.{ConfigValue, parent_of, parents_of}
-use Rattle.server_events.specs.Faults.{AreParents}
+use Rattle.server_events.specs.Configs.{ConfigValue, parent_of}
 use Rattle.server_events.specs.Events.{EventValue, took}
 use Rattle.served_instance.specs.Connections.{open_at}
 use Rattle.served_instance.specs.Lone.{LoneInstance, new_lone}
 use Rattle.served_instance.specs.Refusals.{refusal_of, lone_orders, lone_step}
 use Rattle.served_instance.specs.Short.{Short}
-use Rattle.served_instance.specs.StandsFor.{ServedState}
 use Rattle.server_core.specs.LoneOutput.{config_at}
 use Rattle.server_core.specs.Families.{Family, family_in}
-use Rattle.server_core.specs.Parents.{parent_texts}
-use Rattle.server_core.specs.StandsFor.{ServerState, StandsAt, instance_at}
-use Rattle.serve.specs.SocketEvents.{SocketEvent, port, accepted, written, moment_of}
-use Rattle.serve.specs.RunEvents.{RunEvent, ordered, lent, gave, AddsRuns, WasBegun}
-use Rattle.runner.specs.declared.task.RunKey.{RunKey}
-use Rattle.served_instance.specs.declared.refusal.EventRefusal.{EventRefusal}
-use Rattle.served_instance.specs.declared.refusal.EventRefusal.TheVariants.{NoMemory}
-use Rattle.serve.specs.Happenings.{Happening, MarkedHappening, IsOfOne, at_sockets, told, at_runs, cuts, timed_events, all_timed, run_events, moment_on, moment_behind, event_for}
-use Rattle.serve.specs.declared.carrying.Counting.{Counting}
+use Rattle.serve.specs.SocketEvents.{SocketEvent, port, accepted, written}
+use Rattle.serve.specs.RunEvents.{RunEvent, ordered, lent, gave}
+use Rattle.serve.specs.Happenings.{Happening, MarkedHappening, IsOfOne, at_sockets, told, at_runs, cuts, timed_events, all_timed, run_events, moment_on, event_for}
 
 -- ---- what an instance may come to by itself
 
@@ -173,105 +163,3 @@ WasServed configs sockets runs cut =
     IfSome sockets (λ s. IfSome runs (λ r.
     (h : List MarkedHappening) × HappenedTogether (length configs) s r h × IsServed configs h
     × IsCount (cuts h) cut))
-
--- ---- while it serves: for the code alone
-
--- the parent of this number stands for what it has come to, and is not ahead of the clock
-abbrev pub StandsBeside : Option ℕ → List ServedState → ℕ → Option LoneInstance → Type 0
-StandsBeside None vs m l = l ≡ None
-StandsBeside (Some p) vs m None = ⊥
-StandsBeside (Some p) vs m (Some l) = StandsAt p vs l × (l.state.moment ≤ m)
-
--- an instance of the server, and its parent of that number, stand for what they have come to
-pub record StandsServing (family : Family) (i : ℕ) (p : Option ℕ)
-    (h : List MarkedHappening) (vs : List ServedState) : Type 0 where
-  pub now : LoneInstance
-  pub beside : Option LoneInstance
-  pub serves : Serves family i p h now beside
-  -- it is not ahead of the clock
-  pub times : now.state.moment ≤ moment_behind h
-  pub stands : StandsAt i vs now
-  pub stands_beside : StandsBeside p vs (moment_behind h) beside
-
--- the server has the parents of these configurations
-pub record HasParents (configs : List ConfigValue) (server : ServerState) : Type 0 where
-  pub same : server.parents ≡ parents_of configs
-  pub good : AreParents server.parents
-
-pub record IsServerAt (configs : List ConfigValue) (sockets : List SocketEvent)
-    (runs : List RunEvent) (counting : Counting) (m : ℕ) : Type 0 where
-  pub h : List MarkedHappening
-  pub together : HappenedTogether (length configs) sockets runs h
-  pub counted : IsCount (cuts h) counting.cut
-  pub parents : HasParents configs counting.server
-  pub each : (i : ℕ) (config : ConfigValue) → config_at i configs ≡ Some config
-      → StandsServing (family_in configs config) i (parent_of configs config) h
-      counting.server.instances
-  -- what the clock showed last
-  pub moment : m ≡ moment_of sockets
-
-abbrev pub IsServing : List ConfigValue → Option (List SocketEvent) → Option (List RunEvent) →
-    Counting → ℕ → Type 0
-IsServing configs sockets runs counting m =
-    IfSome sockets (λ s. IfSome runs (λ r. IsServerAt configs s r counting m))
-
--- whatever so many instances a server served by what had happened, it serves by what has happened
--- now
-abbrev pub KeepsServing : ℕ →
-    Option (List SocketEvent) → Option (List RunEvent) → Counting → ℕ →
-    Option (List SocketEvent) → Option (List RunEvent) → Counting → ℕ → Type 0
-KeepsServing count old was before m new is after n =
-    (configs : List ConfigValue) → length configs ≡ count →
-    IsServing configs old was before m → IsServing configs new is after n
-
--- .. of which one has this number
-abbrev pub KeepsServingAt : ℕ →
-    Option (List SocketEvent) → Option (List RunEvent) → Counting → ℕ →
-    Option (List SocketEvent) → Option (List RunEvent) → Counting → ℕ → Type 0
-KeepsServingAt i old was before m new is after n =
-    (configs : List ConfigValue) → i < length configs →
-    IsServing configs old was before m → IsServing configs new is after n
-
--- .. by a run that was begun
-abbrev pub KeepsServingBegun : RunKey →
-    Option (List SocketEvent) → Option (List RunEvent) → Counting → ℕ →
-    Option (List SocketEvent) → Option (List RunEvent) → Counting → ℕ → Type 0
-KeepsServingBegun run old was before m new is after n =
-    (configs : List ConfigValue) → WasBegun run was →
-    IsServing configs old was before m → IsServing configs new is after n
-
--- the instance of the event stands for what the event may make of it, with these orders
-pub record StandsAfter (parent : List Blob) (e : EventValue) (marked : Bool) (l : LoneInstance)
-    (orders : List OrderValue) (vs : List ServedState) : Type 0 where
-  pub now : LoneInstance
-  pub may : MayStep parent e marked l (with_orders now orders)
-  pub stands : StandsAt e.instance vs now
-
-abbrev pub is_for_memory : EventRefusal → Bool
-is_for_memory NoMemory = true
-is_for_memory refusal = false
-
--- one more is counted where it is marked
-abbrev pub cut_after : ℕ → Bool → ℕ
-cut_after n true = min (n + 1) most_counted
-cut_after n false = n
-
--- an instance takes an event, all or a part of it, and its orders are carried out; no other changes
-pub record TakesEvent (e : EventValue) (server next : Counting)
-    (before after : Option (List RunEvent)) : Type 0 where
-  pub orders : List OrderValue
-  pub marked : Bool
-  pub counted : next.cut ≡ cut_after server.cut marked
-  pub carried : AddsRuns before after (map (ordered e.instance) orders)
-  pub own : (l : LoneInstance) → StandsAt e.instance server.server.instances l
-      → StandsAfter (parent_texts e.instance server.server) e marked l orders next.server.instances
-  pub others : (j : ℕ) → j ≢ e.instance
-      → instance_at j next.server.instances ≡ instance_at j server.server.instances
-  pub parents : next.server.parents ≡ server.server.parents
-
--- these orders of an instance are carried out, with what its jobs have
-abbrev pub AreCarriedOut : ℕ → List ServedState → List Order →
-    Option (List RunEvent) → Option (List RunEvent) → Type 0
-AreCarriedOut i vs orders before after =
-    (v : ServedState) → instance_at i vs ≡ Some v →
-    AddsRuns before after (map (ordered i) (orders_meant v.state.jobs orders))

@@ -1,12 +1,14 @@
 //! Going on with the runs of jobs, and what the server is told of them.
 
-ghost use Rattle.std.specs.Prelude.{◌≡◌, ℕ, List, Option};
+ghost use Rattle.std.specs.Prelude.{◌≡◌, ℕ, List, Option, IfSome};
 ghost use Rattle.runner.specs.declared.task.RunKey.{RunKey};
+ghost use Rattle.serve.specs.FaultLines.{IsSaid, TellsAnswer, TellsFault, WritesLines};
 ghost use Rattle.serve.specs.RunEvents.{fault_events, gave_events, outcome_events};
-ghost use Rattle.serve.specs.Served.{KeepsServing, KeepsServingBegun};
+ghost use Rattle.serve.specs.KeepsServing.{KeepsServing, KeepsServingBegun};
 ghost use Rattle.serve.specs.SocketEvents.{SocketEvent};
 
 use crate::carrying::{Counting, tell};
+use crate::error_lines::ErrorLines;
 use crate::runs::Runs;
 use crate::sockets::Sockets;
 use outcomes::Outcome;
@@ -14,53 +16,71 @@ use runner::{RunFault, RunKey};
 use server_events::{Configs, What};
 use std::io::Write;
 
-/// The word for a fault.
-fn word(fault: RunFault) -> &'static str {
-    match fault {
-        RunFault::Folder => "folder",
-        RunFault::Start => "start",
-        RunFault::TooLarge => "too large",
-        RunFault::NoMemory => "memory",
-        RunFault::Left => "left",
-    }
-}
-
-/// Writes that a run failed, and why. Where it cannot be written it is passed over.
-fn report<E: Write>(errors: &mut E, configs: &Configs, run: RunKey, fault: RunFault) {
-    let name = match configs.instances().get(run.instance as usize) {
-        Some(config) => config.name.as_str(),
-        None => "",
-    };
-    let (job, word) = (run.job, word(fault));
-    let _ = writeln!(errors, "remoted: run {name} {job} failed: {word}");
-}
+/// How much is told at most of what was said last.
+const MOST_SAID: u32 = 200;
 
 /// The outcome of a job whose run has this fault. Where its folder is left it has ended before.
 fn outcome_of(fault: RunFault) -> Option<Outcome>
     ensures { (run : RunKey) → gave_events run result ≡ fault_events run fault }
 {
     match fault {
-        RunFault::Folder | RunFault::Start | RunFault::TooLarge | RunFault::NoMemory => {
-            Some(Outcome::Failed)
-        }
+        RunFault::Folder
+        | RunFault::Start
+        | RunFault::Launcher
+        | RunFault::TooLarge
+        | RunFault::NoMemory => Some(Outcome::Failed),
         RunFault::Left => None,
     }
 }
 
-/// What the server is told of a run that was asked, if anything: a fault is the outcome of a job
-/// that failed, unless it had ended.
-fn told<E: Write>(
-    errors: &mut E,
+/// What a launcher that was lost said last, where that is known.
+fn words_of<R: Runs>(runs: &R, run: RunKey, fault: RunFault) -> Option<Vec<u8>>
+    ensures { IfSome result (λ words. IsSaid fault words.items) }
+{
+    match fault {
+        RunFault::Launcher => runs.last_words(run, MOST_SAID).ok(),
+        _ => None,
+    }
+}
+
+/// Tells the fault of a run, and what a launcher that was lost said last.
+fn tell_fault<R: Runs, E: Write>(
+    errors: &mut ErrorLines<E>,
     configs: &Configs,
+    moment: u64,
+    runs: &R,
+    run: RunKey,
+    fault: RunFault,
+)
+    ensures { TellsFault configs.now moment run fault
+        (E.contents errors.old.output) errors.old.backlog
+        (E.contents errors.new.output) errors.new.backlog }
+{
+    match words_of(runs, run, fault) {
+        Some(words) => errors.tell_fault(configs, moment, run, fault, &words),
+        None => errors.tell_fault(configs, moment, run, fault, &[]),
+    }
+}
+
+/// What the server is told of a run that was asked, if anything: a fault is the outcome of a job
+/// that failed, unless it had ended, and a line.
+fn told<R: Runs, E: Write>(
+    errors: &mut ErrorLines<E>,
+    configs: &Configs,
+    moment: u64,
+    runs: &R,
     run: RunKey,
     answer: Result<Option<Outcome>, RunFault>,
 ) -> Option<Outcome>
-    ensures { gave_events run result ≡ outcome_events run answer }
+    ensures gave { gave_events run result ≡ outcome_events run answer }
+    ensures line { TellsAnswer configs.now moment run answer
+        (E.contents errors.old.output) errors.old.backlog
+        (E.contents errors.new.output) errors.new.backlog }
 {
     match answer {
         Ok(outcome) => outcome,
         Err(fault) => {
-            report(errors, configs, run, fault);
+            tell_fault(errors, configs, moment, runs, run, fault);
             outcome_of(fault)
         }
     }
@@ -71,17 +91,19 @@ fn ask<R: Runs, E: Write>(
     counting: &mut Counting,
     configs: &Configs,
     runs: &mut R,
-    errors: &mut E,
+    errors: &mut ErrorLines<E>,
     moment: u64,
     run: RunKey,
 )
     ensures serving { (sockets : Option (List SocketEvent)) → KeepsServingBegun run
         sockets (R.happened runs.old) counting.old moment
         sockets (R.happened runs.new) counting.new moment }
+    ensures lines { WritesLines configs.now (E.contents errors.old.output) errors.old.backlog
+        (E.contents errors.new.output) errors.new.backlog }
 {
     let task = counting.server.lend(run.instance, run.job);
     let answer = runs.ask(run, task);
-    if let Some(outcome) = told(errors, configs, run, answer) {
+    if let Some(outcome) = told(errors, configs, moment, runs, run, answer) {
         let ended = What::Outcome(run.job, outcome);
         let _ = tell(counting, runs, moment, run.instance, ended);
     }
@@ -94,12 +116,14 @@ pub(crate) fn ask_all<S: Sockets, R: Runs, E: Write>(
     configs: &Configs,
     sockets: &S,
     runs: &mut R,
-    errors: &mut E,
+    errors: &mut ErrorLines<E>,
     moment: u64,
 ) -> bool
     ensures serving { (count : ℕ) (known : Option (List SocketEvent)) → KeepsServing count
         known (R.happened runs.old) counting.old moment
         known (R.happened runs.new) counting.new moment }
+    ensures lines { WritesLines configs.now (E.contents errors.old.output) errors.old.backlog
+        (E.contents errors.new.output) errors.new.backlog }
 {
     for _ in 0..runs.count() {
         let Some(run) = runs.next() else {

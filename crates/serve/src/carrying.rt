@@ -2,8 +2,9 @@
 
 ghost use Rattle.std.specs.Prelude.{◌≡◌, ◌∷◌, []};
 ghost use Rattle.server_events.specs.Shown.{what_value};
-ghost use Rattle.serve.specs.Served.{AreCarriedOut, TakesEvent, cut_after, is_for_memory};
+ghost use Rattle.serve.specs.KeepsServing.{AreCarriedOut, TakesEvent, cut_after, is_for_memory};
 
+use crate::counts::{Occurrence, ServeCounts};
 use crate::runs::Runs;
 use runner::RunKey;
 use served_instance::{EventRefusal, Order};
@@ -38,12 +39,29 @@ fn carry_out<R: Runs>(server: &Server, runs: &mut R, instance: u32, orders: &[Or
     }
 }
 
-/// A server, and how many of its events were cut short.
+/// A server, how many of its events were cut short, and what else is counted.
 #[derive(Drop)]
 pub(crate) struct Counting {
     pub(crate) server: Server,
     /// How many events were carried out in part, for want of memory; or 2^64 - 1 where it were more.
     pub(crate) cut: u64,
+    /// For an operator alone: nothing else depends on it.
+    pub(crate) counts: ServeCounts,
+}
+
+/// What an order does to a run.
+fn occurrence_of(order: Order) -> Occurrence {
+    match order {
+        Order::Start { job: _ } => Occurrence::Started,
+        Order::Kill { job: _ } => Occurrence::Killed,
+    }
+}
+
+/// Counts the orders of an instance.
+fn count_orders(counts: &mut ServeCounts, instance: u32, orders: &[Order]) {
+    for order in orders {
+        counts.add(instance, occurrence_of(*order));
+    }
 }
 
 /// How many events were cut short, after one more that was refused.
@@ -54,6 +72,43 @@ fn cut_with(cut: u64, refusal: EventRefusal) -> u64
         EventRefusal::NoMemory => cut.saturating_add(1),
         _ => cut,
     }
+}
+
+/// What is counted of what happens: that a connection is opened, or how a run ended.
+fn occurrence_in(what: &What) -> Option<Occurrence> {
+    match what {
+        What::Open(_) => Some(Occurrence::Opened),
+        What::Outcome(_, outcome) => Some(Occurrence::of_outcome(outcome)),
+        _ => None,
+    }
+}
+
+/// Counts an event that was refused: it was cut short, or its client was refused.
+fn count_refusal(
+    counts: &mut ServeCounts,
+    instance: u32,
+    occurrence: Option<Occurrence>,
+    refusal: EventRefusal,
+) {
+    if refusal == EventRefusal::NoMemory {
+        counts.add(instance, Occurrence::Cut);
+    }
+    if occurrence == Some(Occurrence::Opened) {
+        counts.add(instance, Occurrence::of_refusal(refusal));
+    }
+}
+
+/// Counts what happened, and the orders of the instance.
+fn count_accepted(
+    counts: &mut ServeCounts,
+    instance: u32,
+    occurrence: Option<Occurrence>,
+    orders: &[Order],
+) {
+    if let Some(occurrence) = occurrence {
+        counts.add(instance, occurrence);
+    }
+    count_orders(counts, instance, orders);
 }
 
 /// Tells the server what happens to an instance, and carries out what the instance orders. Where
@@ -70,6 +125,7 @@ pub(crate) fn tell<R: Runs>(
         (record { moment = moment; instance = instance; what = what_value what })
         counting.old counting.new (R.happened runs.old) (R.happened runs.new) }
 {
+    let occurrence = occurrence_in(&what);
     let event = Event {
         moment,
         instance,
@@ -78,10 +134,12 @@ pub(crate) fn tell<R: Runs>(
     match counting.server.step(event) {
         Ok(orders) => {
             carry_out(&counting.server, runs, instance, &orders);
+            count_accepted(&mut counting.counts, instance, occurrence, &orders);
             Ok(())
         }
         Err(refusal) => {
             counting.cut = cut_with(counting.cut, refusal);
+            count_refusal(&mut counting.counts, instance, occurrence, refusal);
             Err(refusal)
         }
     }

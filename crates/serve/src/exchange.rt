@@ -1,10 +1,11 @@
 //! What is moved between one connection's socket and the server.
 
 ghost use Rattle.std.specs.Prelude.{◌≡◌, ◌≤◌, length, take, IfOk};
-ghost use Rattle.serve.specs.Numbers.{StayOpen, StayOpenBut, StayOpenUnless};
-ghost use Rattle.serve.specs.Served.{KeepsServingAt};
+ghost use Rattle.serve.specs.KeepsOpen.{StayOpen, StayOpenBut, StayOpenUnless};
+ghost use Rattle.serve.specs.KeepsServing.{KeepsServingAt};
 
 use crate::carrying::{Counting, tell};
+use crate::counts::Occurrence;
 use crate::open_socket::OpenSocket;
 use crate::runs::Runs;
 use crate::sockets::{Socket, Sockets, is_not_ready};
@@ -134,20 +135,18 @@ fn send<S: Sockets, R: Runs>(
     }
 }
 
-/// Whether the server let go of the connection, where memory was refused; or an error of it was
-/// met, and the client was sent all that waited for it.
-fn is_finished(server: &Server, socket: Socket) -> bool {
-    let Socket {
-        instance,
-        connection,
-    } = socket;
-    match server.pending(instance, connection) {
-        None => true,
-        Some(bytes) => bytes.is_empty() && server.ended(instance, connection) == Some(true),
+/// Why the connection is to be closed, if it is: the server let go of it, where memory was refused;
+/// or an error of it was met, and the client was sent all that waited for it.
+fn ending_of(server: &Server, socket: Socket) -> Option<Occurrence> {
+    let served = server.instance(socket.instance)?;
+    match served.pending(socket.connection) {
+        None => Some(Occurrence::Broken),
+        Some([]) => Some(Occurrence::Faulty(served.failure(socket.connection)?)),
+        Some(_) => None,
     }
 }
 
-/// Closes a connection, and tells the server so.
+/// Closes a connection, and tells the server so. It is gone also where that failed.
 pub(crate) fn close<S: Sockets, R: Runs>(
     counting: &mut Counting,
     sockets: &mut S,
@@ -160,7 +159,7 @@ pub(crate) fn close<S: Sockets, R: Runs>(
         (S.happened sockets.new) (R.happened runs.new) counting.new moment }
     ensures closes { StayOpenBut socket (S.happened sockets.old) (S.happened sockets.new) }
 {
-    sockets.close(socket);
+    let _ = sockets.close(socket);
     let gone = What::Closed(socket.connection);
     let _ = tell(counting, runs, moment, socket.instance, gone);
 }
@@ -187,7 +186,13 @@ pub(crate) fn exchange<S: Sockets, R: Runs>(
     let received = receive(alloc, counting, sockets, runs, moment, opened, room);
     let socket = opened.socket;
     let sent = send(counting, sockets, runs, moment, socket);
-    if received == Tried::Over || sent == Tried::Over || is_finished(&counting.server, socket) {
+    let ending = if received == Tried::Over || sent == Tried::Over {
+        Some(Occurrence::Gone)
+    } else {
+        ending_of(&counting.server, socket)
+    };
+    if let Some(occurrence) = ending {
+        counting.counts.add(socket.instance, occurrence);
         close(counting, sockets, runs, moment, socket);
         return Tried::Over;
     }

@@ -3,6 +3,8 @@
 
 mod asking;
 mod carrying;
+mod counts;
+mod error_lines;
 mod exchange;
 mod laws;
 mod logged;
@@ -10,9 +12,13 @@ mod open_socket;
 mod runs;
 mod serving;
 mod sockets;
+mod watch;
 
+pub use counts::{InstanceCounts, Occurrence, ServeCounts};
+pub use error_lines::ErrorLines;
 pub use laws::what_serve_did;
 pub use logged::{LoggedSockets, SocketRecord};
 pub use runs::Runs;
 pub use serving::{Tally, serve};
 pub use sockets::{Socket, Sockets, is_not_ready};
+pub use watch::{Nobody, Sight, Watch};

@@ -143,9 +143,10 @@ impl<S: Sockets> Sockets for LoggedSockets<S> {
         }
     }
 
-    fn close(&mut self, socket: Socket) {
-        self.sockets.close(socket);
+    fn close(&mut self, socket: Socket) -> io::Result<()> {
+        let closed = self.sockets.close(socket);
         add(&mut self.log, SocketRecord::Shut(socket));
+        closed
     }
 
     fn faults(&self) -> u64 {

@@ -1,10 +1,11 @@
 //! Runs of jobs, none of which is waited for.
 
-ghost use Rattle.std.specs.Prelude.{List, Option, None, IfSome, ◌∷◌, []};
+ghost use Rattle.std.specs.Prelude.{List, Option, None, IfOk, IfSome, ◌≤◌, ◌∷◌, [], length};
 
 use outcomes::Outcome;
 use runner::{RunFault, RunKey};
 use server_core::LentTask;
+use std::io;
 
 /// The runs of the jobs of a server's instances. No call waits for a program.
 pub trait Runs {
@@ -39,6 +40,11 @@ pub trait Runs {
     fn ask(&mut self, run: RunKey, task: Option<LentTask<'_>>) -> Result<Option<Outcome>, RunFault>
         ensures adds { AddsRuns (happened self.old) (happened self.new)
             (asked_events run task.entry result) };
+
+    /// The last bytes that were written to the standard error of a run that has just come to a fault,
+    /// at most so many.
+    fn last_words(&self, run: RunKey, most: u32) -> io::Result<Vec<u8>>
+        ensures within { IfOk result (λ bytes. length bytes.items ≤ most) };
 
     /// Whether a run can go on at once, without waiting for a program.
     fn is_busy(&self) -> bool;

@@ -2,16 +2,22 @@
 
 ghost use Rattle.std.specs.Prelude.{◌≡◌, ◌<◌, ◌==◌, ℕ, [], length, Some, IfSome, IfOk, IfErr};
 ghost use Rattle.std.specs.List.{list_any};
-ghost use Rattle.serve.specs.Numbers.{AreWithin, IsNext, KeepsOpen, NumbersAreApart, sockets_of};
+ghost use Rattle.serve.specs.Numbers.{NumbersAreApart};
+ghost use Rattle.serve.specs.FaultLines.{WritesLines};
+ghost use Rattle.serve.specs.KeepsOpen.{AreWithin, IsNext, KeepsOpen, sockets_of};
 ghost use Rattle.serve.specs.SocketEvents.{Adds};
-ghost use Rattle.serve.specs.Served.{IsServing, KeepsServing, WasServed};
+ghost use Rattle.serve.specs.Served.{WasServed};
+ghost use Rattle.serve.specs.KeepsServing.{IsServing, KeepsServing};
 
 use crate::asking::ask_all;
 use crate::carrying::{Counting, tell};
+use crate::counts::{Occurrence, ServeCounts};
+use crate::error_lines::ErrorLines;
 use crate::exchange::{READ_LIMIT, Tried, close, exchange};
 use crate::open_socket::{OpenSocket, longest_silent};
 use crate::runs::Runs;
 use crate::sockets::{Socket, Sockets};
+use crate::watch::{Sight, Watch};
 use served_instance::EventRefusal;
 use server_core::Server;
 use server_events::{Configs, What};
@@ -72,8 +78,13 @@ impl Serving {
         ensures none { IfOk result (λ s. s.connections.items ≡ []) }
     {
         let server = Server::new(alloc, configs)?;
+        let counts = ServeCounts::new(alloc, configs.instances().len())?;
         Ok(Serving {
-            counting: Counting { server, cut: 0 },
+            counting: Counting {
+                server,
+                cut: 0,
+                counts,
+            },
             instances: configs.instances().len() as u32,
             moment: 0,
             tried: None,
@@ -83,6 +94,25 @@ impl Serving {
         })
     }
 
+    /// What came of its turns.
+    fn tally(&self) -> Tally
+        ensures { result.cut ≡ self.now.counting.cut }
+    {
+        Tally {
+            cut: self.counting.cut,
+        }
+    }
+
+    /// What is to see of it, where so many lines were dropped.
+    fn sight(&self, dropped: u64) -> Sight<'_> {
+        Sight {
+            server: &self.counting.server,
+            counts: &self.counting.counts,
+            dropped,
+            moment: self.moment,
+        }
+    }
+
     /// Tells the time and tries each port, but only once a millisecond, tries each connection that
     /// is due, and goes on with runs. It says whether anything moved, or can go on at once.
     fn turn<S: Sockets, R: Runs, E: Write>(
@@ -90,7 +120,7 @@ impl Serving {
         configs: &Configs,
         sockets: &mut S,
         runs: &mut R,
-        errors: &mut E,
+        errors: &mut ErrorLines<E>,
     ) -> bool
         requires within { AreWithin self.old.instances
             (sockets_of self.old.connections.items) }
@@ -104,6 +134,8 @@ impl Serving {
             (sockets_of self.new.connections.items) }
         ensures numbers { KeepsOpen self.old (S.happened sockets.old)
             self.new (S.happened sockets.new) }
+        ensures lines { WritesLines configs.now (E.contents errors.old.output) errors.old.backlog
+            (E.contents errors.new.output) errors.new.backlog }
     {
         self.keep_time(sockets, runs);
         let mut moved = false;
@@ -262,6 +294,7 @@ impl Serving {
         let Some(place) = found else {
             return;
         };
+        self.counting.counts.add(instance, Occurrence::Silent);
         let silent = self.connections.remove(place);
         close(
             &mut self.counting,
@@ -341,7 +374,8 @@ pub struct Tally {
     pub cut: u64,
 }
 
-/// Serves instances with these configurations for so many turns, over sockets at which nothing has
+/// Serves instances with these configurations for so many turns, or until whoever watches says
+/// that there is to be none any more, over sockets at which nothing has
 /// happened yet, and over runs of which there are none.
 ///
 /// Once a millisecond the time is told to each instance, and at each port one connection is
@@ -355,8 +389,8 @@ pub struct Tally {
 /// the preface is not whole.
 ///
 /// What an instance orders is carried out at once. In each turn the runs go on, one after another,
-/// until the clock goes on. A fault of a run is the outcome of a job that failed, and is written to
-/// `errors`.
+/// until the clock goes on. A fault of a run is the outcome of a job that failed, and a line of
+/// `errors`, which is not waited for.
 ///
 /// `numbers`: between two connections that are accepted under one number at the port of an instance
 /// the first is closed.
@@ -366,16 +400,22 @@ pub struct Tally {
 /// then; what is begun and ended at the runs is what that instance alone orders, each order once and
 /// in order; and what a run is lent, each time that it is asked, is the task, with its texts, of its
 /// own job, and nothing once that runs no more. Its own events are those of its port, the time, and
-/// what the runs of its own jobs gave; of these as many were carried out in part, for want of memory,
-/// as the result says, and no others. Nothing happens at a number of no instance. An instance that builds on another is alone with that one, and reads what it has by then.
+/// what the runs of its own jobs gave; of these as many were carried out in part, for want of
+/// memory, as the result says, and no others. Nothing happens at a number of no instance. An
+/// instance that builds on another is alone with that one, and reads what it has by then.
+///
+/// `lines`: what is written to `errors` are whole lines, each of which says that the run of a job
+/// failed, with the instance's name, or how many lines were dropped.
+///
 /// No fault of a socket or a run and no such refusal ends the turns: an error is want of memory
 /// before the first.
-pub fn serve<S: Sockets, R: Runs, E: Write>(
+pub fn serve<S: Sockets, R: Runs, E: Write, W: Watch>(
     alloc: Global,
     configs: &Configs,
     sockets: &mut S,
     runs: &mut R,
-    errors: &mut E,
+    errors: &mut ErrorLines<E>,
+    watch: &mut W,
     turns: u64,
 ) -> Result<Tally, AllocError>
     requires fresh { IfSome (S.happened sockets.old) (λ h. h ≡ []) }
@@ -383,6 +423,8 @@ pub fn serve<S: Sockets, R: Runs, E: Write>(
     ensures served { IfOk result (λ tally. WasServed configs.now
         (S.happened sockets.new) (R.happened runs.new) tally.cut) }
     ensures numbers { IfSome (S.happened sockets.new) NumbersAreApart }
+    ensures lines { WritesLines configs.now (E.contents errors.old.output) errors.old.backlog
+        (E.contents errors.new.output) errors.new.backlog }
     // Where memory is refused later than at the beginning, the turns go on.
     ensures unbegun { IfErr result (λ error. (S.happened sockets.new ≡ S.happened sockets.old)
         × (R.happened runs.new ≡ R.happened runs.old)) }
@@ -391,9 +433,10 @@ pub fn serve<S: Sockets, R: Runs, E: Write>(
     let mut idle_turns: u64 = 0;
     for _ in 0..turns {
         let has_moved = serving.turn(configs, sockets, runs, errors);
+        if !watch.look(&serving.sight(errors.dropped())) {
+            return Ok(serving.tally());
+        }
         idle_turns = rest_unless(sockets, has_moved, idle_turns);
     }
-    Ok(Tally {
-        cut: serving.counting.cut,
-    })
+    Ok(serving.tally())
 }

@@ -49,8 +49,8 @@ pub trait Sockets {
         ensures adds { Adds (happened self.old) (happened self.new)
             (write_events socket result bytes.now) };
 
-    /// Closes a connection: no more is sent on it. A fault is passed over.
-    fn close(&mut self, socket: Socket)
+    /// Closes a connection: no more is sent on it, and it is gone, whatever the answer.
+    fn close(&mut self, socket: Socket) -> io::Result<()>
         ensures adds { Adds (happened self.old) (happened self.new) (shutdown_events socket) };
 
     /// How many calls failed, other than because nothing was ready.

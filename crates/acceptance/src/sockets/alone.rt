@@ -1,7 +1,9 @@
 //! What instances give alone.
 
 use crate::sockets::fake::{Client, Fake};
+use crate::sockets::log::{has_written, records};
 use program_status::{Fault, Output};
+use serve::{LoggedSockets, Socket, SocketRecord};
 use server_core::{Outputs, SentBytes, run};
 use server_events::Configs;
 use std::mem::replace;
@@ -9,7 +11,8 @@ use std::mem::replace;
 /// What came of a case.
 #[derive(Clone, Copy, Default)]
 pub struct Outcome {
-    /// How many clients were sent what their instance does not put on their connection alone.
+    /// How many clients were sent what their instance does not put on their connection alone, or
+    /// what the log does not say.
     pub differing: u32,
     /// How many connections were opened.
     pub served: u32,
@@ -27,9 +30,19 @@ pub fn sent_on<'a>(outputs: &'a Outputs, instance: u32, number: u32) -> Option<&
     None
 }
 
-fn add(outcome: &mut Outcome, outputs: &Outputs, client: &Client<'_>, is_whole: bool) {
+fn add(
+    outcome: &mut Outcome,
+    outputs: &Outputs,
+    log: &[SocketRecord],
+    client: &Client<'_>,
+    is_whole: bool,
+) {
     let Some(number) = client.number else {
         return;
+    };
+    let socket = Socket {
+        instance: client.instance,
+        connection: number,
     };
     let is_alike = match sent_on(outputs, client.instance, number) {
         Some(sent) => {
@@ -42,25 +55,30 @@ fn add(outcome: &mut Outcome, outputs: &Outputs, client: &Client<'_>, is_whole: 
             client.received.is_empty()
         }
     };
-    if !is_alike {
+    if !is_alike || !has_written(log, socket, &client.received) {
         outcome.differing = outcome.differing.saturating_add(1);
     }
 }
 
-fn count(outputs: &Outputs, fake: &Fake<'_>) -> Outcome {
+fn count(outputs: &Outputs, log: &[SocketRecord], fake: &Fake<'_>) -> Outcome {
     let mut outcome = Outcome::default();
     for client in fake.clients.iter() {
-        add(&mut outcome, outputs, client, fake.habits.is_steady);
+        add(&mut outcome, outputs, log, client, fake.habits.is_steady);
     }
     outcome
 }
 
-/// Compares what the clients of fake sockets received with a run of the events that were noted.
-/// Steady clients received all of it, others a front.
-pub fn judge(configs: &Configs, fake: &mut Fake<'_>, output: &mut Output) -> Outcome {
-    let events = replace(&mut fake.events, Vec::new(output.alloc));
+/// Compares what the clients of fake sockets received with a run of the events that were noted, and
+/// with the log. Steady clients received all that the run gives, others a front; and all received
+/// what the log says.
+pub fn judge(
+    configs: &Configs,
+    sockets: &mut LoggedSockets<Fake<'_>>,
+    output: &mut Output,
+) -> Outcome {
+    let events = replace(&mut sockets.sockets.events, Vec::new(output.alloc));
     match run(output.alloc, configs, events) {
-        Ok(outputs) => count(&outputs, fake),
+        Ok(outputs) => count(&outputs, records(sockets), &sockets.sockets),
         Err(_) => {
             output.fail(Fault::OutOfMemory);
             Outcome::default()

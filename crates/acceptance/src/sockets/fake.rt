@@ -108,6 +108,15 @@ impl<'a> Fake<'a> {
         Ok(())
     }
 
+    /// An error, now and then, of a client that is closed all the same; but never with steady ones.
+    fn may_fail_to_close(&mut self) -> io::Result<()> {
+        if !self.habits.is_steady && self.throw() % 4 == 0 {
+            self.faults = self.faults.saturating_add(1);
+            return Err(io::Error::from(ErrorKind::NotConnected));
+        }
+        Ok(())
+    }
+
     fn note(&mut self, instance: u32, what: What) {
         let noted = self.events.push(Event {
             moment: self.moment,
@@ -220,13 +229,14 @@ impl<'a> Sockets for Fake<'a> {
         Ok(count)
     }
 
-    fn close(&mut self, socket: Socket) {
+    fn close(&mut self, socket: Socket) -> io::Result<()> {
         if let Ok(place) = self.place_of(socket) {
             if let Some(client) = self.clients.get_mut(place) {
                 client.is_closed = true;
             }
         }
         self.note(socket.instance, What::Closed(socket.connection));
+        self.may_fail_to_close()
     }
 
     fn faults(&self) -> u64 {

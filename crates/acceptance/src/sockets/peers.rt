@@ -1,11 +1,12 @@
 //! Real sockets, whose clients are served in the turns of the server.
 
 use crate::sockets::alone::sent_on;
+use crate::sockets::log::{accepted, has_written, records};
 use crate::sockets::no_runs::serve_alone;
 use host_sockets::HostSockets;
 use mio::net::TcpStream;
 use program_status::{Fault, Output};
-use serve::{Socket, Sockets};
+use serve::{LoggedSockets, Socket, SocketRecord, Sockets};
 use server_core::{Outputs, run};
 use server_events::{Configs, Event, What};
 use std::io::{self, Read, Write};
@@ -75,7 +76,7 @@ impl<'a> Sockets for WithPeers<'a> {
         self.sockets.write(socket, bytes)
     }
 
-    fn close(&mut self, socket: Socket) {
+    fn close(&mut self, socket: Socket) -> io::Result<()> {
         self.sockets.close(socket)
     }
 
@@ -165,11 +166,34 @@ fn peers<'a>(
     peers
 }
 
-/// How many clients did not receive what their instance gives alone.
-fn differing(configs: &Configs, peers: &[Peer<'_>], output: &mut Output) -> u32 {
+/// Whether a client received what a log says was written to its connection. Those of an instance are
+/// accepted in the order in which they connected.
+fn is_as_logged(log: &[SocketRecord], peers: &[Peer<'_>], place: usize) -> bool {
+    let Some(peer) = peers.get(place) else {
+        return false;
+    };
+    let mut before: usize = 0;
+    for other in peers.iter().take(place) {
+        if other.instance == peer.instance {
+            before = before.saturating_add(1);
+        }
+    }
+    match accepted(log, peer.instance, before) {
+        Some(socket) => has_written(log, socket, &peer.received),
+        None => false,
+    }
+}
+
+/// How many clients did not receive what their instance gives alone, or what a log says.
+fn differing(
+    configs: &Configs,
+    log: &[SocketRecord],
+    peers: &[Peer<'_>],
+    output: &mut Output,
+) -> u32 {
     let mut differing: u32 = 0;
-    for peer in peers {
-        if !is_as_alone(configs, peer, output) {
+    for (place, peer) in peers.iter().enumerate() {
+        if !is_as_alone(configs, peer, output) || !is_as_logged(log, peers, place) {
             differing = differing.saturating_add(1);
         }
     }
@@ -189,9 +213,9 @@ fn serve_over<'a>(
         output.fail(Fault::of(&error));
     }
     let peers = peers(rt, &sockets, texts, output);
-    let mut both = WithPeers { sockets, peers };
+    let mut both = LoggedSockets::new(output.alloc, WithPeers { sockets, peers });
     serve_alone(configs, &mut both, TURNS, output);
-    differing(configs, &both.peers, output)
+    differing(configs, records(&both), &both.sockets.peers, output)
 }
 
 /// Serves a client for each text over sockets of this host, as `serve_over` says.

@@ -4,6 +4,7 @@ use crate::sockets::alone::{Outcome, judge};
 use crate::sockets::fake::{Client, Fake, Habits};
 use crate::sockets::no_runs::serve_alone;
 use program_status::{Fault, Output};
+use serve::LoggedSockets;
 use server_events::{Configs, Event, What};
 
 /// How many connections an instance may have open.
@@ -73,17 +74,18 @@ pub fn serve_silent(configs: &Configs, texts: &[Vec<u8>], turns: u64, output: &m
         is_steady: true,
         pace: Some(PACE),
     };
-    let mut fake = Fake::new(output.alloc, clients(texts, turns, output), habits);
-    serve_alone(configs, &mut fake, turns, output);
-    if fake.is_out_of_memory {
+    let fake = Fake::new(output.alloc, clients(texts, turns, output), habits);
+    let mut sockets = LoggedSockets::new(output.alloc, fake);
+    serve_alone(configs, &mut sockets, turns, output);
+    if sockets.sockets.is_out_of_memory {
         output.fail(Fault::OutOfMemory);
     }
-    tell_events(&fake.events, output);
+    tell_events(&sockets.sockets.events, output);
     let Outcome {
         differing,
         served,
         refused,
-    } = judge(configs, &mut fake, output);
+    } = judge(configs, &mut sockets, output);
     output.print_text(format!(in output.alloc;
         "{served} served, {refused} refused, {differing} differ from alone\n"
     ));

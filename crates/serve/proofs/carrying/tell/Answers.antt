@@ -5,7 +5,7 @@ use Rattle.instance_core.specs.Turns.{orders_meant}
 use Rattle.server_events.specs.Events.{EventValue}
 use Rattle.served_instance.specs.StandsFor.{ServedState}
 use Rattle.serve.specs.RunEvents.{RunEvent, ordered, AddsRuns}
-use Rattle.serve.specs.Served.{AreCarriedOut}
+use Rattle.serve.specs.KeepsServing.{AreCarriedOut}
 use Rattle.server_events.specs.Shown.{what_value}
 use Rattle.serve.proofs.Keeps.{event_told, refused_taken, accepted_by}
 use Rattle.serve.proofs.carrying.tell.Goals as goal

@@ -1,6 +1,7 @@
 use Rattle.std.proofs.Common.{◌≡◌, length}
-use Rattle.serve.specs.Numbers.{AreWithin, HasOpen, sockets_of}
-use Rattle.serve.specs.Served.{IsServing}
+use Rattle.serve.specs.KeepsOpen.{AreWithin, HasOpen, sockets_of}
+use Rattle.serve.specs.FaultLines.{WritesLines}
+use Rattle.serve.specs.KeepsServing.{IsServing}
 use Rattle.serve.proofs.serving.serve.Given as goal
 
 abbrev pub invariant-loop : goal.invariant-loop
@@ -8,5 +9,6 @@ invariant-loop g l = record {
   serving : IsServing l.configs (g.S.Sockets.happened l.sockets) (g.R.Runs.happened l.runs) l.serving.counting l.serving.moment;
   instances : l.serving.instances ≡ length l.configs;
   within : AreWithin l.serving.instances (sockets_of l.serving.connections.items);
+  lines : WritesLines l.configs (g.E.Write.contents l.fn.errors.output) l.fn.errors.backlog (g.E.Write.contents l.errors.output) l.errors.backlog;
   numbers : HasOpen (sockets_of l.serving.connections.items) l.serving.next (g.S.Sockets.happened l.sockets);
 }

@@ -1,6 +1,6 @@
 use Rattle.std.proofs.Common.{◌<◌, ◌≡◌, ◌∙◌, refl, length, arith}
 use Rattle.std.proofs.lemmas.Grind.{common_steps}
-use Rattle.serve.specs.Numbers.{sockets_of}
+use Rattle.serve.specs.KeepsOpen.{sockets_of}
 use Rattle.serve.proofs.Numbers.{one_closed, same_open, same_sockets, within_at, within_less, within_same}
 use Rattle.serve.proofs.serving.Serving.exchange_all.Goals as goal
 

@@ -1,6 +1,6 @@
 use Rattle.std.proofs.Common.{arith}
 use Rattle.serve.proofs.Keeps.{accepted_told}
-use Rattle.serve.specs.Numbers.{sockets_of}
+use Rattle.serve.specs.KeepsOpen.{sockets_of}
 use Rattle.serve.proofs.Numbers.{accepted_by, added_closed, one_added}
 use Rattle.serve.proofs.serving.Serving.open.Goals as goal
 

@@ -1,5 +1,5 @@
 use Rattle.std.proofs.Common.{arith, refl}
-use Rattle.serve.specs.Numbers.{sockets_of}
+use Rattle.serve.specs.KeepsOpen.{sockets_of}
 use Rattle.serve.proofs.Numbers.{clock_stays, same_open}
 use Rattle.serve.proofs.Ticks.{none_ticked, one_ticked, all_ticked, still_unknown}
 use Rattle.serve.proofs.serving.Serving.tick.Goals as goal

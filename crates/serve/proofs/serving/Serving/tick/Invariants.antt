@@ -1,8 +1,8 @@
 use Rattle.std.proofs.Common.{◌≡◌, List, ◌∷◌, [], length}
 use Rattle.server_events.specs.Configs.{ConfigValue}
 use Rattle.serve.specs.SocketEvents.{clock, Adds}
-use Rattle.serve.specs.Numbers.{AreWithin, KeepsOpen, sockets_of}
-use Rattle.serve.specs.Served.{IsServing}
+use Rattle.serve.specs.KeepsOpen.{AreWithin, KeepsOpen, sockets_of}
+use Rattle.serve.specs.KeepsServing.{IsServing}
 use Rattle.serve.proofs.Ticks.{IsTicking, Rises, StaysUnknown}
 use Rattle.serve.proofs.serving.Serving.tick.Given as goal
 

@@ -1,0 +1,110 @@
+//! Copies of what calls name and answer, for logs.
+
+ghost use Rattle.std.specs.Prelude.{◌≡◌, IfOk, map, string_bytes};
+ghost use Rattle.runner.specs.Values.{command_shown, entry_shown, kind_shown, place_shown, variable_shown};
+
+use crate::folder::{Entry, Place};
+use crate::task::{Command, NodeKind, Variable};
+use std::alloc::{AllocError, Global};
+
+pub(crate) fn copied_bytes(alloc: Global, bytes: &[u8]) -> Result<Vec<u8>, AllocError>
+    ensures { IfOk result (λ copy. copy.items ≡ bytes.now) }
+{
+    Vec::from_slice(alloc, bytes)
+}
+
+pub(crate) fn copied_names(alloc: Global, names: &[String]) -> Result<Vec<String>, AllocError>
+    ensures { IfOk result (λ copy. map string_bytes copy.items ≡ map string_bytes names.now) }
+{
+    let mut copy = Vec::new(alloc);
+    let mut left = names;
+    while let [first, rest @ ..] = left {
+        copy.push(String::from_str(alloc, first)?)?;
+        left = rest;
+    }
+    Ok(copy)
+}
+
+pub(crate) fn copied_place(alloc: Global, place: &Place) -> Result<Place, AllocError>
+    ensures { IfOk result (λ copy. place_shown copy ≡ place_shown place.now) }
+{
+    let directory = String::from_str(alloc, &place.directory)?;
+    Ok(Place {
+        run: place.run,
+        directory,
+        function: place.function,
+    })
+}
+
+pub(crate) fn copied_kind(alloc: Global, kind: &NodeKind) -> Result<NodeKind, AllocError>
+    ensures { IfOk result (λ copy. kind_shown copy ≡ kind_shown kind.now) }
+{
+    match kind {
+        NodeKind::File {
+            text,
+            is_executable,
+        } => Ok(NodeKind::File {
+            text: *text,
+            is_executable: *is_executable,
+        }),
+        NodeKind::Symlink { target } => {
+            let target = String::from_str(alloc, target)?;
+            Ok(NodeKind::Symlink { target })
+        }
+        NodeKind::Directory => Ok(NodeKind::Directory),
+    }
+}
+
+fn copied_entry(alloc: Global, entry: &Entry) -> Result<Entry, AllocError>
+    ensures { IfOk result (λ copy. entry_shown copy ≡ entry_shown entry.now) }
+{
+    let name = String::from_str(alloc, &entry.name)?;
+    Ok(Entry {
+        name,
+        is_directory: entry.is_directory,
+    })
+}
+
+pub(crate) fn copied_entries(alloc: Global, entries: &[Entry]) -> Result<Vec<Entry>, AllocError>
+    ensures { IfOk result (λ copy. map entry_shown copy.items ≡ map entry_shown entries.now) }
+{
+    let mut copy = Vec::new(alloc);
+    let mut left = entries;
+    while let [first, rest @ ..] = left {
+        copy.push(copied_entry(alloc, first)?)?;
+        left = rest;
+    }
+    Ok(copy)
+}
+
+fn copied_variable(alloc: Global, variable: &Variable) -> Result<Variable, AllocError>
+    ensures { IfOk result (λ copy. variable_shown copy ≡ variable_shown variable.now) }
+{
+    let name = String::from_str(alloc, &variable.name)?;
+    let value = String::from_str(alloc, &variable.value)?;
+    Ok(Variable { name, value })
+}
+
+fn copied_variables(alloc: Global, variables: &[Variable]) -> Result<Vec<Variable>, AllocError>
+    ensures { IfOk result
+        (λ copy. map variable_shown copy.items ≡ map variable_shown variables.now) }
+{
+    let mut copy = Vec::new(alloc);
+    let mut left = variables;
+    while let [first, rest @ ..] = left {
+        copy.push(copied_variable(alloc, first)?)?;
+        left = rest;
+    }
+    Ok(copy)
+}
+
+pub(crate) fn copied_command(alloc: Global, command: &Command) -> Result<Command, AllocError>
+    ensures { IfOk result (λ copy. command_shown copy ≡ command_shown command.now) }
+{
+    let arguments = copied_names(alloc, &command.arguments)?;
+    let variables = copied_variables(alloc, &command.variables)?;
+    Ok(Command {
+        arguments,
+        variables,
+    })
+}

@@ -1,0 +1,139 @@
+-- The lines that say which runs failed, to an output that is not waited for. To be read from
+-- `WritesLines` up.
+use Rattle.std.specs.Prelude.{◌≡◌, ◌<◌, ◌≤◌, ◌≢◌, ◌⊎◌, slice_get, ◌+◌, ◌-◌, ◌^◌, ◌==◌, ◌/◌, if◌then◌else◌, ℕ, min, Bool, true, false, List, [], ◌++◌, length, flat_map, codes, Option, Some, None, IsSomeAnd, Result, Ok, Err}
+use Rattle.std.specs.Option.{option_map_or}
+use Rattle.std.specs.List.{AllByRecursion, concat}
+use Rattle.std.specs.Fmt.{decimal}
+use Rattle.std.specs.Io.KnownBytes.{Appends}
+use Rattle.std.specs.Char.Escape.{escape_ascii}
+use Rattle.runner.specs.declared.fault.RunFault.{RunFault}
+use Rattle.runner.specs.declared.fault.RunFault.TheVariants.{Folder, Start, Launcher, TooLarge, NoMemory, Left}
+use Rattle.runner.specs.declared.task.RunKey.{RunKey}
+use Rattle.server_events.specs.Configs.{ConfigValue}
+use Rattle.serve.specs.declared.error_lines.Backlog.{Backlog}
+use Rattle.serve.specs.declared.error_lines.LineCount.{LineCount}
+
+-- ---- lines
+
+-- the line that says how many were dropped, if any were
+abbrev pub dropped_line : ℕ → List ℕ
+dropped_line n =
+    if n == 0 then [] else codes "remoted: " ++ decimal n ++ codes " lines were dropped\n"
+
+-- the word for a fault of a run
+abbrev pub word_of : RunFault → List ℕ
+word_of Folder = codes "folder"
+word_of Start = codes "start"
+word_of Launcher = codes "launcher"
+word_of TooLarge = codes "too large"
+word_of NoMemory = codes "memory"
+word_of Left = codes "left"
+
+-- bytes on one line: those that do not print stand as `\n`, `\x00` and the like
+abbrev pub escaped : List ℕ → List ℕ
+escaped bytes = flat_map escape_ascii bytes
+
+-- what was said last, behind the word for a fault; nothing where nothing was
+abbrev pub words_said : List ℕ → List ℕ
+words_said said = if length said == 0 then [] else codes ": " ++ escaped said
+
+-- of no other fault than that of a launcher more is said: 200 bytes at most
+abbrev pub IsSaid : RunFault → List ℕ → Type 0
+IsSaid fault said = (length said ≤ 200) × ((said ≡ []) ⊎ (fault ≡ Launcher))
+
+-- the line that says that the run of a job failed, why, and what was said last
+abbrev pub run_line : List ℕ → ℕ → RunFault → List ℕ → List ℕ
+run_line name job fault said =
+    codes "remoted: run " ++ name ++ codes " " ++ decimal job ++ codes " failed: "
+    ++ word_of fault ++ words_said said ++ codes "\n"
+
+-- the name of the instance of a number
+abbrev pub name_at : ℕ → List ConfigValue → List ℕ
+name_at i configs = option_map_or (λ config. config.name) (slice_get configs i) []
+
+-- ---- what is written
+
+-- of these bytes the first were written, and the others are left
+abbrev pub WritesFront : Option (List ℕ) → List ℕ → Option (List ℕ) → List ℕ → Type 0
+WritesFront before bytes after left =
+    (written : List ℕ) × Appends before after written × (bytes ≡ written ++ left)
+
+abbrev pub one_more : ℕ → ℕ
+one_more n = min (n + 1) (2 ^ 64 - 1)
+
+abbrev pub with_dropped_line : Backlog → Backlog
+with_dropped_line b = record b { dropped = one_more b.dropped }
+
+-- a line is put behind what is left of another, and behind the one that says how many were dropped;
+-- or it is dropped too
+abbrev pub PutsLine : Bool → List ℕ → Option (List ℕ) → Backlog → Option (List ℕ) → Backlog →
+    Type 0
+PutsLine true line before old after new =
+    WritesFront before (old.rest.items ++ (dropped_line old.dropped ++ line)) after new.rest.items
+    × (new.dropped ≡ 0)
+PutsLine false line before old after new =
+    WritesFront before old.rest.items after new.rest.items × (new.dropped ≡ one_more old.dropped)
+
+-- a line of no instance
+abbrev pub TellsLine : List ℕ → Option (List ℕ) → Backlog → Option (List ℕ) → Backlog → Type 0
+TellsLine line before old after new =
+    (told : Bool) × PutsLine told line before old after new × (new.counts ≡ old.counts)
+
+-- ---- how many lines an instance has in a second
+
+abbrev pub lines_in : ℕ → LineCount → ℕ
+lines_in second count = if count.second == second then count.lines else 0
+
+-- where it had fewer than ten, it has one more
+abbrev pub Counts : Bool → ℕ → LineCount → LineCount → Type 0
+Counts true second old new =
+    (lines_in second old < 10) × (lines_in second new ≡ lines_in second old + 1)
+Counts false second old new = (10 ≤ lines_in second old) × (new ≡ old)
+
+-- whether the instance of a number may have one more, which is counted; no other has
+pub record MayTell (may : Bool) (second instance : ℕ) (old new : List LineCount) : Type 0 where
+  pub counted : (c : LineCount) → slice_get old instance ≡ Some c
+      → IsSomeAnd (slice_get new instance) (Counts may second c)
+  pub none : slice_get old instance ≡ None → may ≡ false
+  pub others : (j : ℕ) → j ≢ instance → slice_get new j ≡ slice_get old j
+
+-- a line of an instance at a moment, in milliseconds: it is dropped where the instance may have none
+pub record TellsRun (moment instance : ℕ) (line : List ℕ) (before : Option (List ℕ)) (old : Backlog)
+    (after : Option (List ℕ)) (new : Backlog) : Type 0 where
+  pub may : Bool
+  pub limited : MayTell may (moment / 1000) instance old.counts.items new.counts.items
+  pub told : Bool
+  pub put : PutsLine told line before old after new
+  pub within : told ≡ true → may ≡ true
+
+-- a fault of a run is a line, with what was said last
+abbrev pub TellsFault : List ConfigValue → ℕ → RunKey → RunFault → Option (List ℕ) → Backlog →
+    Option (List ℕ) → Backlog → Type 0
+TellsFault configs moment run fault before old after new =
+    (said : List ℕ) × IsSaid fault said
+    × TellsRun moment run.instance (run_line (name_at run.instance configs) run.job fault said)
+    before old after new
+
+-- where a run answers a fault, that is a line
+abbrev pub TellsAnswer : {A : Type 0} → List ConfigValue → ℕ → RunKey → Result A RunFault →
+    Option (List ℕ) → Backlog → Option (List ℕ) → Backlog → Type 0
+TellsAnswer configs moment run (Ok answer) before old after new = (after ≡ before) × (new ≡ old)
+TellsAnswer configs moment run (Err fault) before old after new =
+    TellsFault configs moment run fault before old after new
+
+-- ---- all lines
+
+-- it says that a run failed, or how many lines were dropped
+abbrev pub IsFaultLine : List ConfigValue → List ℕ → Type 0
+IsFaultLine configs line =
+    ((i job : ℕ) × (fault : RunFault) × (said : List ℕ) × IsSaid fault said
+    × (line ≡ run_line (name_at i configs) job fault said))
+    ⊎ ((n : ℕ) × (line ≡ dropped_line n))
+
+-- such lines are put, each whole, one behind another and behind what is left of one; the end of the
+-- last may be left
+abbrev pub WritesLines : List ConfigValue → Option (List ℕ) → Backlog → Option (List ℕ) → Backlog →
+    Type 0
+WritesLines configs before old after new =
+    (lines : List (List ℕ)) × AllByRecursion (IsFaultLine configs) lines
+    × WritesFront before (old.rest.items ++ concat lines) after new.rest.items

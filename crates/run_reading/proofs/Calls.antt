@@ -51,7 +51,7 @@ cond_more : (b : Bool) (os items : List Item) (item : Item) → (os ++ cond b (i
 cond_more true os items item = append_assoc os (item ∷ []) items
 cond_more false os items item = append-nil (os ++ [])
 
-items_owed : (s t : ℕ) (items : List Item) (p : Past) → IsAnswerableStream p.history s → items_owed_on t (with_items s items p).owed ≡ items_owed_on t p.owed ++ cond (s == t) items []
+pub items_owed : (s t : ℕ) (items : List Item) (p : Past) → IsAnswerableStream p.history s → items_owed_on t (with_items s items p).owed ≡ items_owed_on t p.owed ++ cond (s == t) items []
 items_owed s t [] p h = sym (append-nil (items_owed_on t p.owed)) ∙ ap (λ is. items_owed_on t p.owed ++ is) (sym (cond_none (s == t)))
 items_owed s t (item ∷ items) p h =
     items_owed s t items (with_item p s item) h ∙ ap (λ is. is ++ cond (s == t) items []) (more_owed p.history p.owed s t item h)

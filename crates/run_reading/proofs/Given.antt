@@ -15,6 +15,7 @@ use Rattle.client_reading.proofs.Choices.{choose}
 use Rattle.run_reading.specs.GivesWell.{GivesWell}
 use Rattle.run_reading.proofs.Runs.{replies_read, state_is, run_named, run_gives_named, run_orders_whole}
 use Rattle.run_reading.proofs.Takings.{family_settled}
+use Rattle.run_reading.proofs.ReadRuns.{blobs_read}
 
 -- ---- configurations
 
@@ -67,6 +68,7 @@ gives_well family events limits narrow = record {
   streams = run_gives_named family events limits narrow;
   orders = run_orders_whole family events limits narrow;
   settled = λ before after e is accepted. family_settled family before e accepted;
+  blobs = blobs_read family events limits narrow;
   within = run_within family events limits narrow;
 }
 

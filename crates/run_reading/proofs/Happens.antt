@@ -63,7 +63,7 @@ HasNoneDue k = k.past.due ≡ []
 abbrev AreNoneDue : List LoneConnection → Type 0
 AreNoneDue ks = AllByRecursion HasNoneDue ks
 
-quiet_due : (c : ℕ) (step : Past → Past) (ks : List LoneConnection) → ((p : Past) → (step p).due ≡ p.due) → AreNoneDue ks → AreNoneDue (at_open c step ks)
+pub quiet_due : (c : ℕ) (step : Past → Past) (ks : List LoneConnection) → ((p : Past) → (step p).due ≡ p.due) → AreNoneDue ks → AreNoneDue (at_open c step ks)
 quiet_due c step [] same h = tt
 quiet_due c step (k ∷ ks) same h = choose AreNoneDue (is_open_at c k) (record k { past = step k.past } ∷ ks) (k ∷ at_open c step ks) (λ _. (same k.past ∙ h.0, h.1)) (λ _. (h.0, quiet_due c step ks same h.1))
 
@@ -221,7 +221,7 @@ frame_is_short c f l p is none =
     let calls : AllByRecursion IsShortCall (due_at c m) = subst (AllByRecursion IsShortCall) (sym (due_is c m (with_frame p f) (open_step c step l.connections p is))) due in
     all_append IsShortHappening (request_happenings c f l) (due_happenings c m) requests (calls_short (connection_place c m.connections) c (due_at c m) calls)
 
-frame_moves : {N : Type 0} (c : ℕ) (f : RawFrame) (l : LoneInstance) (p : Past) → open_at c l.connections ≡ Some p → has_failed p.history ≡ false → IsReceivable f → Moves N l (frame_happenings c f l) (after_frame_on c f l)
+pub frame_moves : {N : Type 0} (c : ℕ) (f : RawFrame) (l : LoneInstance) (p : Past) → open_at c l.connections ≡ Some p → has_failed p.history ≡ false → IsReceivable f → Moves N l (frame_happenings c f l) (after_frame_on c f l)
 frame_moves c f l p is fine framed = record {
   state = frame_state c f l p is;
   holds = λ gs h. record {
@@ -233,12 +233,12 @@ frame_moves c f l p is fine framed = record {
 }
 
 -- a connection that is not over is open, and has met no error
-record GoesOn (c : ℕ) (l : LoneInstance) : Type 0 where
-  past : Past
-  is : open_at c l.connections ≡ Some past
-  fine : has_failed past.history ≡ false
+pub record GoesOn (c : ℕ) (l : LoneInstance) : Type 0 where
+  pub past : Past
+  pub is : open_at c l.connections ≡ Some past
+  pub fine : has_failed past.history ≡ false
 
-goes_on : (c : ℕ) (l : LoneInstance) → is_over c l ≡ false → GoesOn c l
+pub goes_on : (c : ℕ) (l : LoneInstance) → is_over c l ≡ false → GoesOn c l
 goes_on c l h = found (open_at c l.connections) refl h where
   found : (o : Option Past) → open_at c l.connections ≡ o → option_map_or (λ (p : Past). has_failed p.history) o true ≡ false → GoesOn c l
   found None is h = cc
@@ -274,7 +274,7 @@ fault_due c e code l h = found (open_at c l.connections) refl where
   found None is = subst (λ (o : Option Past). AllByRecursion IsCancel (option_map_or (λ (q : Past). q.due) o [])) (sym (none_open c step l.connections is)) tt
   found (Some p) is = subst (λ (o : Option Past). AllByRecursion IsCancel (option_map_or (λ (q : Past). q.due) o [])) (sym (open_step c step l.connections p is)) (fault_cancels p e code (open_has (λ (q : Past). q.due ≡ []) c l.connections p is h))
 
-fault_moves : {N : Type 0} (c : ℕ) (e : FrameError) (l : LoneInstance) (o : Option ErrorCode) → reading_fault e ≡ o → Moves N l (fault_happenings c e l o) (after_fault_on c e l o)
+pub fault_moves : {N : Type 0} (c : ℕ) (e : FrameError) (l : LoneInstance) (o : Option ErrorCode) → reading_fault e ≡ o → Moves N l (fault_happenings c e l o) (after_fault_on c e l o)
 fault_moves c e l None is = quietly l l refl (λ gs h. h)
 fault_moves c e l (Some code) is =
     let step : Past → Past = λ p. with_fault p e code in
@@ -305,7 +305,7 @@ all_move c l (Some p) =
     let framed : AllByRecursion IsReceivable (unread_frames p) = all_drop (length (received_raw_frames p.history)) (split CLIENT_PREFACE.now p.text).items (frames_received CLIENT_PREFACE.now p.text) in
     then_moves l m (after_end_on c end m) (happenings_of_frames c (unread_frames p) l) (end_happenings c end m) (frames_move c (unread_frames p) l framed) (end_moves c end m)
 
-came_moves : {N : Type 0} (c : ℕ) (bytes : List ℕ) (l : LoneInstance) → Moves N l (happenings_of_bytes c bytes l) (after_bytes_on c bytes l)
+pub came_moves : {N : Type 0} (c : ℕ) (bytes : List ℕ) (l : LoneInstance) → Moves N l (happenings_of_bytes c bytes l) (after_bytes_on c bytes l)
 came_moves c bytes l =
     let step : Past → Past = with_bytes bytes in
     let m : LoneInstance = record l { connections = at_open c step l.connections } in
@@ -417,7 +417,7 @@ rest_moves : {N : Type 0} (l : LoneInstance) → Moves N l (EventOver ∷ []) (l
 rest_moves l = unanswered l (lone_at_rest l) EventOver refl refl tt refl
 
 -- an event that comes while the parent has these texts
-abbrev Comes : List Blob → EventValue → Type 0
+abbrev pub Comes : List Blob → EventValue → Type 0
 Comes parent e = AreNamed parent × IsNarrow e
 
 where_so : {M N : Type 0} (l m : LoneInstance) (hs : List Happening) → (M → N) → Moves N l hs m → Moves M l hs m

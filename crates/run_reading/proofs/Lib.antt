@@ -11,3 +11,11 @@ pub mod Texts
 pub mod Runs
 pub mod Takings
 pub mod Given
+pub mod CallEntries
+pub mod Looks
+pub mod OneStream
+pub mod ReadCalls
+pub mod ReadStreams
+pub mod ReadStands
+pub mod ReadFrames
+pub mod ReadRuns

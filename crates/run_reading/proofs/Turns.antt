@@ -29,11 +29,11 @@ none_owed d os s item h = elim (cases_Bool (has_failed d)) [
       rw fine (rw closed refl)
 ]
 
-closed_keeps : (s : ℕ) (items : List Item) (p : Past) → is_stream_open s p ≡ false → (with_items s items p).owed ≡ p.owed
+pub closed_keeps : (s : ℕ) (items : List Item) (p : Past) → is_stream_open s p ≡ false → (with_items s items p).owed ≡ p.owed
 closed_keeps s [] p h = refl
 closed_keeps s (item ∷ items) p h = closed_keeps s items (with_item p s item) h ∙ none_owed p.history p.owed s item h
 
-answerable : (s : ℕ) (p : Past) → is_stream_open s p ≡ true → IsAnswerableStream p.history s
+pub answerable : (s : ℕ) (p : Past) → is_stream_open s p ≡ true → IsAnswerableStream p.history s
 answerable s p h = elim (cases_Bool (has_failed p.history)) [
   | inl failed ↦ let h' : false ≡ true = rw failed at h in cc
   | inr fine ↦

@@ -14,6 +14,7 @@ use Rattle.server_core.specs.LoneOutput.{lone_output}
 use Rattle.server_core.specs.Runs.{run_of_family}
 use Rattle.run_reading.specs.Replies.{run_connections, run_given_items, run_state, AreConnectionsRead}
 use Rattle.run_reading.specs.Named.{run_answered_events, GivesNamed}
+use Rattle.run_reading.specs.ReadsBlob.{ReadsBlobsAskedFor}
 
 -- behind each of its events that was accepted the instance's open connections are settled
 abbrev pub IsSettledThroughout : Family → List FamilyEvent → Type 0
@@ -37,4 +38,6 @@ pub record GivesWell (family : Family) (events : List FamilyEvent) : Type 0 wher
   pub orders :
       AllByRecursion (λ (o : ℕ × OrderValue). IsWholeOrder o.1) (lone_output family events).orders
   pub settled : IsSettledThroughout family events
+  -- and who asks for a blob reads a beginning of a refusal, or of the bytes of that blob
+  pub blobs : ReadsBlobsAskedFor family events
   pub within : IsInstanceWithin (run_of_family family events).own.lone.state

@@ -17,6 +17,7 @@ ghost use Rattle.run_reading.specs.Replies.{run_connections, run_given_items, ru
 ghost use Rattle.instance_core.specs.NamedReplies.{ServesNamed};
 ghost use Rattle.run_reading.specs.Named.{run_answered_events, GivesNamed};
 ghost use Rattle.run_reading.specs.GivesWell.{GivesWell};
+ghost use Rattle.run_reading.specs.ReadsBlob.{ReadsBlobsAskedFor};
 
 use server_events::{Configs, Event, Outcome, What};
 
@@ -103,4 +104,14 @@ pub fn blobs_served_are_named()
     ensures orders { (family : Family) (events : List FamilyEvent) → AreLimited family
         → AllByRecursion IsNarrow (map event_in events)
         → AllByRecursion (λ o. IsWholeOrder o.1) (lone_output family events).orders }
+{}
+
+/// From wire to wire: whoever sends a call of Read reads a beginning of a refusal, or of the bytes
+/// that it asks for: those of a text that has the hash and the length of the digest in the resource
+/// name, from read_offset on and at most read_limit of them (bytestream.proto). What was sent are
+/// the frames that came on the connection, and what is read are those that were put there. It is so
+/// on each connection whose number none had before it.
+pub fn a_read_gives_its_blob()
+    ensures { (family : Family) (events : List FamilyEvent) → AreLimited family
+        → AllByRecursion IsNarrow (map event_in events) → ReadsBlobsAskedFor family events }
 {}

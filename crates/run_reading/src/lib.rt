@@ -4,6 +4,6 @@
 mod laws;
 
 pub use laws::{
-    blobs_served_are_named, replies_are_read, replies_are_the_instances, runs_are_settled,
-    statuses_are_narrow, what_a_run_gives,
+    a_read_gives_its_blob, blobs_served_are_named, replies_are_read, replies_are_the_instances,
+    runs_are_settled, statuses_are_narrow, what_a_run_gives,
 };

@@ -4,15 +4,15 @@ use Rattle.clap.specs.Words.{App, Text, kind_of}
 use Rattle.clap.specs.Faults.{fault_of, is_simple_and_free}
 use Rattle.clap.specs.Kinds.{HasKind, IsAmong}
 use Rattle.clap.specs.declared.error.Error.{Error}
-use Rattle.clap.specs.declared.error.kind.ErrorKind.TheVariants.{MissingRequiredArgument}
+use Rattle.clap.specs.declared.error.kind.ErrorKind.TheVariants.{ValueValidation}
 use Rattle.command_line.specs.declared.CommandLineError.{CommandLineError}
 use Rattle.command_line.specs.declared.CommandLineError.TheVariants.{NoMemory, Answered}
 use Rattle.command_line.specs.CommandLine.{command_line}
 use Rattle.command_line.specs.Shown.{invocation_asked, HasNoFault, IsFaultOf, IsFrom}
 
-pub missing_is_fault : (words : List Text) (error : Error) (fault : CommandLineError) → kind_of error ≡ MissingRequiredArgument → invocation_asked words ≡ None → IsFrom error fault → IsFaultOf words fault
-missing_is_fault words error NoMemory kind none from = tt
-missing_is_fault words error (Answered kept) kind none from = inr (ap kind_of from.0 ∙ kind, none)
+pub bad_value_is_fault : (words : List Text) (error : Error) (fault : CommandLineError) → kind_of error ≡ ValueValidation → invocation_asked words ≡ None → IsFrom error fault → IsFaultOf words fault
+bad_value_is_fault words error NoMemory kind none from = tt
+bad_value_is_fault words error (Answered kept) kind none from = inr (ap kind_of from.0 ∙ kind, none)
 
 is_free_command : is_simple_and_free command_line ≡ true
 is_free_command = refl

@@ -6,7 +6,7 @@ use Rattle.decimals.specs.Number.{decimal_value, is_decimal}
 use Rattle.clap.specs.Words.{App, Row, Rule, Shape, Text, all_of, first_of, new_app, new_rule, one_of, with_rule, with_subcommand}
 use Rattle.clap.specs.declared.builder.action.ArgAction.TheVariants.{Append, Set}
 use Rattle.clap.specs.declared.builder.value_parser.ValueParser.{ValueParser}
-use Rattle.clap.specs.declared.builder.value_parser.ValueParser.TheVariants.{Signed, Unsigned}
+use Rattle.clap.specs.declared.builder.value_parser.ValueParser.TheVariants.{NonEmptyString, Signed, Unsigned}
 
 -- ---- what there is
 
@@ -17,6 +17,10 @@ file_rule = record (new_rule (codes "FILE")) { required = true; action = Some Se
 -- `--name VALUE`
 abbrev pub long_option : Text → Rule
 long_option name = record (new_rule name) { long = Some name; value_names = 1; action = Some Set }
+
+-- `--name VALUE`, where the value has a byte at least
+abbrev pub optional : Text → Rule
+optional name = record (long_option name) { parser = Some NonEmptyString }
 
 -- a whole number from 0 to 2^63 - 1
 abbrev pub count_parser : ValueParser
@@ -37,6 +41,31 @@ abbrev pub turns_rule : Rule
 turns_rule =
     record (long_option (codes "turns"))
     { parser = Some count_parser; defaults = codes "1000000000" ∷ [] }
+
+-- what `--turns` of a server may be is said where it is read
+abbrev pub lasting_rule : Rule
+lasting_rule = record (long_option (codes "turns")) { defaults = codes "1000000000" ∷ [] }
+
+abbrev pub listen_rule : Rule
+listen_rule = record (long_option (codes "listen")) { defaults = codes "127.0.0.1" ∷ [] }
+
+abbrev pub metrics_rule : Rule
+metrics_rule = optional (codes "metrics")
+
+abbrev pub stop_rule : Rule
+stop_rule = optional (codes "stop")
+
+abbrev pub host_rule : Rule
+host_rule = record (long_option (codes "host")) { defaults = codes "127.0.0.1" ∷ [] }
+
+abbrev pub instance_rule : Rule
+instance_rule = optional (codes "instance")
+
+-- from 1 to 3600
+abbrev pub seconds_rule : Rule
+seconds_rule =
+    record (long_option (codes "seconds"))
+    { parser = Some (Unsigned 1 3600); defaults = codes "5" ∷ [] }
 
 abbrev pub work_rule : Rule
 work_rule = record (long_option (codes "work")) { required = true }
@@ -59,10 +88,17 @@ probe_command =
     port_rule) send_rule) want_rule)
     turns_rule).top
 
+abbrev pub check_command : Shape
+check_command =
+    (with_rule (with_rule (with_rule (with_rule (new_app (codes "check"))
+    port_rule) host_rule) instance_rule)
+    seconds_rule).top
+
 abbrev pub serve_command : Shape
 serve_command =
-    (with_rule (with_rule (with_rule (with_rule (new_app (codes "serve"))
-    work_rule) launcher_rule) turns_rule)
+    (with_rule (with_rule (with_rule (with_rule (with_rule (with_rule (with_rule
+    (new_app (codes "serve"))
+    work_rule) launcher_rule) lasting_rule) listen_rule) metrics_rule) stop_rule)
     instances_rule).top
 
 -- a command that tells its version
@@ -75,11 +111,12 @@ with_scripts a =
     with_subcommand (with_subcommand a (script_command (codes "unary")))
     (script_command (codes "replay"))
 
--- the program, its version and its four commands
+-- the program, its version and its five commands
 abbrev pub command_line : App
 command_line =
-    with_subcommand (with_subcommand
-    (with_scripts (with_version (new_app (codes "remoted")))) probe_command) serve_command
+    with_subcommand (with_subcommand (with_subcommand
+    (with_scripts (with_version (new_app (codes "remoted"))))
+    probe_command) check_command) serve_command
 
 -- ---- what is asked for
 
@@ -88,11 +125,15 @@ pub data InvocationValue : Type 0 where
   unary : Option Text → InvocationValue
   -- the script of events of a file
   replay : Text → InvocationValue
-  -- to serve the instances of these words, for so many turns, and to have programs started by a
-  -- launcher, or as they are
-  serve : (work : Text) (launcher : Option Text) (turns : ℕ) (instances : List Text) → InvocationValue
+  -- to serve the instances of these words at an address, for so many turns, and to have programs
+  -- started by a launcher, or as they are; to write figures to a file, and to end by one
+  serve : (work : Text) (launcher : Option Text) (turns : ℕ) (listen : Text)
+      (metrics stop : Option Text) (instances : List Text) → InvocationValue
   -- to send a file's bytes to a port, and to wait for so many, for so many turns
   probe : (port : ℕ) (send : Text) (want turns : ℕ) → InvocationValue
+  -- to ask the server at a port of a host, for an instance or for the port's own, and to wait for so
+  -- many seconds
+  check : (port : ℕ) (host : Text) (instance : Option Text) (seconds : ℕ) → InvocationValue
 
 -- the number below a bound that a text writes in decimal, with a plus sign or none
 abbrev pub number_below : ℕ → Text → Option ℕ
@@ -116,25 +157,45 @@ probe_of given =
     (number_of (codes "want") given)) (first_of (codes "send") given))
     (option_and_then port_of (number_of (codes "port") given))
 
+abbrev pub check_of : List Row → Option InvocationValue
+check_of given =
+    option_and_then (λ port. option_and_then (λ host.
+    option_map (λ seconds. check port host (first_of (codes "instance") given) seconds)
+    (number_of (codes "seconds") given)) (first_of (codes "host") given))
+    (option_and_then port_of (number_of (codes "port") given))
+
+-- the number, if it is at most 2^63 - 1
+abbrev pub count_of : ℕ → Option ℕ
+count_of number = if nat_lt number (2 ^ 63) then Some number else None
+
+-- for how many turns a server lasts: for as many as a number says, or for 2^64 - 1
+abbrev pub lasting_of : List Row → Option ℕ
+lasting_of given =
+    option_and_then (λ text. if bytes_eq text (codes "endless") then Some 18446744073709551615
+    else option_and_then count_of (number_of (codes "turns") given))
+    (first_of (codes "turns") given)
+
 abbrev pub serve_of : List Row → Option InvocationValue
 serve_of given =
-    option_and_then (λ work. option_and_then (λ turns.
-    option_map (λ instances. serve work (first_of (codes "launcher") given) turns instances)
+    option_and_then (λ work. option_and_then (λ turns. option_and_then (λ listen.
+    option_map (λ instances. serve work (first_of (codes "launcher") given) turns listen
+    (first_of (codes "metrics") given) (first_of (codes "stop") given) instances)
     (all_of (codes "NAME:PORT:QUOTA:SLOTS[:PARENT]") given))
-    (number_of (codes "turns") given)) (first_of (codes "work") given)
+    (first_of (codes "listen") given))
+    (lasting_of given)) (first_of (codes "work") given)
 
-abbrev pub file_or_probe_by : Text → List Row → Option InvocationValue
-file_or_probe_by name given =
+abbrev pub file_or_peer_by : Text → List Row → Option InvocationValue
+file_or_peer_by name given =
     if bytes_eq name (codes "unary")
     then option_map (λ file. unary (Some file)) (first_of (codes "FILE") given)
     else (if bytes_eq name (codes "replay")
     then option_map (λ file. replay file) (first_of (codes "FILE") given)
-    else probe_of given)
+    else (if bytes_eq name (codes "check") then check_of given else probe_of given))
 
 -- what a command of this name asks for, with what was given to it
 abbrev pub invocation_by : Text → List Row → Option InvocationValue
 invocation_by name given =
-    if bytes_eq name (codes "serve") then serve_of given else file_or_probe_by name given
+    if bytes_eq name (codes "serve") then serve_of given else file_or_peer_by name given
 
 -- what the command that the words name asks for; where they name none, it is the script on standard
 -- input

@@ -7,19 +7,23 @@ use Rattle.clap.specs.declared.builder.arg.Arg.{Arg}
 use Rattle.clap.specs.declared.builder.command.Command.{Command}
 use Rattle.clap.specs.declared.builder.command.Command.TheViews.{out-Command as fields_of}
 use Rattle.clap.specs.declared.error.Error.{Error}
-use Rattle.clap.specs.declared.error.kind.ErrorKind.TheVariants.{MissingRequiredArgument, OutOfMemory}
+use Rattle.clap.specs.declared.error.kind.ErrorKind.TheVariants.{ValueValidation, OutOfMemory}
 use Rattle.command_line.specs.declared.Invocation.{Invocation}
 use Rattle.command_line.specs.declared.Invocation.TheVariants as invocation
 use Rattle.command_line.specs.declared.CommandLineError.{CommandLineError}
 use Rattle.command_line.specs.declared.CommandLineError.TheVariants.{NoMemory, Answered}
-use Rattle.command_line.specs.CommandLine.{InvocationValue, unary, replay, serve, probe, command_line, invocation_of}
+use Rattle.command_line.specs.CommandLine.{InvocationValue, unary, replay, serve, probe, check, command_line, invocation_of}
 
 abbrev pub invocation_value : Invocation → InvocationValue
 invocation_value (invocation.Unary file) = unary (option_map (λ f. f.now) file)
 invocation_value (invocation.Replay file) = replay file.now
-invocation_value (invocation.Serve work launcher turns instances) =
-    serve work.now (option_map (λ l. l.now) launcher) turns (map (λ word. word.now) instances.items)
+invocation_value (invocation.Serve s) =
+    serve s.work.now (option_map (λ l. l.now) s.launcher) s.turns s.listen.now
+    (option_map (λ f. f.now) s.metrics) (option_map (λ f. f.now) s.stop)
+    (map (λ word. word.now) s.instances.items)
 invocation_value (invocation.Probe port send want turns) = probe port send.now want turns
+invocation_value (invocation.Check c) =
+    check c.port c.host.now (option_map (λ n. n.now) c.instance) c.seconds
 
 -- an argument with this rule, which is for its own command alone
 abbrev pub HasRule : Rule → Arg → Type 0
@@ -41,13 +45,13 @@ invocation_asked words = invocation_of (subcommand_of command_line words)
 abbrev pub HasNoFault : List Text → Type 0
 HasNoFault words = fault_of command_line words ≡ []
 
--- the text is for one of the faults that `clap` finds in the words, or for a missing argument where
--- they ask for nothing
+-- the text is for one of the faults that `clap` finds in the words, or for a bad value where they
+-- ask for nothing
 abbrev pub IsFaultOf : List Text → CommandLineError → Type 0
 IsFaultOf words NoMemory = ⊤
 IsFaultOf words (Answered error) =
     IsAmong (kind_of error) (fault_of command_line words)
-    ⊎ ((kind_of error ≡ MissingRequiredArgument) × (invocation_asked words ≡ None))
+    ⊎ ((kind_of error ≡ ValueValidation) × (invocation_asked words ≡ None))
 
 -- an error of `clap` as the crate's own: it is kept, but for want of memory
 abbrev pub IsFrom : Error → CommandLineError → Type 0

@@ -1,18 +1,21 @@
 //! The command line of `remoted`.
 #![tactic(auto)]
 
+mod arguments;
+
 ghost use Rattle.std.specs.Prelude.{◌≡◌, ◌≢◌, ◌⊎◌, ℕ, List, Some, None, true, map, string_bytes, IfOk, IfErr, option_map};
-ghost use Rattle.clap.specs.Words.{App, Shape, all_of, app_of, first_of, found_of, kind_of, new_app, new_rule, rows_of, subcommand_rows_of, with_subcommand};
+ghost use Rattle.clap.specs.Words.{App, Shape, all_of, app_of, first_of, found_of, kind_of, new_app, rows_of, subcommand_rows_of, with_subcommand};
 ghost use Rattle.clap.specs.declared.error.kind.ErrorKind.TheVariants.{DisplayHelp, DisplayVersion};
-ghost use Rattle.command_line.specs.CommandLine.{command_line, file_rule, long_option, count_parser, number_of, port_rule, send_rule, want_rule, turns_rule, launcher_rule, script_command, probe_command, probe_of, work_rule, instances_rule, serve_command, serve_of, file_or_probe_by, invocation_by, invocation_of};
-ghost use Rattle.command_line.specs.Shown.{invocation_value, invocation_asked, HasApp, HasNoFault, HasRule, HasShape, IsFaultOf, IsFrom};
+ghost use Rattle.command_line.specs.CommandLine.{command_line, number_of, script_command, probe_command, probe_of, check_command, check_of, serve_command, lasting_of, serve_of, file_or_peer_by, invocation_by, invocation_of};
+ghost use Rattle.command_line.specs.Shown.{invocation_value, invocation_asked, HasApp, HasNoFault, HasShape, IsFaultOf, IsFrom};
 
+use crate::arguments::{
+    INSTANCES, file, host, instance, instances, lasting, launcher, listen, metrics, port, seconds,
+    send, stop, turns, want, work,
+};
 use clap::error::ErrorKind;
-use clap::{Arg, ArgAction, ArgMatches, Command, Error, value_parser};
+use clap::{ArgMatches, Command, Error};
 use std::alloc::{AllocError, Global};
-
-/// The name of the words for instances.
-const INSTANCES: &str = "NAME:PORT:QUOTA:SLOTS[:PARENT]";
 
 const UNARY_ABOUT: &str =
     "Carry out a script of calls on instances of its own, without connections";
@@ -29,7 +32,48 @@ const REPLAY_LINES: &str =
 const PROBE_ABOUT: &str =
     "Send a file's bytes to a server, and print the first bytes that come back";
 
-const SERVE_ABOUT: &str = "Serve instances on ports of 127.0.0.1";
+const CHECK_ABOUT: &str =
+    "Ask a server on a port what it can do: status 0 where it answers in time, else 4";
+
+const SERVE_ABOUT: &str = "Serve instances on ports of this host";
+
+/// The version of the program.
+pub const VERSION: &str = "0.2.0";
+
+/// The value of `--turns` that stands for more turns than a server ever takes.
+const ENDLESS: &str = "endless";
+
+/// The most turns that a number asks for.
+const MOST_TURNS: u64 = 9_223_372_036_854_775_807;
+
+/// What is served, where, and for how long.
+#[derive(Drop)]
+pub struct Service<'a> {
+    /// The folder for the work of actions.
+    pub work: &'a str,
+    /// What starts the program of each action, where it is not started as it is.
+    pub launcher: Option<&'a str>,
+    /// The most turns.
+    pub turns: u64,
+    /// The address on whose ports the instances are served.
+    pub listen: &'a str,
+    /// The file to which the figures of the server are written, where they are.
+    pub metrics: Option<&'a str>,
+    /// The file that ends the server once it is there.
+    pub stop: Option<&'a str>,
+    /// A word `NAME:PORT:QUOTA:SLOTS[:PARENT]` for each instance.
+    pub instances: Vec<&'a str>,
+}
+
+/// Which server is asked, and for how many seconds its answer is waited for at most.
+#[derive(Clone, Copy)]
+pub struct Question<'a> {
+    pub port: u16,
+    pub host: &'a str,
+    /// The name of the instance, where one is named.
+    pub instance: Option<&'a str>,
+    pub seconds: u64,
+}
 
 /// What the program is asked for.
 #[derive(Drop)]
@@ -42,16 +86,8 @@ pub enum Invocation<'a> {
     Replay {
         file: &'a str,
     },
-    /// Serves instances on ports of this host, for so many turns.
-    Serve {
-        /// The folder for the work of actions.
-        work: &'a str,
-        /// What starts the program of each action, where it is not started as it is.
-        launcher: Option<&'a str>,
-        turns: u64,
-        /// A word `NAME:PORT:QUOTA:SLOTS[:PARENT]` for each instance.
-        instances: Vec<&'a str>,
-    },
+    /// Serves instances on ports of this host.
+    Serve(Service<'a>),
     /// Sends the bytes of a file to a port of this host, and prints the first `want` that come
     /// back, in at most that many turns.
     Probe {
@@ -60,104 +96,8 @@ pub enum Invocation<'a> {
         want: u64,
         turns: u64,
     },
-}
-
-/// An argument that has to be given, and goes by its place.
-fn positional<'a>(alloc: Global, name: &'a str, help: &'a str, action: ArgAction) -> Arg<'a>
-    ensures { HasRule (record (new_rule name.entry.now)
-        { required = true; action = Some action }) result }
-{
-    Arg::new(alloc, name)
-        .help(help)
-        .required(true)
-        .action(action)
-}
-
-fn file<'a>(alloc: Global, lines: &'a str) -> Arg<'a>
-    ensures { HasRule file_rule result }
-{
-    positional(alloc, "FILE", lines, ArgAction::Set)
-}
-
-fn instances<'a>(alloc: Global) -> Arg<'a>
-    ensures { HasRule instances_rule result }
-{
-    let help =
-        "An instance: name, port, quota in bytes, most actions at once, and perhaps its parent";
-    positional(alloc, INSTANCES, help, ArgAction::Append)
-}
-
-/// An option `--NAME VALUE`.
-fn long_option<'a>(
-    alloc: Global,
-    name: &'a str,
-    value: &'a str,
-    help: &'a str,
-    required: bool,
-) -> Arg<'a>
-    ensures { HasRule (record (long_option name.entry.now) { required = required }) result }
-{
-    Arg::new(alloc, name)
-        .long(name)
-        .value_name(value)
-        .help(help)
-        .required(required)
-        .action(ArgAction::Set)
-}
-
-/// An option `--NAME VALUE` whose value is a whole number from 0 to 2^63 - 1.
-fn count_option<'a>(
-    alloc: Global,
-    name: &'a str,
-    value: &'a str,
-    help: &'a str,
-    required: bool,
-) -> Arg<'a>
-    ensures { HasRule (record (long_option name.entry.now)
-        { required = required; parser = Some count_parser }) result }
-{
-    let option = long_option(alloc, name, value, help, required);
-    option.value_parser(value_parser!(u64).range(..=i64::MAX))
-}
-
-fn send<'a>(alloc: Global) -> Arg<'a>
-    ensures { HasRule send_rule result }
-{
-    long_option(alloc, "send", "FILE", "The file whose bytes are sent", true)
-}
-
-fn work<'a>(alloc: Global) -> Arg<'a>
-    ensures { HasRule work_rule result }
-{
-    let help = "The folder for the work of actions; it is made if it is not there";
-    long_option(alloc, "work", "DIR", help, true)
-}
-
-fn launcher<'a>(alloc: Global) -> Arg<'a>
-    ensures { HasRule launcher_rule result }
-{
-    let help = "The program that starts the program of each action, as in a sandbox or elsewhere";
-    long_option(alloc, "launcher", "PROGRAM", help, false)
-}
-
-fn port<'a>(alloc: Global) -> Arg<'a>
-    ensures { HasRule port_rule result }
-{
-    let help = "The port of 127.0.0.1 to connect to";
-    long_option(alloc, "port", "P", help, true).value_parser(value_parser!(u16).range(1..))
-}
-
-fn turns<'a>(alloc: Global) -> Arg<'a>
-    ensures { HasRule turns_rule result }
-{
-    let help = "How many turns to take at most";
-    count_option(alloc, "turns", "T", help, false).default_value("1000000000")
-}
-
-fn want<'a>(alloc: Global) -> Arg<'a>
-    ensures { HasRule want_rule result }
-{
-    count_option(alloc, "want", "N", "How many bytes to wait for", true)
+    /// Asks the server on a port of a host what it can do.
+    Check(Question<'a>),
 }
 
 /// A command that has no arguments yet.
@@ -186,13 +126,23 @@ fn probe<'a>(alloc: Global) -> Result<Command<'a>, AllocError>
     described(alloc, "probe", PROBE_ABOUT).args(args)
 }
 
+fn check<'a>(alloc: Global) -> Result<Command<'a>, AllocError>
+    ensures { IfOk result (HasShape check_command) }
+{
+    let args = vec![in alloc; port(alloc), host(alloc), instance(alloc), seconds(alloc)]?;
+    described(alloc, "check", CHECK_ABOUT).args(args)
+}
+
 fn serve<'a>(alloc: Global) -> Result<Command<'a>, AllocError>
     ensures { IfOk result (HasShape serve_command) }
 {
     let args = vec![in alloc;
         work(alloc),
         launcher(alloc),
-        turns(alloc),
+        lasting(alloc),
+        listen(alloc),
+        metrics(alloc),
+        stop(alloc),
         instances(alloc),
     ]?;
     described(alloc, "serve", SERVE_ABOUT).args(args)
@@ -226,7 +176,7 @@ fn with_command<'a>(
 fn command<'a>(alloc: Global) -> Result<Command<'a>, AllocError>
     ensures { IfOk result (λ c. app_of c ≡ command_line) }
 {
-    let command = Command::new(alloc, "remoted").version("0.1.0").about(
+    let command = Command::new(alloc, "remoted").version(VERSION).about(
         "A remote build cache for Bazel. Without a command it carries out the script on standard input",
     );
     let unary = script_command(alloc, "unary", UNARY_ABOUT, UNARY_LINES);
@@ -234,6 +184,7 @@ fn command<'a>(alloc: Global) -> Result<Command<'a>, AllocError>
     let replay = script_command(alloc, "replay", REPLAY_ABOUT, REPLAY_LINES);
     let command = with_command(command, replay);
     let command = with_command(command, probe(alloc));
+    let command = with_command(command, check(alloc));
     with_command(command, serve(alloc))
 }
 
@@ -262,6 +213,33 @@ fn requested_probe<'a>(found: &ArgMatches<'a>) -> Option<Invocation<'a>>
     })
 }
 
+fn requested_check<'a>(found: &ArgMatches<'a>) -> Option<Invocation<'a>>
+    ensures { option_map invocation_value result ≡ check_of (rows_of (found_of found.now)) }
+{
+    let port = number(found, "port")?;
+    Some(Invocation::Check(Question {
+        port: u16::try_from(port).ok()?,
+        host: text(found, "host")?,
+        instance: text(found, "instance"),
+        seconds: number(found, "seconds")?,
+    }))
+}
+
+/// How many turns a server takes at most.
+fn lasting_turns(found: &ArgMatches<'_>) -> Option<u64>
+    ensures { result ≡ lasting_of (rows_of (found_of found.now)) }
+{
+    if text(found, "turns")? == ENDLESS {
+        return Some(u64::MAX);
+    }
+    let turns = number(found, "turns")?;
+    if turns <= MOST_TURNS {
+        Some(turns)
+    } else {
+        None
+    }
+}
+
 fn texts<'a>(
     alloc: Global,
     found: &ArgMatches<'a>,
@@ -286,23 +264,29 @@ fn requested_serve<'a>(
     let Some(work) = text(found, "work") else {
         return Ok(None);
     };
-    let Some(turns) = number(found, "turns") else {
+    let Some(turns) = lasting_turns(found) else {
+        return Ok(None);
+    };
+    let Some(listen) = text(found, "listen") else {
         return Ok(None);
     };
     match texts(alloc, found, INSTANCES)? {
-        Some(instances) => Ok(Some(Invocation::Serve {
+        Some(instances) => Ok(Some(Invocation::Serve(Service {
             work,
             launcher: text(found, "launcher"),
             turns,
+            listen,
+            metrics: text(found, "metrics"),
+            stop: text(found, "stop"),
             instances,
-        })),
+        }))),
         None => Ok(None),
     }
 }
 
-fn requested_file_or_probe<'a>(name: &str, found: &ArgMatches<'a>) -> Option<Invocation<'a>>
+fn requested_file_or_peer<'a>(name: &str, found: &ArgMatches<'a>) -> Option<Invocation<'a>>
     ensures { option_map invocation_value result
-        ≡ file_or_probe_by name.now (rows_of (found_of found.now)) }
+        ≡ file_or_peer_by name.now (rows_of (found_of found.now)) }
 {
     match name {
         "unary" => Some(Invocation::Unary {
@@ -311,6 +295,7 @@ fn requested_file_or_probe<'a>(name: &str, found: &ArgMatches<'a>) -> Option<Inv
         "replay" => Some(Invocation::Replay {
             file: text(found, "FILE")?,
         }),
+        "check" => requested_check(found),
         _ => requested_probe(found),
     }
 }
@@ -326,7 +311,7 @@ fn requested_by<'a>(
     if name == "serve" {
         requested_serve(alloc, found)
     } else {
-        Ok(requested_file_or_probe(name, found))
+        Ok(requested_file_or_peer(name, found))
     }
 }
 
@@ -374,10 +359,12 @@ impl From<Error> for CommandLineError {
     }
 }
 
-fn missing(command: &mut Command<'_>) -> CommandLineError
+/// The one value that `clap` does not look at is that of a server's turns.
+fn bad_turns(command: &mut Command<'_>) -> CommandLineError
     ensures { (words : List (List ℕ)) → invocation_asked words ≡ None → IsFaultOf words result }
 {
-    match command.error(ErrorKind::MissingRequiredArgument, "an argument is missing") {
+    let text = "--turns is not a number from 0 to 9223372036854775807, and not endless";
+    match command.error(ErrorKind::ValueValidation, text) {
         Ok(error) => CommandLineError::from(error),
         Err(_) => CommandLineError::NoMemory,
     }
@@ -403,7 +390,7 @@ fn asked<'a>(
     drop(matches);
     match requested? {
         Some(invocation) => Ok(invocation),
-        None => Err(missing(command)),
+        None => Err(bad_turns(command)),
     }
 }
 

@@ -1,7 +1,9 @@
 //! What has to be there before instances are served, and what an operator is told of it.
 
 use crate::serve_ports::is_memory;
-use host_runs::{Complaint, Work, WorkFault, begin_work, has_sessions, most_open, sees_ends};
+use host_runs::{
+    Complaint, Work, WorkFault, begin_work, has_leases, has_sessions, most_open, sees_ends,
+};
 use instance_words::Instances;
 use std::io::{self, Write};
 
@@ -70,6 +72,18 @@ pub fn can_run<E: Write>(rt: &HostRuntime, errors: &mut E) -> io::Result<bool> {
             Ok(false)
         }
     }
+}
+
+/// Tells where a program of an action can let the server wait.
+pub fn tell_leases<E: Write>(rt: &HostRuntime, errors: &mut E) -> io::Result<()> {
+    if has_leases(rt)? {
+        writeln!(
+            errors,
+            "remoted: an action can stop the server for 45 seconds (fs.lease-break-time) by a lease on \
+             each of its outputs: end that by sysctl fs.leases-enable=0, or by --launcher sandbox"
+        )?;
+    }
+    Ok(())
 }
 
 /// A place for the runs of this start; where there is none, that is told, and there is no answer.

@@ -2,9 +2,16 @@
 #![tactic(auto)]
 
 mod beginning;
+mod checking;
+mod figures;
+mod notices;
+mod operator;
 mod serve_ports;
+mod standard_error;
+mod watching;
 
-use crate::serve_ports::{Served, serve_ports};
+use crate::checking::check_port;
+use crate::serve_ports::serve_ports;
 use command_line::{CommandLineError, Invocation, parse};
 use probe::{Request, probe};
 use program_status::{Fault, Status, read_file};
@@ -105,20 +112,8 @@ fn perform<O: Write, E: Write>(
             want,
             turns,
         } => probe_with_file(rt, *port, send, (*want, *turns), output, errors),
-        Invocation::Serve {
-            work,
-            launcher,
-            turns,
-            instances,
-        } => {
-            let served = Served {
-                work,
-                launcher: *launcher,
-                turns: *turns,
-                words: instances,
-            };
-            serve_ports(rt, &served, output, errors)
-        }
+        Invocation::Check(question) => check_port(rt, *question, output, errors),
+        Invocation::Serve(service) => serve_ports(rt, service, output, errors),
     }
 }
 

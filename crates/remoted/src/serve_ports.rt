@@ -1,32 +1,27 @@
 //! `remoted serve`.
 
-use crate::beginning::{begin, can_open, can_run, slots_of};
+use crate::beginning::{begin, can_open, can_run, slots_of, tell_leases};
+use crate::operator::Operator;
+use crate::standard_error::StandardError;
+use crate::watching::{MetricsFile, StopFile};
+use command_line::Service;
 use host_runs::{HostFolder, HostPrograms, Launcher, Work, launcher_path};
 use host_sockets::HostSockets;
 use instance_words::{Instances, InstancesFault, instances_of};
 use job_runs::JobRunner;
-use serve::serve;
+use serve::{ErrorLines, Sockets, Tally, serve};
+use server_events::Configs;
+use std::alloc::{AllocError, Global};
 use std::io::{self, ErrorKind, Write};
-use std::thread;
+use std::net::{IpAddr, Ipv4Addr, SocketAddr};
 use std::time::Duration;
+use std::{fs, thread};
 
-/// What is served, and for how long.
-#[derive(Drop)]
-pub struct Served<'a> {
-    /// The folder for the work of actions.
-    pub work: &'a str,
-    /// What starts the program of each action, where it is not started as it is.
-    pub launcher: Option<&'a str>,
-    pub turns: u64,
-    /// A word `NAME:PORT:QUOTA:SLOTS[:PARENT]` for each instance.
-    pub words: &'a [&'a str],
-}
-
-const DONE: u8 = 0;
+pub const DONE: u8 = 0;
 
 const FAILED: u8 = 1;
 
-const BAD_WORDS: u8 = 2;
+pub const BAD_WORDS: u8 = 2;
 
 /// How often it is tried, once a millisecond, to end what runs, before the program ends. A launcher
 /// that is told to end may take ten seconds.
@@ -55,20 +50,32 @@ fn tell_fault<E: Write>(words: &[&str], fault: InstancesFault, errors: &mut E) -
 /// no.
 fn listen<E: Write>(
     sockets: &mut HostSockets<'_>,
+    listen: IpAddr,
     ports: &[u16],
     errors: &mut E,
 ) -> io::Result<bool> {
     for port in ports {
-        match sockets.listen(*port) {
+        let address = SocketAddr::new(listen, *port);
+        match sockets.listen_at(address) {
             Ok(()) => {}
             Err(error) if is_memory(&error) => return Err(error),
             Err(error) => {
-                writeln!(errors, "remoted: cannot listen on {port}: {error}")?;
+                tell_taken(address, &error, errors)?;
                 return Ok(false);
             }
         }
     }
     Ok(true)
+}
+
+/// Tells that there is no listening at an address, which is named where it is not the usual one.
+fn tell_taken<E: Write>(address: SocketAddr, error: &io::Error, errors: &mut E) -> io::Result<()> {
+    if address.ip() == IpAddr::V4(Ipv4Addr::LOCALHOST) {
+        let port = address.port();
+        writeln!(errors, "remoted: cannot listen on {port}: {error}")
+    } else {
+        writeln!(errors, "remoted: cannot listen on {address}: {error}")
+    }
 }
 
 /// Prints which instance is served on which port.
@@ -84,11 +91,11 @@ fn announce<O: Write>(instances: &Instances, output: &mut O) -> io::Result<()> {
 /// is no answer.
 fn launcher_of<E: Write>(
     rt: &HostRuntime,
-    served: &Served<'_>,
+    service: &Service<'_>,
     instances: &Instances,
     errors: &mut E,
 ) -> io::Result<Option<Option<Launcher>>> {
-    let Some(program) = served.launcher else {
+    let Some(program) = service.launcher else {
         return Ok(Some(None));
     };
     match launcher_path(rt, program) {
@@ -113,7 +120,7 @@ fn names_of(rt: &HostRuntime, instances: &Instances) -> io::Result<Vec<String>> 
 /// that is told, and there is no answer.
 fn place_of<E: Write>(
     rt: &HostRuntime,
-    path: &str,
+    service: &Service<'_>,
     instances: &Instances,
     errors: &mut E,
 ) -> io::Result<Option<Work>> {
@@ -123,7 +130,11 @@ fn place_of<E: Write>(
     if !can_run(rt, errors)? {
         return Ok(None);
     }
-    begin(rt, path, errors)
+    let work = begin(rt, service.work, errors)?;
+    if work.is_some() && service.launcher.is_none() {
+        tell_leases(rt, errors)?;
+    }
+    Ok(work)
 }
 
 /// Runs in this place, of the jobs of these instances.
@@ -139,70 +150,188 @@ fn job_runner<'a>(
     Ok(JobRunner::new(rt.alloc(), folder, programs, slots_of(instances))?)
 }
 
-/// Ends what runs, and removes its folders.
-fn end_runs(rt: &HostRuntime, runs: &mut JobRunner<HostFolder<'_>, HostPrograms<'_>>) {
+/// Ends what runs, and removes its folders. One that is left is a line.
+fn end_runs(
+    rt: &HostRuntime,
+    configs: &Configs,
+    sockets: &mut HostSockets<'_>,
+    runs: &mut JobRunner<HostFolder<'_>, HostPrograms<'_>>,
+    lines: &mut ErrorLines<StandardError>,
+) {
     for _ in 0..MOST_ENDINGS {
-        if runs.end_all() == 0 {
+        if runs.end_all(configs, sockets.now(), lines) == 0 {
             return;
         }
         thread::sleep(rt, Duration::from_millis(1));
     }
 }
 
-/// Serves these instances.
+/// What the operator is told, and how the turns end but for their number.
+fn operator_of<'a>(
+    rt: &'a HostRuntime,
+    configs: &'a Configs,
+    service: &Service<'a>,
+) -> Result<Operator<'a>, AllocError> {
+    let metrics = match service.metrics {
+        Some(path) => Some(MetricsFile::new(rt, path)?),
+        None => None,
+    };
+    let stop = match service.stop {
+        Some(path) => Some(StopFile::new(rt, path)),
+        None => None,
+    };
+    Operator::new(rt, configs, metrics, stop)
+}
+
+/// Removes the folder of this start where runs were, unless something is left in it: the next start
+/// does that then.
+fn remove_start(rt: &HostRuntime, path: &str) {
+    if !path.is_empty() {
+        let _ = fs::remove_dir(rt, path);
+    }
+}
+
+/// Serves for so many turns, and then ends what runs. Lines about runs go to standard error, of which
+/// none is waited for; so does the last, which says how many events were cut short, if any were.
+fn serve_turns(
+    rt: &HostRuntime,
+    instances: &Instances,
+    sockets: &mut HostSockets<'_>,
+    runs: &mut JobRunner<HostFolder<'_>, HostPrograms<'_>>,
+    service: &Service<'_>,
+) -> Result<(), AllocError> {
+    let (alloc, configs) = (rt.alloc(), &instances.configs);
+    let count = configs.instances().len();
+    let mut lines = ErrorLines::new(alloc, StandardError::new(rt), count)?;
+    let mut operator = operator_of(rt, configs, service)?;
+    operator.tell_start();
+    let served = serve(
+        alloc,
+        configs,
+        sockets,
+        runs,
+        &mut lines,
+        &mut operator,
+        service.turns,
+    );
+    end_runs(rt, configs, sockets, runs, &mut lines);
+    operator.tell_end();
+    let told = tell_end(alloc, served, &mut lines);
+    lines.output.end();
+    told
+}
+
+/// Tells how many events were cut short, and how many lines were dropped, if any were.
+fn tell_end(
+    alloc: Global,
+    served: Result<Tally, AllocError>,
+    lines: &mut ErrorLines<StandardError>,
+) -> Result<(), AllocError> {
+    let cut = served?.cut;
+    if cut > 0 {
+        let line = format!(in alloc; "remoted: cut short for want of memory: {cut}\n")?;
+        lines.write_line(line.as_str());
+    } else if lines.dropped() > 0 {
+        lines.write_line("");
+    }
+    Ok(())
+}
+
+/// Whether the file that ends the server is there before it begins, which is told.
+fn is_stopped<E: Write>(
+    rt: &HostRuntime,
+    service: &Service<'_>,
+    errors: &mut E,
+) -> io::Result<bool> {
+    let Some(path) = service.stop else {
+        return Ok(false);
+    };
+    if !StopFile::new(rt, path).is_there()? {
+        return Ok(false);
+    }
+    writeln!(errors, "remoted: {path} is there already: remove it")?;
+    Ok(true)
+}
+
+/// Serves these instances at an address.
 fn serve_instances<O: Write, E: Write>(
     rt: &HostRuntime,
-    served: &Served<'_>,
+    service: &Service<'_>,
+    address: IpAddr,
     instances: &Instances,
     output: &mut O,
     errors: &mut E,
 ) -> io::Result<u8> {
-    let Some(launcher) = launcher_of(rt, served, instances, errors)? else {
+    let Some(launcher) = launcher_of(rt, service, instances, errors)? else {
         return Ok(FAILED);
     };
-    if !can_open(instances, errors)? {
+    if !can_open(instances, errors)? || is_stopped(rt, service, errors)? {
         return Ok(FAILED);
     }
     let mut sockets = HostSockets::new(rt, rt.alloc())?;
-    if !listen(&mut sockets, &instances.ports, errors)? {
+    if !listen(&mut sockets, address, &instances.ports, errors)? {
         return Ok(FAILED);
     }
-    let Some(work) = place_of(rt, served.work, instances, errors)? else {
+    let Some(work) = place_of(rt, service, instances, errors)? else {
         return Ok(FAILED);
     };
+    let start = String::from_str(rt.alloc(), work.path())?;
     let mut runs = job_runner(rt, work, launcher, instances)?;
     announce(instances, output)?;
-    let (alloc, configs) = (rt.alloc(), &instances.configs);
-    let ended = serve(
-        alloc,
-        configs,
-        &mut sockets,
-        &mut runs,
-        errors,
-        served.turns,
-    );
-    end_runs(rt, &mut runs);
-    let cut = ended?.cut;
-    if cut > 0 {
-        writeln!(errors, "remoted: cut short for want of memory: {cut}")?;
-    }
+    let ended = serve_turns(rt, instances, &mut sockets, &mut runs, service);
+    remove_start(rt, start.as_str());
+    ended?;
     Ok(DONE)
 }
 
-/// Serves instances on ports of 127.0.0.1, and gives the status with which the program ends. An
+/// Whether the figures would be written to the file that ends the server, or beside them.
+fn are_one_file(metrics: &str, stop: &str) -> bool {
+    metrics == stop || stop.strip_suffix(".new") == Some(metrics)
+}
+
+/// The address of the words. Where it is none, or another word is wrong, that is told, and there is
+/// no answer.
+fn address_of<E: Write>(service: &Service<'_>, errors: &mut E) -> io::Result<Option<IpAddr>> {
+    if service.work.is_empty() {
+        writeln!(errors, "remoted: --work names no folder")?;
+        return Ok(None);
+    }
+    if let (Some(metrics), Some(stop)) = (service.metrics, service.stop) {
+        if are_one_file(metrics, stop) {
+            writeln!(errors, "remoted: writing {metrics} would make {stop}")?;
+            return Ok(None);
+        }
+    }
+    ip_of("--listen", service.listen, errors)
+}
+
+/// The address that a word is; where it is none, that is told, and there is no answer.
+pub fn ip_of<E: Write>(option: &str, word: &str, errors: &mut E) -> io::Result<Option<IpAddr>> {
+    match word.parse::<IpAddr>() {
+        Ok(address) => Ok(Some(address)),
+        Err(_) => {
+            writeln!(
+                errors,
+                "remoted: {option} is no IPv4 or IPv6 address: {word}"
+            )?;
+            Ok(None)
+        }
+    }
+}
+
+/// Serves instances on ports of this host, and gives the status with which the program ends. An
 /// error is one of the streams, or want of memory.
 pub fn serve_ports<O: Write, E: Write>(
     rt: &HostRuntime,
-    served: &Served<'_>,
+    service: &Service<'_>,
     output: &mut O,
     errors: &mut E,
 ) -> io::Result<u8> {
-    if served.work.is_empty() {
-        writeln!(errors, "remoted: --work names no folder")?;
+    let Some(address) = address_of(service, errors)? else {
         return Ok(BAD_WORDS);
-    }
-    match instances_of(rt.alloc(), served.words) {
-        Ok(instances) => serve_instances(rt, served, &instances, output, errors),
-        Err(fault) => tell_fault(served.words, fault, errors),
+    };
+    match instances_of(rt.alloc(), &service.instances) {
+        Ok(instances) => serve_instances(rt, service, address, &instances, output, errors),
+        Err(fault) => tell_fault(&service.instances, fault, errors),
     }
 }

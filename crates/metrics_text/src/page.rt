@@ -1,0 +1,200 @@
+//! A text that grows by whole lines, each in the form that Prometheus reads.
+
+ghost use Rattle.std.specs.Prelude.{◌≡◌, ◌<◌, ◌+◌, ◌++◌, [], OnOk};
+ghost use Rattle.metrics_text.specs.Lines.{kind_word, label_text, labels_text, more_labels, escaped, family_lines, sample_line, thousandths, value_text};
+ghost use Rattle.std.specs.Fmt.{decimal};
+
+use std::alloc::{AllocError, Global};
+
+/// Whether samples only rise, or may fall too.
+#[derive(Clone, Copy, PartialEq, Eq)]
+pub enum Kind {
+    Counter,
+    Gauge,
+}
+
+/// What is said of all samples of one name.
+#[derive(Clone, Copy)]
+pub struct Family<'a> {
+    pub name: &'a str,
+    pub help: &'a str,
+    pub kind: Kind,
+}
+
+/// A label of a sample.
+#[derive(Clone, Copy)]
+pub struct Label<'a> {
+    pub name: &'a str,
+    pub value: &'a str,
+}
+
+/// What a sample says.
+#[derive(Clone, Copy)]
+pub enum Value {
+    Whole(u64),
+    /// A time, which is shown in seconds.
+    Milliseconds(u64),
+}
+
+fn kind_word(kind: Kind) -> &'static str
+    ensures { result.now ≡ kind_word kind }
+{
+    match kind {
+        Kind::Counter => "counter",
+        Kind::Gauge => "gauge",
+    }
+}
+
+/// Adds a label's value, with a backslash before each byte that would end it.
+fn add_escaped(text: &mut Vec<u8>, value: &[u8]) -> Result<(), AllocError>
+    ensures { OnOk result (text.new.items ≡ text.old.items ++ escaped value.entry.now) }
+{
+    let mut left = value;
+    while let [first, rest @ ..] = left {
+        match *first {
+            b'\\' => text.extend_from_slice(b"\\\\")?,
+            b'"' => text.extend_from_slice(b"\\\"")?,
+            b'\n' => text.extend_from_slice(b"\\n")?,
+            byte => text.push(byte)?,
+        }
+        left = rest;
+    }
+    Ok(())
+}
+
+fn add_label(text: &mut Vec<u8>, label: Label<'_>) -> Result<(), AllocError>
+    ensures { OnOk result (text.new.items ≡ text.old.items ++ label_text label.entry) }
+{
+    text.extend_from_slice(label.name.as_bytes())?;
+    text.extend_from_slice(b"=\"")?;
+    add_escaped(text, label.value.as_bytes())?;
+    text.push(b'"')?;
+    Ok(())
+}
+
+/// Adds labels behind a first one.
+fn add_more_labels(text: &mut Vec<u8>, labels: &[Label<'_>]) -> Result<(), AllocError>
+    ensures { OnOk result (text.new.items ≡ text.old.items ++ more_labels labels.entry.now) }
+{
+    let mut left = labels;
+    while let [first, rest @ ..] = left {
+        text.push(b',')?;
+        add_label(text, *first)?;
+        left = rest;
+    }
+    Ok(())
+}
+
+fn add_labels(text: &mut Vec<u8>, labels: &[Label<'_>]) -> Result<(), AllocError>
+    ensures { OnOk result (text.new.items ≡ text.old.items ++ labels_text labels.entry.now) }
+{
+    let [first, rest @ ..] = labels else {
+        return Ok(());
+    };
+    text.push(b'{')?;
+    add_label(text, *first)?;
+    add_more_labels(text, rest)?;
+    text.push(b'}')?;
+    Ok(())
+}
+
+/// The digit that a number below 10 is.
+fn digit(number: u64) -> u8
+    requires { number < 10 }
+    ensures { result ≡ 48 + number }
+{
+    b'0' + number as u8
+}
+
+fn add_number(alloc: Global, text: &mut Vec<u8>, number: u64) -> Result<(), AllocError>
+    ensures { OnOk result (text.new.items ≡ text.old.items ++ decimal number) }
+{
+    let digits = format!(in alloc; "{number}")?;
+    text.extend_from_slice(digits.as_bytes())
+}
+
+/// Adds the three digits of a number of thousandths.
+fn add_thousandths(text: &mut Vec<u8>, time: u64) -> Result<(), AllocError>
+    ensures { OnOk result (text.new.items ≡ text.old.items ++ thousandths time) }
+{
+    text.push(digit(time / 100 % 10))?;
+    text.push(digit(time / 10 % 10))?;
+    text.push(digit(time % 10))?;
+    Ok(())
+}
+
+fn add_value(alloc: Global, text: &mut Vec<u8>, value: Value) -> Result<(), AllocError>
+    ensures { OnOk result (text.new.items ≡ text.old.items ++ value_text value) }
+{
+    match value {
+        Value::Whole(number) => add_number(alloc, text, number),
+        Value::Milliseconds(time) => {
+            add_number(alloc, text, time / 1000)?;
+            text.push(b'.')?;
+            add_thousandths(text, time)
+        }
+    }
+}
+
+/// A text that grows by whole lines. Where a request for memory is refused for one, a front of it
+/// may stand.
+#[derive(Drop)]
+pub struct Page {
+    alloc: Global,
+    text: Vec<u8>,
+}
+
+impl Page {
+    pub fn new(alloc: Global) -> Page
+        ensures { result.text.items ≡ [] }
+    {
+        Page {
+            alloc,
+            text: Vec::new(alloc),
+        }
+    }
+
+    /// The text, as far as it was written.
+    pub fn into_text(self) -> Vec<u8>
+        ensures { result ≡ self.text }
+    {
+        let Page { text, .. } = self;
+        text
+    }
+
+    /// Adds what is said of a family: its lines are to come behind.
+    pub fn add_family(&mut self, family: &Family<'_>) -> Result<(), AllocError>
+        ensures { OnOk result (self.new.text.items ≡ self.old.text.items ++ family_lines family.now) }
+    {
+        let text = &mut self.text;
+        text.extend_from_slice(b"# HELP ")?;
+        text.extend_from_slice(family.name.as_bytes())?;
+        text.push(b' ')?;
+        text.extend_from_slice(family.help.as_bytes())?;
+        text.extend_from_slice(b"\n# TYPE ")?;
+        text.extend_from_slice(family.name.as_bytes())?;
+        text.push(b' ')?;
+        text.extend_from_slice(kind_word(family.kind).as_bytes())?;
+        text.push(b'\n')?;
+        Ok(())
+    }
+
+    /// Adds a sample of a family.
+    pub fn add_sample(
+        &mut self,
+        family: &Family<'_>,
+        labels: &[Label<'_>],
+        value: Value,
+    ) -> Result<(), AllocError>
+        ensures { OnOk result (self.new.text.items ≡ self.old.text.items
+            ++ sample_line family.now.name.now labels.now value) }
+    {
+        let text = &mut self.text;
+        text.extend_from_slice(family.name.as_bytes())?;
+        add_labels(text, labels)?;
+        text.push(b' ')?;
+        add_value(self.alloc, text, value)?;
+        text.push(b'\n')?;
+        Ok(())
+    }
+}

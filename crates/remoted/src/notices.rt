@@ -1,0 +1,183 @@
+//! Lines for what an operator has to know of an instance: how often it came since the last line.
+
+use crate::figures::FAULTS;
+use crate::standard_error::StandardError;
+use instance_core::InstanceSizes;
+use rpc::Method;
+use serve::{ErrorLines, InstanceCounts, Sight};
+use server_events::Configs;
+use std::alloc::{AllocError, Global};
+
+/// Blobs that were used later than so many milliseconds ago should not be dropped.
+const YOUNG: u64 = 60_000;
+
+/// The place of gRPC's RESOURCE_EXHAUSTED among the statuses.
+const EXHAUSTED: usize = 8;
+
+/// What was counted at an instance when it was looked last.
+#[derive(Clone, Copy)]
+struct Seen {
+    counts: InstanceCounts,
+    uploads: u64,
+    actions: u64,
+    dropped: u64,
+}
+
+/// Lines about each instance.
+#[derive(Drop)]
+pub struct Notices {
+    seen: Vec<Seen>,
+}
+
+/// Writes what came, and how often since the last line, if it did.
+fn tell_more(
+    alloc: Global,
+    lines: &mut ErrorLines<StandardError>,
+    name: &str,
+    what: &str,
+    (was, is): (u64, u64),
+) {
+    if is > was {
+        let count = is - was;
+        let line: Result<String, AllocError> = format!(in alloc;
+            "remoted: {name}: {what}: {count}\n"
+        );
+        if let Ok(line) = line {
+            lines.write_line(line.as_str());
+        }
+    }
+}
+
+fn tell_connections(
+    alloc: Global,
+    lines: &mut ErrorLines<StandardError>,
+    name: &str,
+    was: &InstanceCounts,
+    is: &InstanceCounts,
+) {
+    let refused = (was.refused, is.refused);
+    tell_more(
+        alloc,
+        lines,
+        name,
+        "clients refused, 64 are connected",
+        refused,
+    );
+    let silent = (was.silent, is.silent);
+    tell_more(alloc, lines, name, "silent connections closed", silent);
+    let unmade = (was.refused_for_memory, is.refused_for_memory);
+    tell_more(
+        alloc,
+        lines,
+        name,
+        "clients refused for want of memory",
+        unmade,
+    );
+    let broken = (was.broken, is.broken);
+    tell_more(
+        alloc,
+        lines,
+        name,
+        "connections closed for want of memory",
+        broken,
+    );
+    let faults = was.faulty.iter().zip(is.faulty.iter());
+    for ((was, is), code) in faults.zip(FAULTS.iter()) {
+        if let Ok(what) = format!(in alloc; "connections closed for {code}") {
+            tell_more(alloc, lines, name, what.as_str(), (*was, *is));
+        }
+    }
+}
+
+fn tell_dropped(
+    alloc: Global,
+    lines: &mut ErrorLines<StandardError>,
+    name: &str,
+    was: u64,
+    sizes: &InstanceSizes,
+) {
+    let age = sizes.dropped.last_age;
+    if age >= YOUNG {
+        return;
+    }
+    let seconds = age / 1000;
+    if let Ok(what) = format!(in alloc; "blobs dropped that were used {seconds} s before") {
+        tell_more(
+            alloc,
+            lines,
+            name,
+            what.as_str(),
+            (was, sizes.dropped.count),
+        );
+    }
+}
+
+impl Notices {
+    pub fn new(alloc: Global, instances: usize) -> Result<Notices, AllocError> {
+        let nothing = Seen {
+            counts: InstanceCounts::new(),
+            uploads: 0,
+            actions: 0,
+            dropped: 0,
+        };
+        Ok(Notices {
+            seen: vec![in alloc; nothing; instances]?,
+        })
+    }
+
+    /// Writes what came at each instance since it was looked last.
+    pub fn tell(
+        &mut self,
+        alloc: Global,
+        configs: &Configs,
+        sight: &Sight<'_>,
+        lines: &mut ErrorLines<StandardError>,
+    ) {
+        let mut number = 0;
+        for (seen, config) in self.seen.iter_mut().zip(configs.instances()) {
+            tell_instance(alloc, config.name.as_str(), number, sight, lines, seen);
+            number = number.saturating_add(1);
+        }
+    }
+}
+
+fn tell_instance(
+    alloc: Global,
+    name: &str,
+    number: u32,
+    sight: &Sight<'_>,
+    lines: &mut ErrorLines<StandardError>,
+    seen: &mut Seen,
+) {
+    let Some(served) = sight.server.instance(number) else {
+        return;
+    };
+    let Some(counts) = sight.counts.instances().get(number as usize) else {
+        return;
+    };
+    let (sizes, calls) = (served.instance().sizes(), served.instance().call_counts());
+    let uploads = calls.of(Method::Write).ended[EXHAUSTED];
+    let actions = calls.of(Method::Execute).ended[EXHAUSTED];
+    tell_connections(alloc, lines, name, &seen.counts, counts);
+    tell_more(
+        alloc,
+        lines,
+        name,
+        "uploads refused",
+        (seen.uploads, uploads),
+    );
+    tell_more(
+        alloc,
+        lines,
+        name,
+        "actions refused, the queue is full",
+        (seen.actions, actions),
+    );
+    tell_dropped(alloc, lines, name, seen.dropped, &sizes);
+    *seen = Seen {
+        counts: *counts,
+        uploads,
+        actions,
+        dropped: sizes.dropped.count,
+    };
+}

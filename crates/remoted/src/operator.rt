@@ -1,0 +1,124 @@
+//! What an operator is told of a server while it serves, and how it is ended.
+
+use crate::figures::{JobTimes, Turns, figures_of};
+use crate::notices::Notices;
+use crate::standard_error::StandardError;
+use crate::watching::{MetricsFile, StopFile};
+use command_line::VERSION;
+use serve::{ErrorLines, Sight, Watch};
+use server_events::Configs;
+use std::alloc::AllocError;
+
+/// How often there may be lines of one kind about one instance, in milliseconds.
+const NOTICES: u64 = 1_000;
+
+/// Whoever watches a server for its operator.
+#[derive(Drop)]
+pub struct Operator<'a> {
+    rt: &'a HostRuntime,
+    configs: &'a Configs,
+    metrics: Option<MetricsFile<'a>>,
+    stop: Option<StopFile<'a>>,
+    notices: Notices,
+    lines: ErrorLines<StandardError>,
+    times: JobTimes,
+    turns: Turns,
+    /// When it was looked for notices last.
+    noticed: u64,
+}
+
+impl<'a> Operator<'a> {
+    pub fn new(
+        rt: &'a HostRuntime,
+        configs: &'a Configs,
+        metrics: Option<MetricsFile<'a>>,
+        stop: Option<StopFile<'a>>,
+    ) -> Result<Operator<'a>, AllocError> {
+        let count = configs.instances().len();
+        Ok(Operator {
+            rt,
+            configs,
+            metrics,
+            stop,
+            notices: Notices::new(rt.alloc(), count)?,
+            lines: ErrorLines::new(rt.alloc(), StandardError::new(rt), count)?,
+            times: JobTimes::new(rt.alloc(), count)?,
+            turns: Turns::new(rt),
+            noticed: 0,
+        })
+    }
+
+    /// Writes a line, where figures are written and memory is there for it.
+    fn tell(&mut self, line: Result<String, AllocError>) {
+        if let (Some(_), Ok(line)) = (&self.metrics, line) {
+            self.lines.write_line(line.as_str());
+        }
+    }
+
+    /// Where figures are written: tells that the server begins, with which version, and each
+    /// instance with its limits.
+    pub fn tell_start(&mut self) {
+        let (alloc, instances) = (self.rt.alloc(), self.configs.instances());
+        let count = instances.len();
+        let line: Result<String, AllocError> = format!(in alloc;
+            "remoted: {VERSION} begins with {count} instances\n"
+        );
+        self.tell(line);
+        for config in instances {
+            let (name, quota, slots) = (&config.name, config.quota, config.slots);
+            let line: Result<String, AllocError> = format!(in alloc;
+                "remoted: {name}: {quota} bytes, {slots} slots\n"
+            );
+            self.tell(line);
+        }
+    }
+
+    /// Where figures are written: tells that the server ends.
+    pub fn tell_end(&mut self) {
+        let turns = self.turns.count();
+        let line: Result<String, AllocError> = format!(in self.rt.alloc();
+            "remoted: ends after {turns} turns\n"
+        );
+        self.tell(line);
+    }
+
+    /// Writes the file of figures, where it is due.
+    fn write_figures(&mut self, sight: &Sight<'_>) {
+        let Some(metrics) = &mut self.metrics else {
+            return;
+        };
+        if !metrics.is_due(sight.moment) {
+            return;
+        }
+        let figures = figures_of(self.rt, self.configs, sight, &self.times, &mut self.turns);
+        // Where memory is refused the file stays as it is until the next time.
+        if let Ok(figures) = figures {
+            if let Some(line) = metrics.write(&figures, sight.moment) {
+                self.lines.write_line(line.as_str());
+            }
+        }
+    }
+
+    /// Tells what an operator should know, once a second.
+    fn tell_notices(&mut self, sight: &Sight<'_>) {
+        if sight.moment.saturating_sub(self.noticed) < NOTICES {
+            return;
+        }
+        self.noticed = sight.moment;
+        self.notices
+            .tell(self.rt.alloc(), self.configs, sight, &mut self.lines);
+    }
+}
+
+impl Watch for Operator<'_> {
+    fn look(&mut self, sight: &Sight<'_>) -> bool {
+        self.turns.add(self.rt, sight);
+        self.times.pass(sight);
+        self.tell_notices(sight);
+        self.write_figures(sight);
+        match &mut self.stop {
+            Some(stop) => !stop.ends(sight.moment),
+            None => true,
+        }
+    }
+}

@@ -1,5 +1,6 @@
 #!/usr/bin/env python3
-"""executions.py PROGRAM [--large] [--only NAME ..] [--skip NAME ..]: has a server run actions, and looks at each answer.
+"""executions.py PROGRAM [--large] [--launcher L] [--only NAME ..] [--skip NAME ..]: has a server run actions, and looks
+at each answer.
 
 PROGRAM is the built `remoted`. A server with some instances runs small shell scripts, whose input trees, outputs,
 streams, codes, timeouts and leftovers are looked at one after another, a line for each thing: `ok`, or `FAULT` with
@@ -120,7 +121,8 @@ def as_root(program, options):
         make_leftovers(program, folder)
     every = [leftovers, *OF_INPUTS, *OF_ENDS, *([ends.largest] if options.large else []), nothing_left]
     try:
-        with Server(program, INSTANCES, 2**62, {"SECRET": "of the server"}, folder, True, umask=0o077) as server:
+        more = {"launcher": options.launcher, "umask": 0o077}
+        with Server(program, INSTANCES, 2**62, {"SECRET": "of the server"}, folder, True, **more) as server:
             return run_all(Context(server, []), every, options)
     finally:
         shutil.rmtree(folder, ignore_errors=True)
@@ -131,18 +133,18 @@ def as_nobody(program, options):
     folder = tempfile.mkdtemp(prefix="executions-")
     os.chown(folder, NOBODY, NOBODY)
     try:
-        plain = {"user": NOBODY, "group": NOBODY, "extra_groups": []}
+        plain = {"user": NOBODY, "group": NOBODY, "extra_groups": [], "launcher": options.launcher}
         with Server(program, INSTANCES, 2**62, None, folder, True, **plain) as server:
             return run_all(Context(server, []), [*PLAIN_USER, nothing_left], options)
     finally:
         shutil.rmtree(folder, ignore_errors=True)
 
 
-def turns_end(program, _options):
+def turns_end(program, options):
     """A server that ends after its turns leaves no program and no folder."""
     for turns in [3_000, 20_000, 200_000]:
         folder = tempfile.mkdtemp(prefix="executions-")
-        with Server(program, INSTANCES[:1], turns, None, folder, True) as server:
+        with Server(program, INSTANCES[:1], turns, None, folder, True, launcher=options.launcher) as server:
             context = Context(server, [])
             begun = threading.Event()
             threading.Thread(target=begin_and_wait, args=(server.ports[0], context, begun), daemon=True).start()
@@ -186,6 +188,7 @@ def main():
     parser = argparse.ArgumentParser(description=__doc__, formatter_class=argparse.RawDescriptionHelpFormatter)
     parser.add_argument("program")
     parser.add_argument("--large", action="store_true")
+    parser.add_argument("--launcher")
     parser.add_argument("--only", nargs="*", default=[])
     parser.add_argument("--skip", nargs="*", default=[])
     options = parser.parse_args()

@@ -9,7 +9,8 @@ import messages as m
 import programs
 from execution_context import expect
 from executing import Link
-from teams import PYTHON, TOP, Skipped, listed, victim
+from server import lease_seconds
+from teams import LONGEST_WAIT, PYTHON, TOP, Skipped, listed, victim
 
 SECRET = b"of somebody else"
 
@@ -231,13 +232,17 @@ def removal_exchanged(stage):
 
 
 def leased(stage):
-    """A daemon holds a lease on an output, so that opening it waits for up to 45 seconds."""
-    with stage.serve() as (server, red):
+    """A daemon holds a lease on an output, which keeps whoever opens that waiting, where the system has leases."""
+    seconds = lease_seconds()
+    with stage.serve(longest=seconds + 5 if seconds else LONGEST_WAIT) as (server, red):
+        expect(server.tells_of_leases(), seconds > 0, "whether a line of the start tells of leases")
         done = red.execute(stage.action(python(LEASING), files=["o"]))
         expect(done.status.code in (0, 13), True, f"status {done.status.code}")
         stage.end_programs()
         stage.blue_runs(server)
-    return "nobody waits for it"
+    if seconds:
+        return f"a known limit, which a line of the start tells: it may keep all waiting for {seconds} s"
+    return "the system has no leases, and nobody waits"
 
 
 # Outputs that are no files.
@@ -334,8 +339,7 @@ def not_removable(stage):
         path = os.path.join(stage.folder, "told")
         number = red.start(stage.action(f"mkdir d; : > d/f; until [ -e {path} ]; do sleep 0.05; done; printf abc"))
         stage.waits(lambda: os.path.exists(os.path.join(server.start(), "0-1", "d", "f")), 20, "a folder")
-        name = "0-1"
-        inner = os.path.join(server.start(), name, "d")
+        inner = os.path.join(server.start(), "0-1", "d")
         if stage.user is None:
             lock(inner)
         try:
@@ -347,8 +351,8 @@ def not_removable(stage):
             for _ in range(3):
                 stage.runs(red, "printf abc > out", files=["out"])
             stage.blue_runs(server)
-            is_told = lambda: any(name in line for line in server.said())
-            stage.waits(is_told, 10, f"a line that names {name}: {server.said()}")
+            line = "remoted: run red 1 failed: left"
+            stage.waits(lambda: line in server.said(), 10, f"the line `{line}`: {server.said()}")
             stage.stop(server, signal.SIGTERM)
         except BaseException:
             unlock(stage, inner)

@@ -10,6 +10,7 @@ PROGRAM is the built `remoted`. Parts:
 - `slurm`: actions on two nodes of a Slurm cluster, which is made on this host for it, with `launchers/slurm`: outputs,
   codes, timeouts, a server that is killed, 200 actions, and a node that is lost. It needs slurm-wlm, munge and root.
 - `both`: some of that with the sandbox on the node.
+- `lost`: launchers that end by a signal, or are gone: the words that the server writes.
 - `cost`: what a launcher costs an action.
 
 What a part needs and is not there is said, and the part is skipped. A line for each thing, `ok` or `FAILED`; it ends
@@ -23,6 +24,7 @@ import sys
 import tempfile
 import time
 
+import launchers_lost
 import launchers_sandbox as sandbox
 import launchers_slurm as slurm
 import slurm_cluster
@@ -72,7 +74,7 @@ class Report:
 
 
 def main():
-    parts = ["sandbox", "plain", "slurm", "both", "cost"]
+    parts = ["lost", "sandbox", "plain", "slurm", "both", "cost"]
     parser = argparse.ArgumentParser(description=__doc__, formatter_class=argparse.RawDescriptionHelpFormatter)
     parser.add_argument("program")
     parser.add_argument("--only", nargs="*", default=parts, choices=parts, metavar="PART")
@@ -85,6 +87,7 @@ def main():
     no_root = [] if os.geteuid() == 0 else ["root"]
     no_cluster = slurm_cluster.lacking()
     ways = {
+        "lost": ([], lambda: launchers_lost.lost(report, program)),
         "sandbox": (no_sandbox, lambda: sandbox.reach(report, program, "as this user")),
         "plain": (no_sandbox + no_root, lambda: sandbox.reach(report, program, "as a plain user", **plain)),
         "slurm": (no_cluster, lambda: slurm.on_nodes(report, program)),

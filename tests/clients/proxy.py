@@ -1,6 +1,6 @@
 #!/usr/bin/env python3
-"""proxy.py PROGRAM: calls through HAProxy with TLS, as docs/DEPLOYING.md has it: one certificate may write, one may
-read, and others get no connection.
+"""proxy.py PROGRAM: calls through HAProxy with TLS and the file deploy/haproxy.cfg: one certificate may write and have
+actions run, one may read, and others get no connection.
 
 PROGRAM is the built `remoted`. Certificates are made by openssl, in a folder that is removed. A line for each thing
 that holds; it ends with status 1 at the first that does not. Debian: haproxy, openssl, python3-grpcio; run it by
@@ -9,6 +9,7 @@ that holds; it ends with status 1 at the first that does not. Debian: haproxy, o
 
 import hashlib
 import os
+import pathlib
 import subprocess
 import sys
 import tempfile
@@ -17,36 +18,12 @@ import time
 import grpc
 
 import messages as m
+from executing import EXECUTE
 from server import Server, free_ports
 
 PIECE = 1_000_000
 
-CONFIG = """
-global
-    maxconn 4096
-
-defaults
-    mode http
-    timeout connect 5s
-    timeout client 1h
-    timeout server 1h
-
-frontend red
-    bind 127.0.0.1:{port} ssl crt {folder}/server-both.pem ca-file {folder}/ca.pem verify required alpn h2
-    acl is_ci ssl_c_s_dn(cn) -m str ci
-    acl writes path /build.bazel.remote.execution.v2.ContentAddressableStorage/BatchUpdateBlobs
-    acl writes path /build.bazel.remote.execution.v2.ActionCache/UpdateActionResult
-    acl writes path /google.bytestream.ByteStream/Write
-    http-request deny if writes !is_ci
-    default_backend red
-
-backend red
-    option httpchk
-    http-check connect proto h2
-    http-check send meth POST uri {capabilities} ver HTTP/2 hdr content-type application/grpc hdr te trailers
-    http-check expect status 200
-    server red 127.0.0.1:{server} proto h2 check inter 1s
-"""
+CONFIG = pathlib.Path(__file__).resolve().parents[2] / "deploy/haproxy.cfg"
 
 
 def make_certificates(folder):
@@ -66,6 +43,23 @@ def make_certificates(folder):
         openssl(*sign, "-days", "2", "-extfile", "names", "-out", f"{name}.pem")
     with open(os.path.join(folder, "server-both.pem"), "wb") as both:
         both.write(bytes_of(folder, "server.pem") + bytes_of(folder, "server.key"))
+
+
+def config_here(folder, port, server):
+    """The file to install, with the ports, the certificates and the time between checks of this test."""
+    told = CONFIG.read_text()
+    changes = {
+        "bind :8443": f"bind 127.0.0.1:{port}",
+        "/etc/haproxy/server.pem": f"{folder}/server-both.pem",
+        "/etc/haproxy/clients.pem": f"{folder}/ca.pem",
+        "127.0.0.1:8980": f"127.0.0.1:{server}",
+        "check inter 5s": "check inter 1s",
+    }
+    for old, new in changes.items():
+        if told.count(old) != 1:
+            raise SystemExit(f"{CONFIG} has not one {old!r}")
+        told = told.replace(old, new)
+    return told
 
 
 def bytes_of(folder, name):
@@ -123,8 +117,9 @@ def calls_through(folder, port):
         wanted = m.find_missing("red", [m.digest(small)])
         expect(calls.unary_unary(m.FIND_MISSING)(wanted, timeout=10) == b"", "a developer finds the small blob")
         expect(read(calls, large) == large, "a developer reads 20 MB")
-        refused = [code(lambda: update(calls)), code(lambda: write(calls, large))]
-        expect(refused == ["PERMISSION_DENIED"] * 2, "a developer may not write")
+        execute = lambda: list(calls.unary_stream(EXECUTE)(b"", timeout=10))
+        refused = [code(lambda: update(calls)), code(lambda: write(calls, large)), code(execute)]
+        expect(refused == ["PERMISSION_DENIED"] * 3, "a developer may not write, and have no action run")
     for name in ["stranger", None]:
         with channel(folder, port, name) as calls:
             expect(code(lambda: ask(calls)) == "UNAVAILABLE", f"no connection with {name or 'no'} certificate")
@@ -136,10 +131,9 @@ def main():
     port = free_ports(1)[0]
     with tempfile.TemporaryDirectory() as folder, Server(sys.argv[1], [("red", 10**9)]) as server:
         make_certificates(folder)
-        told = CONFIG.format(port=port, folder=folder, server=server.ports[0], capabilities=m.CAPABILITIES)
         path = os.path.join(folder, "haproxy.cfg")
         with open(path, "w") as config:
-            config.write(told)
+            config.write(config_here(folder, port, server.ports[0]))
         proxy = subprocess.Popen(["haproxy", "-f", path], stderr=subprocess.DEVNULL)
         try:
             # A check of the server comes each second.
@@ -150,4 +144,5 @@ def main():
             proxy.wait()
 
 
-main()
+if __name__ == "__main__":
+    main()

@@ -6,6 +6,22 @@ import subprocess
 import tempfile
 
 
+# What a server with slots and no launcher says at its start, where the system has leases.
+OF_LEASES = (
+    "remoted: an action can stop the server for 45 seconds (fs.lease-break-time) by a lease on each of its outputs: "
+    "end that by sysctl fs.leases-enable=0, or by --launcher sandbox"
+)
+
+
+def lease_seconds():
+    """For how long a lease of an action's keeps others waiting; 0 where the system has none."""
+    numbers = []
+    for name in ["leases-enable", "lease-break-time"]:
+        with open(f"/proc/sys/fs/{name}") as file:
+            numbers.append(int(file.read()))
+    return numbers[1] if numbers[0] else 0
+
+
 def free_ports(count):
     sockets = [socket.socket() for _ in range(count)]
     for each in sockets:
@@ -20,12 +36,21 @@ class Server:
     """A server with these instances: a name, a quota and maybe slots and a parent each. More may stand in its environment.
 
     It works in a folder of its own, or in `folder`, which is then left. What it says on standard error is kept where
-    it is `heard`. Programs are started by `launcher`, where one is given. Further words are those of `Popen`: `stderr`
-    among them is where standard error goes that is not kept.
+    it is `heard`. Programs are started by `launcher`, where one is given. `extra` are more words of its command line, and
+    further ones those of `Popen`: `stderr` among them is where standard error goes that is not kept.
     """
 
     def __init__(
-        self, program, instances, turns=None, environment=None, folder=None, heard=False, launcher=None, **more
+        self,
+        program,
+        instances,
+        turns=None,
+        environment=None,
+        folder=None,
+        heard=False,
+        launcher=None,
+        extra=(),
+        **more,
     ):
         self.program, self.ports = program, free_ports(len(instances))
         self.work = None if folder else tempfile.TemporaryDirectory()
@@ -40,7 +65,7 @@ class Server:
         turns = [] if turns is None else ["--turns", str(turns)]
         launched = [] if launcher is None else ["--launcher", launcher]
         self.process = subprocess.Popen(
-            [program, "serve", "--work", self.folder, *launched, *turns, *words],
+            [program, "serve", "--work", self.folder, *launched, *turns, *extra, *words],
             stdout=subprocess.PIPE,
             text=True,
             env={**os.environ, **(environment or {})},
@@ -77,7 +102,13 @@ class Server:
         return self.process.poll() is None
 
     def said(self):
-        """The lines on standard error so far."""
+        """The lines on standard error so far, but for that on leases, which most hosts have."""
+        return [line for line in self._lines() if line != OF_LEASES]
+
+    def tells_of_leases(self):
+        return OF_LEASES in self._lines()
+
+    def _lines(self):
         size = os.fstat(self.errors.fileno()).st_size
         return os.pread(self.errors.fileno(), size, 0).decode().splitlines()
 

@@ -5,7 +5,8 @@ use crate::sockets::log::{has_written, records};
 use program_status::{Fault, Output};
 use serve::{LoggedSockets, Socket, SocketRecord};
 use server_core::{Outputs, SentBytes, run};
-use server_events::Configs;
+use server_events::{Configs, Event};
+use std::alloc::Global;
 use std::mem::replace;
 
 /// What came of a case.
@@ -60,12 +61,19 @@ fn add(
     }
 }
 
-fn count(outputs: &Outputs, log: &[SocketRecord], fake: &Fake<'_>) -> Outcome {
+fn count(outputs: &Outputs, sockets: &LoggedSockets<Fake<'_>>) -> Outcome {
     let mut outcome = Outcome::default();
-    for client in fake.clients.iter() {
-        add(&mut outcome, outputs, log, client, fake.habits.is_steady);
+    let log = records(sockets);
+    let is_steady = sockets.sockets.habits.is_steady;
+    for client in sockets.sockets.clients.iter() {
+        add(&mut outcome, outputs, log, client, is_steady);
     }
     outcome
+}
+
+/// The events that were noted, of which none is left.
+fn take_events(alloc: Global, fake: &mut Fake<'_>) -> Vec<Event> {
+    replace(&mut fake.events, Vec::new(alloc))
 }
 
 /// Compares what the clients of fake sockets received with a run of the events that were noted, and
@@ -76,9 +84,9 @@ pub fn judge(
     sockets: &mut LoggedSockets<Fake<'_>>,
     output: &mut Output,
 ) -> Outcome {
-    let events = replace(&mut sockets.sockets.events, Vec::new(output.alloc));
+    let events = take_events(output.alloc, &mut sockets.sockets);
     match run(output.alloc, configs, events) {
-        Ok(outputs) => count(&outputs, records(sockets), &sockets.sockets),
+        Ok(outputs) => count(&outputs, sockets),
         Err(_) => {
             output.fail(Fault::OutOfMemory);
             Outcome::default()

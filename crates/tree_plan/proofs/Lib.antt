@@ -1,10 +1,11 @@
 mod Walks
 mod Levels
 mod Trees
-mod Kept
+pub mod Kept
 mod Places
 mod Missing
 mod Pairs
 mod Distinct
 mod Named
 mod Paths
+pub mod Again

@@ -21,10 +21,6 @@ pairs_joined {X = X} R (x ∷ xs) ys h g cross =
       go y (inl c) = h.0 y c
       go y (inr c) = cross x y (first_in x xs) c
 
-pub pairs_with : {X : Type 0} (R : X → X → Type 0) (P : X → Type 0) (xs : List X) → Pairs R xs → ((x : X) → Contains xs x → P x) → Pairs (λ a b. R a b × P a × P b) xs
-pairs_with R P [] h all = tt
-pairs_with R P (x ∷ xs) h all = (λ y c. (h.0 y c, all x (first_in x xs), all y (later_in x xs y c)), pairs_with R P xs h.1 (λ y c. all y (later_in x xs y c)))
-
 pub in_map : {X Y : Type 0} (f : X → Y) (xs : List X) (y : Y) → Contains (map f xs) y → (x : X) × Contains xs x × (f x ≡ y)
 in_map f [] y c = absurd (in_none y c)
 in_map {X = X} f (x ∷ xs) y c = go (in_cases (f x) (map f xs) y c) (in_map f xs y) where

@@ -1,5 +1,7 @@
 -- What a walk meets is a tree, in which each node has its place.
 use Rattle.std.proofs.Common.{◌≡◌, ℕ, zero, suc, List, [], ◌∷◌, ◌++◌, Ok, Err, refl, sym, ap, ◌∙◌, append_assoc, append-nil}
+use Rattle.std.specs.List.{Contains}
+use Rattle.std.proofs.lemmas.List.Elements.{Contains-append_left}
 use Rattle.message_fields.specs.Results.{◌>>=◌}
 use Rattle.digest.specs.declared.Digest.{Digest}
 use Rattle.input_tree.specs.Listing.{Lookup}
@@ -52,6 +54,10 @@ continues (suc most) look (n ∷ next) met nodes h = go (nodes_inside look n) re
   go : (m : Nodes) → nodes_inside look n ≡ m → (m >>= (λ inside. walk_along most look (inside ++ next) (met ++ n ∷ []))) ≡ Ok nodes → ((inside : List PlanNodeValue) → walk_along most look (inside ++ next) (met ++ n ∷ []) ≡ Ok nodes → Continues look (inside ++ next) (met ++ n ∷ []) nodes) → Continues look (n ∷ next) met nodes
   go (Ok inside) is h later = continued look n inside next met nodes is (later inside h)
   go (Err e) is h later = cc
+
+-- what was met is among the nodes in the end
+pub met_stays : (most : ℕ) (look : Lookup) (next met nodes : List PlanNodeValue) (n : PlanNodeValue) → walk_along most look next met ≡ Ok nodes → Contains met n → Contains nodes n
+met_stays most look next met nodes n h c = let k = continues most look next met nodes h in rw (k.is) (Contains-append_left met k.after n c)
 
 -- ---- what a plan says of the walk
 

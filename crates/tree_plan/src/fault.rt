@@ -7,7 +7,7 @@ use digest::Digest;
 use std::alloc::{AllocError, AllocFailed};
 
 /// Why a tree has no plan.
-#[derive(Drop)]
+#[derive(Debug, Drop)]
 pub enum TreeFault {
     /// The instance has no texts of these digests, which are all that it has not, in the order met,
     /// each as often as it was met. The tree has no other fault that could be met.

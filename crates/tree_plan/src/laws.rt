@@ -60,6 +60,15 @@ pub fn missing_blobs_are_those_not_there()
         walk look root ≡ Err (missing digests) → AreMissing look root digests }
 {}
 
+/// A plan follows from the texts that were met alone: a walk that finds these gives the same plan,
+/// whatever other texts there are, or are not any more.
+pub fn a_plan_follows_from_what_it_met()
+    ensures { (look other : Lookup) (root : Digest) (nodes : List PlanNodeValue) →
+        walk look root ≡ Ok nodes →
+        ((d : Digest) → Contains (digests_met root nodes) d → other d ≡ look d) →
+        walk other root ≡ Ok nodes }
+{}
+
 /// What a walk keeps to: the nodes below the root, and the levels of directories.
 pub fn limits_of_a_walk()
     ensures nodes { MOST_NODES ≡ 10000 }

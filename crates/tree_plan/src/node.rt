@@ -7,6 +7,7 @@ ghost use Rattle.tree_plan.specs.Shown.{node_shown};
 use digest::Digest;
 use input_tree::digest_written;
 use std::alloc::{AllocError, Global};
+use std::rc::RcStr;
 use tree_messages::{DirectoryNode, FileNode, SymlinkNode};
 
 /// What a node is.
@@ -15,7 +16,7 @@ pub enum NodeKind {
     /// A file, by the digest of its text.
     File { digest: Digest, is_executable: bool },
     /// A symbolic link.
-    Symlink { target: String },
+    Symlink { target: RcStr },
     /// A directory, by the digest of its text.
     Directory { digest: Digest },
 }
@@ -23,8 +24,9 @@ pub enum NodeKind {
 /// A node of a plan.
 #[derive(Drop)]
 pub struct PlanNode {
-    /// Its name in the directory that it stands in.
-    pub name: String,
+    /// Its name in the directory that it stands in. The places at which a directory stands share the
+    /// names in it.
+    pub name: RcStr,
     /// The level of the directory that it stands in: 1 for the root's own nodes.
     pub level: usize,
     pub kind: NodeKind,
@@ -60,7 +62,7 @@ impl<'a> NodeMessage for FileNode<'a> {
         let Some(digest) = digest_written(&self.digest) else {
             return Ok(None);
         };
-        let name = String::from_str(alloc, self.name)?;
+        let name = RcStr::from_str(alloc, self.name)?;
         let kind = NodeKind::File {
             digest,
             is_executable: self.is_executable,
@@ -80,8 +82,8 @@ impl<'a> NodeMessage for SymlinkNode<'a> {
     ghost at = { symlink_at };
 
     fn node_at(&self, alloc: Global, level: usize) -> Result<Option<PlanNode>, AllocError> {
-        let name = String::from_str(alloc, self.name)?;
-        let target = String::from_str(alloc, self.target)?;
+        let name = RcStr::from_str(alloc, self.name)?;
+        let target = RcStr::from_str(alloc, self.target)?;
         let kind = NodeKind::Symlink { target };
         Ok(Some(PlanNode { name, level, kind }))
     }
@@ -101,7 +103,7 @@ impl<'a> NodeMessage for DirectoryNode<'a> {
         let Some(digest) = digest_written(&self.digest) else {
             return Ok(None);
         };
-        let name = String::from_str(alloc, self.name)?;
+        let name = RcStr::from_str(alloc, self.name)?;
         let kind = NodeKind::Directory { digest };
         Ok(Some(PlanNode { name, level, kind }))
     }

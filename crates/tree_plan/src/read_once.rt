@@ -1,25 +1,24 @@
 //! Directories that stand in many places: the text of each is read once.
 
 ghost use Rattle.std.specs.Prelude.{◌≡◌, ◌++◌, IfOk, OnOk};
-ghost use Rattle.input_tree.specs.Texts.{texts_of};
 ghost use Rattle.tree_plan.specs.Shown.{kind_shown, node_shown, nodes_shown};
 ghost use Rattle.tree_plan.specs.ReadOnce.{AreRead, at_level, node_at_level};
 ghost use Rattle.tree_plan.specs.Walk.{directory_nodes};
 ghost use Rattle.tree_plan.specs.Answers.{Answers};
 
 use crate::fault::TreeFault;
+use crate::finding::Finds;
 use crate::node::{NodeKind, PlanNode};
 use crate::reading::directory_nodes;
 use blob_pool::Pool;
 use digest::Digest;
 use indexmap::IndexMap;
-use instance_view::Sight;
 use std::alloc::{AllocError, Global};
 
 /// The nodes of the directories that a walk has read.
 pub type ReadDirectories = IndexMap<Digest, Vec<PlanNode>>;
 
-fn copy_kind(alloc: Global, kind: &NodeKind) -> Result<NodeKind, AllocError>
+fn copy_kind(kind: &NodeKind) -> Result<NodeKind, AllocError>
     ensures { IfOk result (λ copy. kind_shown copy ≡ kind_shown kind.now) }
 {
     match kind {
@@ -31,7 +30,7 @@ fn copy_kind(alloc: Global, kind: &NodeKind) -> Result<NodeKind, AllocError>
             is_executable: *is_executable,
         }),
         NodeKind::Symlink { target } => {
-            let target = String::from_str(alloc, target)?;
+            let target = target.clone()?;
             Ok(NodeKind::Symlink { target })
         }
         NodeKind::Directory { digest } => Ok(NodeKind::Directory { digest: *digest }),
@@ -39,11 +38,11 @@ fn copy_kind(alloc: Global, kind: &NodeKind) -> Result<NodeKind, AllocError>
 }
 
 /// The same node in a directory of a level.
-fn copy_node(alloc: Global, level: usize, node: &PlanNode) -> Result<PlanNode, AllocError>
+fn copy_node(level: usize, node: &PlanNode) -> Result<PlanNode, AllocError>
     ensures { IfOk result (λ copy. node_shown copy ≡ node_at_level level (node_shown node.now)) }
 {
-    let name = String::from_str(alloc, &node.name)?;
-    let kind = copy_kind(alloc, &node.kind)?;
+    let name = node.name.clone()?;
+    let kind = copy_kind(&node.kind)?;
     Ok(PlanNode { name, level, kind })
 }
 
@@ -55,7 +54,7 @@ fn copy_nodes(alloc: Global, level: usize, nodes: &[PlanNode]) -> Result<Vec<Pla
     let mut copies = Vec::with_capacity(alloc, nodes.len())?;
     let mut left = nodes;
     'nodes: while let [first, rest @ ..] = left {
-        copies.push(copy_node(alloc, level, first)?)?;
+        copies.push(copy_node(level, first)?)?;
         left = rest;
     }
     Ok(copies)
@@ -63,18 +62,18 @@ fn copy_nodes(alloc: Global, level: usize, nodes: &[PlanNode]) -> Result<Vec<Pla
 
 /// The nodes of the directory of a digest, none where the instance sees no text of it. It is read
 /// unless it was read before.
-pub fn nodes_once(
+pub fn nodes_once<F: Finds>(
     alloc: Global,
-    view: &Sight<'_>,
+    view: &F,
     pool: &Pool,
     read: &mut ReadDirectories,
     level: usize,
     digest: &Digest,
 ) -> Result<Vec<PlanNode>, TreeFault>
-    requires read { AreRead (texts_of pool.now view.now) read.old.entries }
+    requires read { AreRead (F.found_in pool.now view.now) read.old.entries }
     ensures nodes { Answers (λ nodes. nodes_shown nodes.items) result
-        (directory_nodes (texts_of pool.now view.now) level digest.now) }
-    ensures read { OnOk result (AreRead (texts_of pool.now view.now) read.new.entries) }
+        (directory_nodes (F.found_in pool.now view.now) level digest.now) }
+    ensures read { OnOk result (AreRead (F.found_in pool.now view.now) read.new.entries) }
 {
     if let Some(nodes) = read.get(digest) {
         return Ok(copy_nodes(alloc, level, nodes)?);

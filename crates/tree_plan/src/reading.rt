@@ -5,18 +5,18 @@ ghost use Rattle.std.specs.List.{filter_map};
 ghost use Rattle.tree_messages.specs.Directories.{directory_shown};
 ghost use Rattle.blob_pool.specs.Slots.{text_at};
 ghost use Rattle.instance_view.specs.Shown.{text_seen};
-ghost use Rattle.input_tree.specs.Texts.{texts_of};
 ghost use Rattle.tree_plan.specs.Nodes.{nodes_in, nodes_of};
 ghost use Rattle.tree_plan.specs.Shown.{nodes_shown};
 ghost use Rattle.tree_plan.specs.Walk.{directory_nodes};
 ghost use Rattle.tree_plan.specs.Answers.{Answers};
 
 use crate::fault::TreeFault;
+use crate::finding::Finds;
 use crate::node::{NodeMessage, PlanNode};
 use blob_pool::{Kept, Pool};
 use digest::Digest;
 use input_tree::{MOST_DIRECTORY_BYTES, take_directory};
-use instance_view::{Seen, Sight};
+use instance_view::Seen;
 use std::alloc::{AllocError, Global};
 use tree_messages::Directory;
 
@@ -102,15 +102,15 @@ fn nodes_seen(
 }
 
 /// The nodes of the directory of a digest, none where the instance sees no text of it.
-pub fn directory_nodes(
+pub fn directory_nodes<F: Finds>(
     alloc: Global,
-    view: &Sight<'_>,
+    view: &F,
     pool: &Pool,
     level: usize,
     digest: &Digest,
 ) -> Result<Vec<PlanNode>, TreeFault>
     ensures { Answers (λ nodes. nodes_shown nodes.items) result
-        (directory_nodes (texts_of pool.now view.now) level digest.now) }
+        (directory_nodes (F.found_in pool.now view.now) level digest.now) }
 {
     match view.get(digest) {
         None => Ok(Vec::new(alloc)),

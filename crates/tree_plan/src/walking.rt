@@ -1,20 +1,19 @@
 //! The walk.
 
 ghost use Rattle.std.specs.Prelude.{◌≡◌, ◌++◌, [], reverse, IfOk, OnOk};
-ghost use Rattle.input_tree.specs.Texts.{texts_of};
 ghost use Rattle.tree_plan.specs.Shown.{node_shown, nodes_shown};
 ghost use Rattle.tree_plan.specs.Walk.{digests_met, missing_among, nodes_inside, nodes_met, walk, walk_along, digest_of_node};
 ghost use Rattle.tree_plan.specs.ReadOnce.{AreRead};
 ghost use Rattle.tree_plan.specs.Answers.{Answers};
 
 use crate::fault::TreeFault;
+use crate::finding::Finds;
 use crate::node::{NodeKind, PlanNode};
 use crate::read_once::{ReadDirectories, nodes_once};
 use crate::reading::directory_nodes;
 use blob_pool::Pool;
 use digest::Digest;
 use indexmap::IndexMap;
-use instance_view::Sight;
 use std::alloc::{AllocError, Global};
 
 /// The most nodes that a tree has below its root.
@@ -32,17 +31,17 @@ pub struct Plan {
 }
 
 /// The nodes in what a node is, none where it is no directory.
-fn nodes_inside(
+fn nodes_inside<F: Finds>(
     alloc: Global,
-    view: &Sight<'_>,
+    view: &F,
     pool: &Pool,
     read: &mut ReadDirectories,
     node: &PlanNode,
 ) -> Result<Vec<PlanNode>, TreeFault>
-    requires read { AreRead (texts_of pool.now view.now) read.old.entries }
+    requires read { AreRead (F.found_in pool.now view.now) read.old.entries }
     ensures nodes { Answers (λ nodes. nodes_shown nodes.items) result
-        (nodes_inside (texts_of pool.now view.now) (node_shown node.now)) }
-    ensures read { OnOk result (AreRead (texts_of pool.now view.now) read.new.entries) }
+        (nodes_inside (F.found_in pool.now view.now) (node_shown node.now)) }
+    ensures read { OnOk result (AreRead (F.found_in pool.now view.now) read.new.entries) }
 {
     let NodeKind::Directory { digest } = &node.kind else {
         return Ok(Vec::new(alloc));
@@ -66,16 +65,16 @@ fn stack(todo: &mut Vec<PlanNode>, nodes: Vec<PlanNode>) -> Result<(), AllocErro
 }
 
 /// Walks on from nodes, the first of which is on top of a stack.
-fn walk_along(
+fn walk_along<F: Finds>(
     alloc: Global,
-    view: &Sight<'_>,
+    view: &F,
     pool: &Pool,
     read: &mut ReadDirectories,
     todo: Vec<PlanNode>,
 ) -> Result<Vec<PlanNode>, TreeFault>
-    requires read { AreRead (texts_of pool.now view.now) read.old.entries }
+    requires read { AreRead (F.found_in pool.now view.now) read.old.entries }
     ensures { Answers (λ nodes. nodes_shown nodes.items) result
-        (walk_along MOST_NODES (texts_of pool.now view.now) (reverse (nodes_shown todo.items)) []) }
+        (walk_along MOST_NODES (F.found_in pool.now view.now) (reverse (nodes_shown todo.items)) []) }
 {
     let mut todo = todo;
     let mut met = Vec::new(alloc);
@@ -91,14 +90,14 @@ fn walk_along(
 }
 
 /// The nodes of a root's tree, in the order met.
-fn nodes_met(
+fn nodes_met<F: Finds>(
     alloc: Global,
-    view: &Sight<'_>,
+    view: &F,
     pool: &Pool,
     root: &Digest,
 ) -> Result<Vec<PlanNode>, TreeFault>
     ensures { Answers (λ nodes. nodes_shown nodes.items) result
-        (nodes_met (texts_of pool.now view.now) root.now) }
+        (nodes_met (F.found_in pool.now view.now) root.now) }
 {
     let nodes = directory_nodes(alloc, view, pool, 1, root)?;
     let mut todo = Vec::new(alloc);
@@ -119,15 +118,15 @@ fn digest_of(node: &PlanNode) -> Option<Digest>
 
 /// The digests of the root, of files and of directories of which the instance sees no text, in
 /// order, each as often as it stands.
-fn missing_among(
+fn missing_among<F: Finds>(
     alloc: Global,
-    view: &Sight<'_>,
+    view: &F,
     pool: &Pool,
     root: &Digest,
     nodes: &[PlanNode],
 ) -> Result<Vec<Digest>, AllocError>
     ensures { IfOk result (λ missing. missing.items ≡ missing_among
-        (texts_of pool.now view.now) (digests_met root.now (nodes_shown nodes.now))) }
+        (F.found_in pool.now view.now) (digests_met root.now (nodes_shown nodes.now))) }
 {
     let mut missing = Vec::new(alloc);
     if !view.contains(root) {
@@ -151,9 +150,14 @@ fn missing_among(
 /// Each node is counted when it is met, then its level is tested, then its text is looked at; the
 /// first fault that is met is answered. What is missing is answered where the whole walk has no
 /// other fault. A directory that stands in many places is read once.
-pub fn walk(alloc: Global, view: &Sight<'_>, pool: &Pool, root: &Digest) -> Result<Plan, TreeFault>
+pub fn walk<F: Finds>(
+    alloc: Global,
+    view: &F,
+    pool: &Pool,
+    root: &Digest,
+) -> Result<Plan, TreeFault>
     ensures { Answers (λ plan. nodes_shown plan.nodes.items) result
-        (walk (texts_of pool.now view.now) root.now) }
+        (walk (F.found_in pool.now view.now) root.now) }
 {
     let nodes = nodes_met(alloc, view, pool, root)?;
     let missing = missing_among(alloc, view, pool, root, &nodes)?;

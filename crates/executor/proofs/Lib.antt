@@ -1,5 +1,8 @@
 pub mod WalkFaults
 pub mod KeptTexts
+pub mod KeptTasks
+pub mod NumberedTexts
+pub mod Rereading
 pub mod Calling
 pub mod Starts
 pub mod Timings

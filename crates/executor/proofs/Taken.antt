@@ -6,11 +6,11 @@ use Rattle.std.proofs.lemmas.Bool.Decides.{nat_tests}
 use Rattle.std.proofs.lemmas.Option.{get_or_from_slice_get, slice_get-get_or, slice_get_past}
 use Rattle.std.specs.List.{AllByRecursion, filter_map}
 use Rattle.std.specs.Map.{keys_of, lookup, remove_entry}
-use Rattle.std.proofs.lemmas.List.{append-nil, drop-map, length-map, map-append, take_all}
+use Rattle.std.proofs.lemmas.List.{append-nil, length-map, take_all}
 use Rattle.blob_pool.specs.Slots.{Slots, count_at}
 use Rattle.blob_pool.specs.Moves.{Holders, Moves, no_holders}
 use Rattle.blob_pool.proofs.Moves.{moves_more}
-use Rattle.job_queue.specs.Jobs.{Jobs, same_number, started, jobs_after_start, jobs_after_end, jobs_without, running_job}
+use Rattle.job_queue.specs.Jobs.{Jobs, same_number, jobs_after_start, jobs_after_end, jobs_without, running_job}
 use Rattle.job_queue.specs.Changes.{IsRunning}
 use Rattle.job_queue.specs.Order.{AreJobs, AreRising, IsNone, open_numbers}
 use Rattle.job_queue.specs.declared.queue.Running.{Running}
@@ -19,7 +19,7 @@ use Rattle.job_queue.proofs.Sums.{sum-end, sum-start}
 use Rattle.executor.specs.declared.job.Job.{Job}
 use Rattle.executor.specs.Job.{JobValue}
 use Rattle.executor.specs.InPool.{job_in, job_holders, jobs_in, jobs_holders, waiting_in, running_in}
-use Rattle.executor.specs.Steps.{StepValue, ends, ending_of, jobs_after_steps, start_of, starts_of, then_starts, timings_out}
+use Rattle.executor.specs.Steps.{StepValue, ends, ending_of, start_of, starts_of, timings_out}
 use Rattle.executor.specs.Taking.{EndJobs}
 use Rattle.operations.specs.Operations.{EndValue, completed_text}
 use Rattle.executor.proofs.Timings.{outcome-ends, tick-ends}
@@ -151,7 +151,7 @@ due_step {A} f g (y ∷ xs) x old new all within is h pushed =
 pub ended_none : (p : Slots) (n : ℕ) (e : EndValue) (jobs : Jobs Job) → None ≡ running_job n jobs → [] ≡ ending_of n e (running_job n (jobs_in p jobs))
 ended_none p n e jobs none = ap (ending_of n e) (ap (option_map (job_in p)) none ∙ sym (shown-running p n jobs))
 
-pub ended_some : (p : Slots) (n : ℕ) (e : EndValue) (jobs : Jobs Job) (job : Job) (operation : List ℕ) → Some job ≡ running_job n jobs → operation ≡ completed_text n job.action e → ends n operation ∷ [] ≡ ending_of n e (running_job n (jobs_in p jobs))
+pub ended_some : (p : Slots) (n : ℕ) (e : EndValue) (jobs : Jobs Job) (job : Job) (operation : List ℕ) → Some job ≡ running_job n jobs → operation ≡ completed_text n job.task.action e → ends n operation ∷ [] ≡ ending_of n e (running_job n (jobs_in p jobs))
 ended_some p n e jobs job operation some is =
     ap (λ (op : List ℕ). ends n op ∷ []) is ∙ ap (ending_of n e) (ap (option_map (job_in p)) some ∙ sym (shown-running p n jobs))
 
@@ -162,16 +162,6 @@ fewer_run p jobs steps e = fewer _ _ _ (e.count ∙ as-many-run p jobs) where
   fewer : (left gone all : ℕ) → left + gone ≡ all → gone ≤ all
   fewer left gone all is = omega arith
 
-free-slots : (slots left gone all running most : ℕ) → left + gone ≡ all → running ≡ all - gone → most ≡ slots - running → most ≡ slots - left
-free-slots slots left gone all running most count is free = omega arith
-
-pub starts-behind : (p : Slots) (slots moment most running : ℕ) (jobs : Jobs Job) (steps : List StepValue) → EndJobs steps (jobs_in p jobs) → running ≡ length jobs.running - length steps → most ≡ slots - running → steps ++ starts_of most moment (map (waiting_in p) jobs.waiting) ≡ then_starts slots moment steps (jobs_in p jobs)
-starts-behind p slots moment most running jobs steps e is free =
-    let left : ℕ = length (jobs_after_steps steps (jobs_in p jobs)).running in
-    let as-many : most ≡ slots - left = free-slots slots left (length steps) (length jobs.running) running most (e.count ∙ as-many-run p jobs) is free in
-    ap (λ (m : ℕ). steps ++ starts_of m moment (map (waiting_in p) jobs.waiting)) as-many
-    ∙ ap (λ (ws : List (ℕ × JobValue)). steps ++ starts_of (slots - left) moment ws) (sym e.waiting)
-
 -- those of a Tick, of an outcome, and none
 pub tick_fewer : (p : Slots) (moment : ℕ) (jobs : Jobs Job) (steps : List StepValue) → AreJobs jobs → steps ≡ timings_out moment (map (running_in p) jobs.running) → EndJobs steps (jobs_in p jobs)
 tick_fewer p moment jobs steps h is = subst (λ (ss : List StepValue). EndJobs ss (jobs_in p jobs)) (sym is) (tick-ends moment (jobs_in p jobs) (shown-in-order p jobs h)).fewer
@@ -179,25 +169,10 @@ tick_fewer p moment jobs steps h is = subst (λ (ss : List StepValue). EndJobs s
 pub end_fewer : (p : Slots) (n : ℕ) (e : EndValue) (jobs : Jobs Job) (steps : List StepValue) → AreJobs jobs → steps ≡ ending_of n e (running_job n (jobs_in p jobs)) → EndJobs steps (jobs_in p jobs)
 end_fewer p n e jobs steps h is = subst (λ (ss : List StepValue). EndJobs ss (jobs_in p jobs)) (sym is) (outcome-ends n e (jobs_in p jobs) (shown-in-order p jobs h)).fewer
 
-pub none_fewer : (p : Slots) (jobs : Jobs Job) → EndJobs [] (jobs_in p jobs)
-none_fewer p jobs = record { waiting = refl; count = omega arith }
-
 -- ---- what is shown of jobs after a change
-
-shown-started : (p : Slots) (deadline : ℕ) (ws : List (ℕ × Job)) → map (running_in p) (started deadline ws) ≡ started deadline (map (waiting_in p) ws)
-shown-started p deadline [] = refl
-shown-started p deadline (w ∷ ws) = refl
 
 abbrev queue_of : ℕ → List (ℕ × JobValue) → List (ℕ × Running JobValue) → List (ℕ × List ℕ) → Jobs JobValue
 queue_of next waiting running ended = record { next = next; waiting = waiting; running = running; ended = ended }
-
-pub shown-start : (p : Slots) (deadline : ℕ) (jobs : Jobs Job) → jobs_in p (jobs_after_start deadline jobs) ≡ jobs_after_start deadline (jobs_in p jobs)
-shown-start p deadline jobs =
-    let waiting : map (waiting_in p) (drop 1 jobs.waiting) ≡ drop 1 (map (waiting_in p) jobs.waiting) = sym (drop-map (waiting_in p) 1 jobs.waiting) in
-    let running : map (running_in p) (jobs.running ++ started deadline jobs.waiting) ≡ map (running_in p) jobs.running ++ started deadline (map (waiting_in p) jobs.waiting) =
-    map-append (running_in p) jobs.running (started deadline jobs.waiting) ∙ ap (λ (rs : List (ℕ × Running JobValue)). map (running_in p) jobs.running ++ rs) (shown-started p deadline jobs.waiting) in
-    ap (λ (ws : List (ℕ × JobValue)). queue_of jobs.next ws (map (running_in p) (jobs.running ++ started deadline jobs.waiting)) jobs.ended) waiting
-    ∙ ap (λ (rs : List (ℕ × Running JobValue)). queue_of jobs.next (drop 1 (map (waiting_in p) jobs.waiting)) rs jobs.ended) running
 
 shown-removed : (p : Slots) (n : ℕ) (rs : List (ℕ × Running Job)) → map (running_in p) (remove_entry (same_number n) rs) ≡ remove_entry (same_number n) (map (running_in p) rs)
 shown-removed p n [] = refl
@@ -214,11 +189,6 @@ runs_there p n jobs h = go (running_job n jobs) refl where
   go : (o : Option Job) → running_job n jobs ≡ o → IsRunning n jobs
   go None none = absurd (let no : None ≡ Some h.0 = ap (option_map (job_in p)) (sym none) ∙ sym (shown-running p n jobs) ∙ h.1 in cc)
   go (Some job) is = (job, is)
-
-pub start-room : (p : Slots) (jobs : Jobs Job) → length (jobs_in p jobs).running < MOST_RUNNING → length jobs.running < MOST_RUNNING
-start-room p jobs h = fewer _ _ (as-many-run p jobs) h where
-  fewer : (a b : ℕ) → a ≡ b → a < MOST_RUNNING → b < MOST_RUNNING
-  fewer a b is less = omega arith
 
 -- ---- what jobs hold after a change
 

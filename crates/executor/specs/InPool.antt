@@ -5,7 +5,6 @@ use Rattle.blob_pool.specs.Moves.{Holders}
 use Rattle.instance_view.specs.Visible.{Blob}
 use Rattle.instance_view.specs.Shown.{blobs_in, entry_holders, visible_in}
 use Rattle.instance_view.specs.Sight.{SightValue}
-use Rattle.tree_plan.specs.Shown.{nodes_shown}
 use Rattle.job_queue.specs.Jobs.{Jobs, StageValue, waits, runs, has_ended}
 use Rattle.job_queue.specs.Sums.{jobs_sum}
 use Rattle.job_queue.specs.declared.queue.Running.{Running}
@@ -13,18 +12,15 @@ use Rattle.executor.specs.declared.job.Job.{Job}
 use Rattle.executor.specs.declared.job.Task.{Task}
 use Rattle.executor.specs.Job.{JobValue, TaskValue}
 use Rattle.executor.specs.Keeping.{kept_entries}
+use Rattle.executor.specs.Preparing.{task_read}
 use Rattle.executor.specs.Execute.{ExecutionState}
 
 abbrev pub task_in : Slots → Task → TaskValue
-task_in p task = record {
-  command = task.command.items;
-  nodes = nodes_shown task.plan.nodes.items;
-  texts = blobs_in p (kept_entries task.texts.items);
-}
+task_in p task = task_read task.action (blobs_in p (kept_entries task.texts.items))
 
 abbrev pub job_in : Slots → Job → JobValue
 job_in p job = record {
-  action = job.action;
+  action = job.task.action;
   timeout = job.timeout;
   is_stored = job.is_stored;
   task = task_in p job.task;

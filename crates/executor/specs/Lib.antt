@@ -8,6 +8,7 @@ pub mod Orders
 pub mod Ordered
 pub mod Taking
 pub mod Keeping
+pub mod Numbers
 pub mod InPool
 pub mod Shown
 pub mod Answers

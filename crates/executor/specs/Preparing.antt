@@ -1,18 +1,19 @@
 -- What an action needs, or the first fault that it has (remote_execution.proto, Execution.Execute):
 -- the action is not there; it is not taken; its command is there and not taken; the first fault of
 -- the walk through its inputs; the command, directories or files that are not there.
-use Rattle.std.specs.Prelude.{ℕ, Bool, List, [], ◌∷◌, Option, Some, None, is_some, Result, Ok, Err, if◌then◌else◌}
+use Rattle.std.specs.Prelude.{ℕ, Bool, List, [], ◌∷◌, Option, Some, None, is_some, unwrap_or, Result, Ok, Err, if◌then◌else◌}
 use Rattle.message_fields.specs.Results.{◌>>=◌}
 use Rattle.digest.specs.declared.Digest.{Digest}
+use Rattle.instance_view.specs.Visible.{Blob, visible_text}
 use Rattle.input_tree.specs.Listing.{Lookup}
 use Rattle.tree_plan.specs.Nodes.{PlanNodeValue}
 use Rattle.tree_plan.specs.Walk as Walk
-use Rattle.tree_plan.specs.Walk.{TreeFaultValue, digests_met, walk}
-use Rattle.action_reading.specs.Actions.{ActionTaken, action_in}
+use Rattle.tree_plan.specs.Walk.{Nodes, TreeFaultValue, digests_met, walk}
+use Rattle.action_reading.specs.Actions.{ActionTaken, action_in, and_then}
 use Rattle.action_reading.specs.Commands.{command_in}
 use Rattle.operations.specs.declared.fault.Fault.{Fault}
 use Rattle.operations.specs.declared.fault.Fault.TheVariants.{BadAction, BadCommand, MissingBlobs, BadDirectory, TreeTooLarge}
-use Rattle.executor.specs.Job.{JobValue, kept_texts}
+use Rattle.executor.specs.Job.{JobValue, TaskValue, kept_texts}
 
 -- a fault, and the digests of the blobs that are missing, in the order met
 pub record FaultValue : Type 0 where
@@ -89,3 +90,37 @@ job_of look d p = record {
     texts = kept_texts look (met d p);
   };
 }
+
+-- ---- a task, read off the texts that a job keeps
+
+-- the text of a digest among them; the empty text is always there
+abbrev pub look_kept : List Blob → Lookup
+look_kept texts d = visible_text d texts
+
+-- the action of a digest among them
+abbrev pub action_among : List Blob → Digest → Option ActionTaken
+action_among texts d = and_then (look_kept texts d) action_in
+
+-- the text that it names as its command
+abbrev pub command_among : List Blob → Option ActionTaken → List ℕ
+command_among texts None = []
+command_among texts (Some a) = unwrap_or (look_kept texts a.command) []
+
+abbrev pub nodes_or_none : Nodes → List PlanNodeValue
+nodes_or_none (Ok nodes) = nodes
+nodes_or_none (Err fault) = []
+
+-- what stands in its input root
+abbrev pub nodes_among : List Blob → Option ActionTaken → List PlanNodeValue
+nodes_among texts None = []
+nodes_among texts (Some a) = nodes_or_none (walk (look_kept texts) a.root)
+
+-- the task of the action of a digest, where these are the texts that its job keeps
+unfoldable pub command_read : Digest → List Blob → List ℕ
+command_read d texts = command_among texts (action_among texts d)
+
+unfoldable pub nodes_read : Digest → List Blob → List PlanNodeValue
+nodes_read d texts = nodes_among texts (action_among texts d)
+
+abbrev pub task_read : Digest → List Blob → TaskValue
+task_read d texts = record { command = command_read d texts; nodes = nodes_read d texts; texts = texts }

@@ -5,7 +5,7 @@ ghost use Rattle.std.specs.Prelude.{◌<◌, ◌^◌};
 use digest::Digest;
 
 /// What a call of Execute asks for.
-#[derive(Clone, Copy, PartialEq, Eq)]
+#[derive(Clone, Copy, Debug, PartialEq, Eq)]
 pub struct Asked {
     /// The digest of the action, whose size messages can say.
     pub action: Digest,

@@ -1,6 +1,6 @@
 //! Execute.
 
-ghost use Rattle.std.specs.Prelude.{◌≡◌, ◌≤◌, ◌<◌, ◌+◌, ◌^◌, ℕ, List, Some, None, option_map, IfOk, IfSome, OnOk, OnErr};
+ghost use Rattle.std.specs.Prelude.{◌≡◌, ◌≤◌, ◌<◌, ◌+◌, ◌^◌, ℕ, List, Some, None, Ok, option_map, IfOk, IfSome, OnOk, OnErr};
 ghost use Rattle.blob_pool.specs.Slots.{Slots, count_at};
 ghost use Rattle.blob_pool.specs.Moves.{Moves, no_holders};
 ghost use Rattle.instance_view.specs.Visible.{Blob};
@@ -17,6 +17,7 @@ ghost use Rattle.executor.specs.Answers.{answer_shown};
 ghost use Rattle.executor.specs.Changes.{after_changes};
 ghost use Rattle.executor.specs.Execute.{by_fault, by_job, by_looking, by_result, execute, looked_up};
 ghost use Rattle.executor.specs.InPool.{execution_in, jobs_holders};
+ghost use Rattle.executor.specs.Preparing as preparing;
 ghost use Rattle.executor.specs.Shown.{prepared_shown};
 
 use crate::answer::ExecuteAnswer;
@@ -146,6 +147,8 @@ fn answer_job(
 ) -> Result<ExecuteAnswer, CallError>
     requires next { queue.old.next ≤ LAST_NUMBER }
     requires size { action.now.size < 2 ^ 63 }
+    requires prepared { preparing.prepared (texts_of pool.old (sight_of view.old parent.now))
+        action.now ≡ Ok (prepared_shown prepared) }
     requires held { (k : ℕ) → sight_holders (sight_of view.old parent.now) k
         + jobs_holders queue.old k ≤ count_at pool.old k }
     requires room { (k : ℕ) → count_at pool.old k + 2 ^ 64 < 2 ^ 127 }
@@ -172,7 +175,7 @@ fn answer_job(
         &Sight::new(view, parent),
         pool,
         action,
-        prepared,
+        &prepared,
         &digests,
     )?;
     let number = enqueue(pool, queue, job)?;

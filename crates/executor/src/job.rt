@@ -5,45 +5,28 @@ ghost use Rattle.std.specs.Prelude.{◌<◌, ◌^◌};
 use crate::keeping::KeptText;
 use digest::Digest;
 use job_queue::Queue;
-use tree_plan::Plan;
 
 /// What is handed to whoever runs a job. Its texts lie in the pool: they may be read as long as the
-/// job runs.
+/// job runs. Its command and its input tree are read off them ([`crate::read_task`]).
+#[derive(Drop)]
 pub struct Task {
-    /// The text of its command (`action_reading::read_command`).
-    pub command: Vec<u8>,
-    /// What stands in its input root.
-    pub plan: Plan,
+    /// The digest of its action.
+    pub action: Digest,
     /// Each distinct text that the job met and that is not empty, in the order met: its action, its
-    /// command, its root, and the directories and files of the plan.
+    /// command, its root, and the directories and files of its input tree.
     pub texts: Vec<KeptText>,
 }
 
-// Written out, so that no crate above proves again that each part of it may be dropped.
-impl Drop for Task {
-    fn drop(self) {
-        let Task {
-            command,
-            plan,
-            texts,
-        } = self;
-        drop(command);
-        drop(plan);
-        drop(texts);
-    }
-}
-
-/// A job: an action that is to be run, and what it needs.
+/// A job: an action that is to be run, and the texts that it needs.
 #[derive(Drop)]
 pub struct Job {
-    /// The digest of its action, whose size messages can say.
-    pub action: Digest,
     /// How many milliseconds it may run.
     pub timeout: u64,
     /// Whether its result is stored.
     pub is_stored: bool,
+    /// Messages can say the size of its action's digest.
     pub task: Task,
-    ghost size: { action.size < 2 ^ 63 },
+    ghost size: { task.action.size < 2 ^ 63 },
 }
 
 /// The executions of an instance.

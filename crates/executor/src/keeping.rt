@@ -15,7 +15,7 @@ use instance_view::{Seen, Sight};
 use std::alloc::{AllocError, Global};
 
 /// A text that a job keeps: it is a holder of it in the pool.
-#[derive(Clone, Copy)]
+#[derive(Clone, Copy, Debug)]
 pub struct KeptText {
     pub digest: Digest,
     pub text: Kept,

@@ -8,13 +8,14 @@ ghost use Rattle.job_queue.specs.Jobs.{Jobs, jobs_after_push};
 ghost use Rattle.job_queue.specs.Order.{AreJobs};
 ghost use Rattle.job_queue.specs.declared.queue.TheConstants.{MOST_RUNNING};
 ghost use Rattle.operations.specs.Operations.{EndValue};
-ghost use Rattle.instance_view.specs.Visible.{Blob};
+ghost use Rattle.instance_view.specs.Visible.{Blob, visible_text};
 ghost use Rattle.input_tree.specs.Listing.{Lookup};
 ghost use Rattle.operations.specs.Once.{IsEachOnce};
 ghost use Rattle.executor.specs.Changes.{after_changes};
 ghost use Rattle.executor.specs.Execute.{ExecuteAnswer, ExecutionState, execute};
 ghost use Rattle.executor.specs.Job.{JobValue, TaskValue, kept_texts};
 ghost use Rattle.executor.specs.Orders.{AreOrdered, orders_of, task_of};
+ghost use Rattle.executor.specs.Preparing.{PreparedValue, job_of, met, prepared, task_read};
 ghost use Rattle.executor.specs.Steps.{end_steps, jobs_after_steps, start_steps, tick_steps};
 ghost use Rattle.executor.specs.Taking.{CanTake};
 ghost use Rattle.executor.specs.Waiting.{number_named};
@@ -37,6 +38,15 @@ pub fn an_answer_takes_one_number()
 pub fn a_job_keeps_each_text_once()
     ensures { (look : Lookup) (met : List Digest) →
         IsEachOnce (map (λ (b : Blob). b.0) (kept_texts look met)) }
+{}
+
+/// What a job needs follows from the texts that it keeps alone: what is read off them is what its
+/// action needed when it was asked for, whatever else was dropped since.
+pub fn a_task_is_read_off_its_texts()
+    ensures { (seen : List Blob) (d : Digest) (p : PreparedValue) →
+        let look = λ (e : Digest). visible_text e seen in
+        prepared look d ≡ Ok p →
+        (job_of look d p).task ≡ task_read d (kept_texts look (met d p)) }
 {}
 
 /// The steps of an event keep the order of jobs, their numbers and the limits.

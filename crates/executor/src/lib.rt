@@ -9,8 +9,10 @@ mod job;
 mod keeping;
 mod laws;
 mod making;
+mod numbering;
 mod orders;
 mod preparing;
+mod reading;
 mod steps;
 mod taking;
 mod waiting;
@@ -22,10 +24,13 @@ pub use job::{Executions, Job, Task};
 pub use keeping::KeptText;
 pub use laws::{
     a_job_keeps_each_text_once, a_job_keeps_its_task, a_refused_call_changes_nothing,
-    an_answer_takes_one_number, at_most_slots_run, each_start_is_ordered, names_are_read_so,
-    no_slot_is_left_empty, steps_can_be_taken, steps_keep_jobs,
+    a_task_is_read_off_its_texts, an_answer_takes_one_number, at_most_slots_run,
+    each_start_is_ordered, names_are_read_so, no_slot_is_left_empty, steps_can_be_taken,
+    steps_keep_jobs,
 };
+pub use numbering::{number_of, text_numbers};
 pub use orders::{Order, Told, task_of};
+pub use reading::{FoundTexts, TaskRead, read_task, read_task_command};
 pub use steps::{Step, end_steps, start_steps, tick_steps};
 pub use taking::{forget_job, take_steps};
 pub use waiting::wait;

@@ -1,6 +1,6 @@
 //! How jobs are made, and begin to wait.
 
-ghost use Rattle.std.specs.Prelude.{◌≡◌, ◌<◌, ◌+◌, ◌^◌, ◌≤◌, ℕ, IfOk, OnOk, OnErr};
+ghost use Rattle.std.specs.Prelude.{◌≡◌, ◌<◌, ◌+◌, ◌^◌, ◌≤◌, ℕ, IfOk, OnOk, OnErr, Ok};
 ghost use Rattle.blob_pool.specs.Slots.{count_at};
 ghost use Rattle.blob_pool.specs.Moves.{Moves, no_holders};
 ghost use Rattle.instance_view.specs.Shown.{entry_holders};
@@ -13,6 +13,7 @@ ghost use Rattle.job_queue.specs.declared.queue.TheConstants.{LAST_NUMBER};
 ghost use Rattle.executor.specs.Answers.{made_holders};
 ghost use Rattle.executor.specs.InPool.{job_in, job_holders};
 ghost use Rattle.executor.specs.Keeping.{kept_entries};
+ghost use Rattle.executor.specs.Preparing as preparing;
 ghost use Rattle.executor.specs.Preparing.{job_of, met};
 ghost use Rattle.executor.specs.Shown.{prepared_shown};
 
@@ -79,26 +80,26 @@ pub(crate) fn make_job(
     view: &Sight<'_>,
     pool: &mut Pool,
     action: &Digest,
-    prepared: Prepared,
+    prepared: &Prepared,
     digests: &[Digest],
 ) -> Result<Job, AllocError>
     requires size { action.now.size < 2 ^ 63 }
-    requires met { digests.now ≡ met action.now (prepared_shown prepared) }
+    requires prepared { preparing.prepared (texts_of pool.old view.now) action.now
+        ≡ Ok (prepared_shown prepared.now) }
+    requires met { digests.now ≡ met action.now (prepared_shown prepared.now) }
     requires held { (k : ℕ) → sight_holders view.now k ≤ count_at pool.old k }
     requires room { (k : ℕ) → count_at pool.old k + 2 ^ 64 < 2 ^ 127 }
     ensures job { IfOk result (λ job. job_in pool.new job
-        ≡ job_of (texts_of pool.old view.now) action.now (prepared_shown prepared)) }
+        ≡ job_of (texts_of pool.old view.now) action.now (prepared_shown prepared.now)) }
     ensures moves { Moves pool.old pool.new no_holders (made_holders result) }
 {
     let once = distinct(alloc, digests)?;
     let texts = keep_texts(alloc, view, pool, &once)?;
     Ok(Job {
-        action: *action,
         timeout: prepared.action.timeout,
         is_stored: prepared.action.is_stored,
         task: Task {
-            command: prepared.command,
-            plan: prepared.plan,
+            action: *action,
             texts,
         },
     })

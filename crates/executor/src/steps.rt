@@ -51,7 +51,7 @@ fn add_due(
         return Ok(());
     }
     let end = End::Fails(Fault::TimedOut, Vec::new(alloc));
-    let operation = completed(alloc, *number, &running.job.action, end)?;
+    let operation = completed(alloc, *number, &running.job.task.action, end)?;
     steps.push(Step::TimesOut {
         number: *number,
         operation,
@@ -83,7 +83,7 @@ fn step_started(alloc: Global, moment: u64, waiting: &(u64, Job)) -> Result<Step
         ≡ start_of moment (waiting_in p waiting.now)) }
 {
     let (number, job) = waiting;
-    let operation = unfinished(alloc, *number, ExecutionStage::Executing, &job.action)?;
+    let operation = unfinished(alloc, *number, ExecutionStage::Executing, &job.task.action)?;
     Ok(Step::Starts {
         number: *number,
         deadline: moment as u128 + job.timeout as u128,
@@ -129,7 +129,7 @@ fn step_ended(
     let Some(job) = queue.running_job(number) else {
         return Ok(steps);
     };
-    let operation = completed(alloc, number, &job.action, end)?;
+    let operation = completed(alloc, number, &job.task.action, end)?;
     steps.push(Step::Ends { number, operation })?;
     Ok(steps)
 }

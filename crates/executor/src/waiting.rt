@@ -76,11 +76,11 @@ fn answer(
     match stage {
         None => Err(CallError::Refused(Refusal::UnknownOperation)),
         Some(Stage::Waits(job)) => {
-            let answer = watched(alloc, number, ExecutionStage::Queued, &job.action)?;
+            let answer = watched(alloc, number, ExecutionStage::Queued, &job.task.action)?;
             Ok(answer)
         }
         Some(Stage::Runs(running)) => {
-            let action = &running.job.action;
+            let action = &running.job.task.action;
             let answer = watched(alloc, number, ExecutionStage::Executing, action)?;
             Ok(answer)
         }

@@ -1,6 +1,6 @@
 //! What becomes of a job whose run gave an outcome.
 
-ghost use Rattle.std.specs.Prelude.{◌≡◌, ◌≤◌, [], None, map, option_map, IfOk, OnOk, OnErr};
+ghost use Rattle.std.specs.Prelude.{◌≡◌, ◌≤◌, [], None, map, option_map, unwrap_or, IfOk, OnOk, OnErr};
 ghost use Rattle.std.specs.List.{AllByRecursion};
 ghost use Rattle.digest.specs.Naming.{Names};
 ghost use Rattle.blob_pool.specs.Slots.{Slots};
@@ -11,19 +11,20 @@ ghost use Rattle.quota_evict.specs.Admission.{visible_after_admission};
 ghost use Rattle.quota_evict.specs.InPool.{IsViewInPool};
 ghost use Rattle.quota_evict.specs.Within.{most_stored_bytes};
 ghost use Rattle.cas_service.specs.Changes.{MadeInPart, visible_after_changes};
+ghost use Rattle.action_reading.specs.Commands.{asked_outputs, command_in};
 ghost use Rattle.action_reading.specs.Shown.{asked_shown};
 ghost use Rattle.operations.specs.Operations.{fails};
 ghost use Rattle.outcomes.specs.Completing.{blob_shown, completion_shown};
 ghost use Rattle.outcomes.specs.Outcomes.{exited};
 ghost use Rattle.outcomes.specs.Shown.{exited_shown, outcome_shown};
 ghost use Rattle.executor.specs.InPool.{job_in};
-ghost use Rattle.execution_calls.specs.Ending.{admissions, completed, ending, outputs_asked, stored_of};
+ghost use Rattle.execution_calls.specs.Ending.{admissions, completed, ending, stored_of};
 ghost use Rattle.execution_calls.specs.Shown.{ending_shown};
 
 use action_reading::{AskedOutput, asked_outputs, read_command};
 use blob_pool::{Draft, Pool};
 use digest::Digest;
-use executor::Job;
+use executor::{Job, read_task_command};
 use instance_view::View;
 use operations::{End, Fault};
 use outcomes::{BlobText, Completion, Exited, Outcome, OutputBlob, complete, is_over_quota};
@@ -53,12 +54,12 @@ fn failure(alloc: Global, fault: Fault) -> Ending
     }
 }
 
-/// The outputs that the command of a job asks for. A job's command is one that is taken.
-fn outputs_asked<'a>(alloc: Global, job: &'a Job) -> Result<Vec<AskedOutput<'a>>, AllocError>
-    ensures { (p : Slots) → IfOk result (λ asked. map asked_shown asked.items
-        ≡ outputs_asked (job_in p job.now)) }
+/// The outputs that the text of a command asks for. A job's command is one that is taken.
+fn outputs_of<'a>(alloc: Global, text: &'a [u8]) -> Result<Vec<AskedOutput<'a>>, AllocError>
+    ensures { IfOk result (λ asked. map asked_shown asked.items
+        ≡ unwrap_or (option_map asked_outputs (command_in text.now)) []) }
 {
-    match read_command(alloc, &job.task.command)? {
+    match read_command(alloc, text)? {
         Some(command) => asked_outputs(alloc, &command),
         None => Ok(Vec::new(alloc)),
     }
@@ -110,15 +111,17 @@ fn end_of_exit(
     alloc: Global,
     quota: u64,
     view: &View,
+    pool: &Pool,
     job: &Job,
     run: Exited,
 ) -> Result<Ending, AllocError>
-    ensures { (p : Slots) → IfOk result (λ e. ending_shown e ≡ ending quota
-        (visible_in p view.now) (job_in p job.now) (exited (exited_shown run))) }
+    ensures { IfOk result (λ e. ending_shown e ≡ ending quota
+        (visible_in pool.now view.now) (job_in pool.now job.now) (exited (exited_shown run))) }
 {
     let code = run.code;
-    let asked = outputs_asked(alloc, job)?;
-    match complete(alloc, &job.action, &asked, run)? {
+    let command = read_task_command(alloc, pool, &job.task)?;
+    let asked = outputs_of(alloc, &command)?;
+    match complete(alloc, &job.task.action, &asked, run)? {
         Some(completion) => completed(alloc, quota, view, job, code, completion),
         None => Ok(failure(alloc, Fault::RunFailed)),
     }
@@ -131,17 +134,18 @@ pub fn end_of_run(
     alloc: Global,
     quota: u64,
     view: &View,
+    pool: &Pool,
     job: &Job,
     outcome: Outcome,
 ) -> Result<Ending, AllocError>
-    ensures ending { (p : Slots) → IfOk result (λ e. ending_shown e ≡ ending quota
-        (visible_in p view.now) (job_in p job.now) (outcome_shown outcome)) }
+    ensures ending { IfOk result (λ e. ending_shown e ≡ ending quota
+        (visible_in pool.now view.now) (job_in pool.now job.now) (outcome_shown outcome)) }
     ensures named { IfOk result
         (λ e. AllByRecursion (λ (b : Blob). Names b.0 b.1) (map blob_shown e.blobs.items)) }
 {
     match outcome {
         Outcome::Failed => Ok(failure(alloc, Fault::RunFailed)),
-        Outcome::Exited(run) => end_of_exit(alloc, quota, view, job, run),
+        Outcome::Exited(run) => end_of_exit(alloc, quota, view, pool, job, run),
     }
 }
 

@@ -21,10 +21,6 @@ use Rattle.instance_core.proofs.Sees.{Given, message_seeing, whole_seeing, front
 pub message_replies : (q : Slots) (parent : List Blob) (s : InstanceState) (id : CallId) (bytes : List ℕ) (r : Given) → Gives q r (message_answer s id bytes (call_at id s.calls)).replies → Gives q r (answer (seeing parent s) (message id bytes)).replies
 message_replies q parent s id bytes r h = subst (λ (a : Answer). Gives q r a.replies) (sym (message_seeing parent s id bytes (call_at id s.calls))) h
 
--- the same of another value that the instance is shown as
-pub as_shown : (i j : InstanceSlots) (P : InstanceSlots → Type 0) → i ≡ j → P i → P j
-as_shown i j P is h = subst P is h
-
 abbrev pub Apart : Slots → InstanceSlots → ViewValue → Type 0
 Apart p i parent = (k : ℕ) → holders_of_instance i k + holders parent k ≤ count_at p k
 

@@ -74,15 +74,6 @@ none_told only t id call old is_no =
     let nobody : replies_told ((id, call) ∷ []) t ≡ [] = rw is_no refl in
     sym (append-nil old) ∙ ap (λ (rs : List ReplyValue). old ++ rs) (sym (ap (replies_to only) nobody ∙ none_on only))
 
-deaf : (only : Option ℕ) (t : ToldValue) (id : CallId) → hears only id ≡ false → replies_to only (told_reply t id ∷ []) ≡ []
-deaf None t id is_no = absurd (let it : true ≡ false = is_no in cc)
-deaf (Some c) t id is_no = rw is_no refl
-
-pub not_heard : (only : Option ℕ) (t : ToldValue) (id : CallId) (call : CallValue) (old : List ReplyValue) → is_watching t.number call.progress ≡ true → hears only id ≡ false → old ≡ old ++ replies_to only (replies_told ((id, call) ∷ []) t)
-not_heard only t id call old is_so is_no =
-    let one : replies_told ((id, call) ∷ []) t ≡ told_reply t id ∷ [] = rw is_so refl in
-    sym (append-nil old) ∙ ap (λ (rs : List ReplyValue). old ++ rs) (sym (ap (replies_to only) one ∙ deaf only t id is_no))
-
 heard : (only : Option ℕ) (t : ToldValue) (id : CallId) → hears only id ≡ true → replies_to only (told_reply t id ∷ []) ≡ told_reply t id ∷ []
 heard None t id is_so = refl
 heard (Some c) t id is_so = rw is_so refl

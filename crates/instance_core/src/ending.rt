@@ -150,8 +150,15 @@ pub fn on_outcome(
     let Some(running) = executions.queue.running_job(job) else {
         return make_ready(alloc, calls, Vec::new(alloc), None);
     };
-    let action = running.action;
-    let ending = end_of_run(alloc, settings.quota, &contents.view, running, outcome)?;
+    let action = running.task.action;
+    let ending = end_of_run(
+        alloc,
+        settings.quota,
+        &contents.view,
+        pool,
+        running,
+        outcome,
+    )?;
     let Ending { end, blobs, stored } = ending;
     let turn = ready_to_end(alloc, settings, executions, calls, job, end)?;
     keep_outputs(settings, contents, pool, &action, blobs, stored)?;

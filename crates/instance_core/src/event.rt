@@ -5,7 +5,7 @@ use digest::Digest;
 use rpc::{Method, Refusal};
 
 /// What names a call.
-#[derive(Clone, Copy, PartialEq, Eq, Hash)]
+#[derive(Clone, Copy, Debug, PartialEq, Eq, Hash)]
 pub struct CallId {
     pub connection: u32,
     pub stream: u32,
@@ -30,7 +30,7 @@ pub enum CallEvent {
 
 /// A range of a blob: its bytes from one place until before another, of which there is one at
 /// least. It is a holder of the blob's text in the pool, until the text is released.
-#[derive(Clone, Copy)]
+#[derive(Clone, Copy, Debug)]
 pub struct GivenRange {
     pub digest: Digest,
     pub text: Kept,

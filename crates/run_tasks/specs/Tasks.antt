@@ -15,7 +15,8 @@ use Rattle.runner.specs.declared.task.NodeKind.{NodeKind}
 use Rattle.runner.specs.declared.task.NodeKind.TheVariants as kinds
 use Rattle.runner.specs.declared.task.TaskNode.{TaskNode}
 use Rattle.runner.specs.declared.task.Task.{Task}
-use Rattle.run_tasks.specs.Texts.{blob_digests, digest_number}
+use Rattle.executor.specs.Numbers.{digest_number}
+use Rattle.run_tasks.specs.Texts.{blob_digests}
 
 -- ---- nodes
 

@@ -1,59 +1,18 @@
 //! The nodes of a task's tree.
 
-ghost use Rattle.std.specs.Prelude.{◌≡◌, map, IfOk, OnOk};
+ghost use Rattle.std.specs.Prelude.{◌≡◌, map, IfOk};
 ghost use Rattle.tree_plan.specs.Shown.{nodes_shown};
 ghost use Rattle.tree_plan.specs.Shown as plans;
 ghost use Rattle.run_tasks.specs.Tasks.{kind_of, kind_shown, node_of, node_shown};
-ghost use Rattle.run_tasks.specs.Texts.{AreNumbers, GivesNumber, digest_number, kept_digests};
+ghost use Rattle.executor.specs.Numbers.{AreNumbers, kept_digests};
 
 use digest::Digest;
-use executor::KeptText;
+use executor::{KeptText, number_of, text_numbers};
 use indexmap::IndexMap;
 use runner::{NodeKind, TaskNode};
 use std::alloc::{AllocError, Global};
 use std::collections::VecDeque;
 use tree_plan::{NodeKind as PlanKind, PlanNode};
-
-/// Gives a digest a number, unless it has one.
-fn give_number(
-    numbers: &mut IndexMap<Digest, usize>,
-    digest: Digest,
-    number: usize,
-) -> Result<(), AllocError>
-    ensures { OnOk result (GivesNumber numbers.old.entries numbers.new.entries digest number) }
-{
-    if numbers.contains_key(&digest) {
-        return Ok(());
-    }
-    numbers.insert(digest, number)?;
-    Ok(())
-}
-
-/// The numbers of texts by their digests: of each digest that of the first.
-fn text_numbers(alloc: Global, texts: &[KeptText]) -> Result<IndexMap<Digest, usize>, AllocError>
-    ensures { IfOk result (λ numbers. AreNumbers (kept_digests texts.now) numbers.entries) }
-{
-    let mut numbers = IndexMap::with_capacity(alloc, texts.len())?;
-    let mut number = 0;
-    let mut left = texts;
-    'texts: while let [first, rest @ ..] = left {
-        give_number(&mut numbers, first.digest, number)?;
-        number += 1;
-        left = rest;
-    }
-    Ok(numbers)
-}
-
-/// The number of a digest's text, or how many texts there are.
-fn number_of(texts: &[KeptText], numbers: &IndexMap<Digest, usize>, digest: &Digest) -> usize
-    requires { AreNumbers (kept_digests texts.now) numbers.now.entries }
-    ensures { result ≡ digest_number (kept_digests texts.now) digest.now }
-{
-    match numbers.get(digest) {
-        Some(number) => *number,
-        None => texts.len(),
-    }
-}
 
 /// What is to be made at a node.
 fn kind_of(

@@ -1,15 +1,15 @@
 //! Tasks of jobs as tasks of runs.
 
 ghost use Rattle.std.specs.Prelude.{◌≡◌, IfOk};
-ghost use Rattle.blob_pool.specs.Slots.{Slots};
 ghost use Rattle.executor.specs.InPool.{task_in};
 ghost use Rattle.run_tasks.specs.Tasks.{IsTaskOf, function_for};
-ghost use Rattle.run_tasks.specs.Texts.{kept_digests};
+ghost use Rattle.executor.specs.Numbers.{kept_digests};
 
 use crate::commands::{command_for, output_paths, program_of};
 use crate::nodes::nodes_of;
+use blob_pool::Pool;
 use digest::HashFunction;
-use executor::{KeptText, Task as JobTask};
+use executor::{KeptText, Task as JobTask, read_task};
 use runner::Task;
 use std::alloc::{AllocError, Global};
 
@@ -30,11 +30,12 @@ fn function_for(texts: &[KeptText]) -> HashFunction
 /// is asked for. What the run leaves is hashed by the function of the digest of the task's action.
 ///
 /// Err: a request for memory was refused.
-pub fn run_task(alloc: Global, task: &JobTask) -> Result<Task, AllocError>
-    ensures { (p : Slots) → IfOk result (λ run. IsTaskOf (task_in p task.now) run) }
+pub fn run_task(alloc: Global, pool: &Pool, task: &JobTask) -> Result<Task, AllocError>
+    ensures { IfOk result (λ run. IsTaskOf (task_in pool.now task.now) run) }
 {
-    let nodes = nodes_of(alloc, &task.texts, &task.plan.nodes)?;
-    let message = command_for(alloc, &task.command)?;
+    let read = read_task(alloc, pool, task)?;
+    let nodes = nodes_of(alloc, &task.texts, &read.plan.nodes)?;
+    let message = command_for(alloc, &read.command)?;
     let command = program_of(alloc, &message)?;
     let working_directory = String::from_str(alloc, message.working_directory)?;
     let outputs = output_paths(alloc, &message)?;

@@ -1,14 +1,9 @@
 -- The number of an instance makes no difference to what it gives.
 use Rattle.std.proofs.Common.{◌≡◌, List, [], ◌∷◌, refl, sym, ap, ◌∙◌}
 use Rattle.std.specs.Prelude.{fold, map}
-use Rattle.instance_core.specs.Visible.{Blob}
-use Rattle.server_events.specs.Events.{EventValue}
-use Rattle.server_core.specs.Families.{Family, FamilyEvent, own_event, parent_event, unnumbered, without_number}
+use Rattle.server_core.specs.Families.{Family, FamilyEvent, own_event, parent_event, without_number}
 use Rattle.server_core.specs.LoneOutput.{lone_output}
-use Rattle.server_core.specs.Runs.{Run, FamilyRun, run_step, new_family_run, family_step, run_of_family, output_of_run}
-
-step_same : (parent : List Blob) (r : Run) (e : EventValue) → run_step parent r (unnumbered e) ≡ run_step parent r e
-step_same parent r e = refl
+use Rattle.server_core.specs.Runs.{FamilyRun, new_family_run, family_step, run_of_family, output_of_run}
 
 family_same : (f : FamilyRun) (e : FamilyEvent) → family_step f (without_number e) ≡ family_step f e
 family_same f (own_event e) = refl

@@ -300,13 +300,6 @@ orders_after q xs i a b orders meant at given v there =
     let is : v ≡ served_state_in q b = same_Some v (served_state_in q b) (sym there ∙ here q (set xs i b) i b (get-set_same xs i b (slice_get_within xs i a at))) in
     subst (λ (w : ServedState). AreOrders w.state.jobs orders.items meant) (sym is) given
 
--- an instance that is not there stands for nothing
-pub nobody_there : (p : Slots) (xs : List ServedSlots) (i : ℕ) (l : LoneInstance) → length xs ≤ i → StandsAt i (all_in p xs) l → ⊥
-nobody_there p xs i l past s =
-    let lt = slice_get_within (all_in p xs) i s.0 s.1 in
-    let long = length-map xs (served_state_in p) in
-    absurd (omega (arith, lt, long, past))
-
 set-same : (xs : List ServedSlots) (i : ℕ) (a : ServedSlots) → slice_get xs i ≡ Some a → set xs i a ≡ xs
 set-same [] i a at = refl
 set-same (x ∷ xs) zero a at = let same : x ≡ a = first x a at in ap (λ (y : ServedSlots). y ∷ xs) (sym same)

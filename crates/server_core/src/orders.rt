@@ -3,7 +3,6 @@
 ghost use Rattle.std.specs.Prelude.{◌≡◌, map, option_map, IfOk};
 ghost use Rattle.blob_pool.specs.Slots.{Slots};
 ghost use Rattle.instance_view.specs.Shown.{blobs_in};
-ghost use Rattle.tree_plan.specs.Shown.{kind_shown, node_shown, nodes_shown};
 ghost use Rattle.executor.specs.InPool.{task_in};
 ghost use Rattle.executor.specs.Keeping.{kept_entries};
 ghost use Rattle.executor.specs.Ordered.{order_meant};
@@ -12,10 +11,10 @@ ghost use Rattle.server_core.specs.Shown.{order_shown, task_shown, text_shown};
 
 use blob_pool::Pool;
 use digest::Digest;
-use executor::KeptText;
+use executor::{KeptText, read_task};
 use served_instance::{Order, ServedInstance, Task};
 use std::alloc::{AllocError, Global};
-use tree_plan::{NodeKind, PlanNode};
+use tree_plan::PlanNode;
 
 /// A text of a task, under its digest.
 #[derive(Drop)]
@@ -52,49 +51,6 @@ pub struct OrderedAt {
     pub order: RunOrder,
 }
 
-fn copy_kind(alloc: Global, kind: &NodeKind) -> Result<NodeKind, AllocError>
-    ensures { IfOk result (λ copied. kind_shown copied ≡ kind_shown kind.now) }
-{
-    match kind {
-        NodeKind::File {
-            digest,
-            is_executable,
-        } => Ok(NodeKind::File {
-            digest: *digest,
-            is_executable: *is_executable,
-        }),
-        NodeKind::Directory { digest } => Ok(NodeKind::Directory { digest: *digest }),
-        NodeKind::Symlink { target } => {
-            let target = String::from_str(alloc, target)?;
-            Ok(NodeKind::Symlink { target })
-        }
-    }
-}
-
-fn copy_node(alloc: Global, node: &PlanNode) -> Result<PlanNode, AllocError>
-    ensures { IfOk result (λ copied. node_shown copied ≡ node_shown node.now) }
-{
-    let name = String::from_str(alloc, &node.name)?;
-    let kind = copy_kind(alloc, &node.kind)?;
-    Ok(PlanNode {
-        name,
-        level: node.level,
-        kind,
-    })
-}
-
-fn copy_nodes(alloc: Global, nodes: &[PlanNode]) -> Result<Vec<PlanNode>, AllocError>
-    ensures { IfOk result (λ copied. nodes_shown copied.items ≡ nodes_shown nodes.now) }
-{
-    let mut copied = Vec::new(alloc);
-    let mut left = nodes;
-    while let [first, rest @ ..] = left {
-        copied.push(copy_node(alloc, first)?)?;
-        left = rest;
-    }
-    Ok(copied)
-}
-
 fn copy_texts(alloc: Global, pool: &Pool, kept: &[KeptText]) -> Result<Vec<TaskText>, AllocError>
     ensures { IfOk result
         (λ copied. map text_shown copied.items ≡ blobs_in pool.now (kept_entries kept.now)) }
@@ -116,12 +72,11 @@ fn copy_texts(alloc: Global, pool: &Pool, kept: &[KeptText]) -> Result<Vec<TaskT
 fn copy_task(alloc: Global, pool: &Pool, task: &Task) -> Result<RunTask, AllocError>
     ensures { IfOk result (λ copied. task_shown copied ≡ task_in pool.now task.now) }
 {
-    let command = Vec::from_slice(alloc, &task.command)?;
-    let nodes = copy_nodes(alloc, &task.plan.nodes)?;
+    let read = read_task(alloc, pool, task)?;
     let texts = copy_texts(alloc, pool, &task.texts)?;
     Ok(RunTask {
-        command,
-        nodes,
+        command: read.command,
+        nodes: read.plan.nodes,
         texts,
     })
 }

@@ -27,7 +27,7 @@ use std::alloc::{AllocError, Global};
 use std::marker::Model;
 
 /// What an event changes of which connections are open, and of how many bytes were taken.
-#[derive(Clone, Copy)]
+#[derive(Clone, Copy, Debug)]
 pub enum ConnectionChange {
     /// The connection of this number opened.
     Opened(u32),

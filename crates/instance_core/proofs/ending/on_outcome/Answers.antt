@@ -49,7 +49,7 @@ returns-in_err-keep_outputs-clause-memory c =
     let outcome = outcome_shown c.args.outcome in
     let job = job_in p c.in-Some.running.now in
     let runs = shown-running p c.args.job c.args.contents.now.executions.queue ∙ ap (option_map (job_in p)) (sym c.in-Some.ensures) in
-    let kept = kept_of s outcome job (running_job c.args.job s.jobs) c.in-Some.running.now.action (ending_shown c.in_ok-ending.ending) runs refl (c.in_ok-ending.ensures.ending p) in
+    let kept = kept_of s outcome job (running_job c.args.job s.jobs) c.in-Some.running.now.task.action (ending_shown c.in_ok-ending.ending) runs refl c.in_ok-ending.ensures.ending in
     any_err c.from_residual-in_err-keep_outputs.result (subst (λ (cs : List InstanceChange). MadeInPart cs s (contents_state c.args.settings.now c.keep_outputs.new.pool c.keep_outputs.new.contents o)) kept (c.in_err-keep_outputs.ensures.memory o))
 
 pub returns-clause-ready : goal.returns-clause-ready
@@ -60,7 +60,7 @@ returns-clause-ready c = λ q.
     let outcome = outcome_shown c.args.outcome in
     let job = job_in p c.in-Some.running.now in
     let runs = shown-running p c.args.job c.args.contents.now.executions.queue ∙ ap (option_map (job_in p)) (sym c.in-Some.ensures) in
-    let steps = c.in_ok-turn.ensures.steps p ∙ ending_steps_of s c.args.job outcome job _ c.args.contents.now.executions.slots runs c.requires.slots (ap (λ (e : EndingValue). e.end_is) (c.in_ok-ending.ensures.ending p)) in
+    let steps = c.in_ok-turn.ensures.steps p ∙ ending_steps_of s c.args.job outcome job _ c.args.contents.now.executions.slots runs c.requires.slots (ap (λ (e : EndingValue). e.end_is) c.in_ok-ending.ensures.ending) in
     ready_of q s (end_job c.args.job outcome) None c.in_ok-turn.turn (c.in_ok-turn.ensures.replies q) steps c.in_ok-turn.ensures.orders
 
 pub returns-clause-short : goal.returns-clause-short
@@ -78,5 +78,5 @@ returns-clause-changed c =
     let outcome = outcome_shown c.args.outcome in
     let job = job_in p c.in-Some.running.now in
     let runs = shown-running p c.args.job c.args.contents.now.executions.queue ∙ ap (option_map (job_in p)) (sym c.in-Some.ensures) in
-    let kept = kept_of s outcome job (running_job c.args.job s.jobs) c.in-Some.running.now.action (ending_shown c.in_ok-ending.ending) runs refl (c.in_ok-ending.ensures.ending p) in
+    let kept = kept_of s outcome job (running_job c.args.job s.jobs) c.in-Some.running.now.task.action (ending_shown c.in_ok-ending.ending) runs refl c.in_ok-ending.ensures.ending in
     c.in_ok-keep_outputs.ensures.changed o ∙ ap (λ (cs : List InstanceChange). state_after_changes cs s) kept

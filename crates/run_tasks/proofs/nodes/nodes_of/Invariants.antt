@@ -1,7 +1,7 @@
 use Rattle.std.proofs.Common.{◌≡◌, ◌++◌, length, map}
 use Rattle.tree_plan.specs.Shown.{nodes_shown}
 use Rattle.run_tasks.specs.Tasks.{node_of, node_shown}
-use Rattle.run_tasks.specs.Texts.{kept_digests}
+use Rattle.executor.specs.Numbers.{kept_digests}
 use Rattle.run_tasks.proofs.nodes.nodes_of.Given as goal
 
 abbrev pub invariant-nodes : goal.invariant-nodes

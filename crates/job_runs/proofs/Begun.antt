@@ -1,7 +1,6 @@
 -- A run that a runner began is one of the task of its job.
-use Rattle.std.proofs.Common.{◌≡◌, List, [], ◌∷◌, ◌++◌, sym}
-use Rattle.std.specs.Prelude.{true, false, Result, Ok, Err, OnOk, OnErr, is_err}
-use Rattle.std.proofs.lemmas.Bool.{true≢false}
+use Rattle.std.proofs.Common.{◌≡◌, List, [], ◌∷◌, ◌++◌}
+use Rattle.std.specs.Prelude.{Result, Ok, Err, OnOk}
 use Rattle.executor.specs.Job.{TaskValue}
 use Rattle.runner.specs.declared.task.RunKey.{RunKey}
 use Rattle.runner.specs.declared.task.Task.{Task}
@@ -19,13 +18,3 @@ begun_of (Ok x) run task made old new of_task on = record {
   started = on.1;
   added = on.2;
 }
-
--- what is so where an answer is a refusal
-pub refused_is : {A E : Type 0} (P : Type 0) (r : Result A E) → is_err r ≡ true → OnErr r P → P
-refused_is P (Ok x) is so = absurd (true≢false (sym is))
-refused_is P (Err e) is so = so
-
--- .. and where it is none
-pub is_begun : {A E : Type 0} (P : Type 0) (r : Result A E) → is_err r ≡ false → OnOk r P → P
-is_begun P (Ok x) is so = so
-is_begun P (Err e) is so = absurd (true≢false is)

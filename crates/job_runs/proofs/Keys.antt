@@ -1,7 +1,7 @@
 -- Keys that stand once, as runs begin and end and jobs are noted and taken out.
-use Rattle.std.proofs.Common.{inl, inr, ◌≡◌, ◌≤◌, ◌<◌, ◌⊎◌, ℕ, ◌+◌, ◌-◌, Bool, true, false, List, [], ◌∷◌, ◌++◌, length, map, refl, sym, ap, subst, ◌∙◌, append-nil, append_assoc, arith}
+use Rattle.std.proofs.Common.{inl, inr, ◌≡◌, ℕ, Bool, true, false, List, [], ◌∷◌, ◌++◌, refl, sym, ap, subst, ◌∙◌, append-nil, append_assoc}
 use Rattle.std.specs.Prelude.{◌||◌, ◌&&◌, ◌==◌, ⊤, Option, Some, None, option_map, Result}
-use Rattle.std.proofs.lemmas.Bool.{eqb-true, eq-eqb, ne_eqb, true≢false}
+use Rattle.std.proofs.lemmas.Bool.{eqb-true, eq-eqb, true≢false}
 use Rattle.runner.specs.declared.task.RunKey.{RunKey}
 use Rattle.runner.specs.declared.folder.Place.{Place}
 use Rattle.runner.specs.declared.fault.RunFault.{RunFault}
@@ -10,7 +10,7 @@ use Rattle.runner.specs.declared.stage.State.{State}
 use Rattle.runner.specs.declared.stage.State.TheVariants.{Live, Over}
 use Rattle.runner.specs.declared.stage.Run.{Run}
 use Rattle.runner.specs.Calls.{FolderCall, ProgramCall}
-use Rattle.runner.specs.Runs.{run_of, run_kept, still_left, Ends, GoesOn, IsAsked, IsKilled, Stands}
+use Rattle.runner.specs.Runs.{run_of, run_kept, still_left, Ends, GoesOn, IsAsked, IsKilled}
 use Rattle.job_runs.specs.Keys.{is_key, has_key, without_key, run_keys, all_keys, AreOnce}
 
 or-false : (a b : Bool) → (a || b) ≡ false → (a ≡ false) × (b ≡ false)
@@ -46,11 +46,14 @@ none-without k key (x ∷ ks) h =
       go true same apart later = rw same later
       go false other apart later = rw other (or-both (is_key k x) (has_key k (without_key key ks)) apart later)
 
--- ---- none stands twice
+none-left : (key : RunKey) (ks : List RunKey) → has_key key (without_key key ks) ≡ false
+none-left key [] = refl
+none-left key (x ∷ ks) = go (is_key key x) refl (none-left key ks) where
+  go : (b : Bool) → is_key key x ≡ b → has_key key (without_key key ks) ≡ false → has_key key (without_key key (x ∷ ks)) ≡ false
+  go true same later = rw same later
+  go false other later = rw other (or-both (is_key key x) (has_key key (without_key key ks)) other later)
 
-once-back : (xs ys : List RunKey) → AreOnce (xs ++ ys) → AreOnce ys
-once-back [] ys h = h
-once-back (x ∷ xs) ys h = once-back xs ys h.1
+-- ---- none stands twice
 
 once-filter : (key : RunKey) (ks : List RunKey) → AreOnce ks → AreOnce (without_key key ks)
 once-filter key [] h = tt
@@ -86,6 +89,26 @@ same-both a b h = go (is_key b a) refl where
       let there : is_key a b ≡ true = and-both (b.instance == a.instance) (b.job == a.job) (eq-eqb b.instance a.instance (sym (eqb-true a.instance b.instance both.0))) (eq-eqb b.job a.job (sym (eqb-true a.job b.job both.1))) in
       absurd (true≢false (sym there ∙ h))
 
+key-same : (a b k : RunKey) → is_key a b ≡ true → is_key a k ≡ is_key b k
+key-same a b k h =
+    let both = and-true (b.instance == a.instance) (b.job == a.job) h in
+    let instance : a.instance ≡ b.instance = sym (eqb-true b.instance a.instance both.0) in
+    let job : a.job ≡ b.job = sym (eqb-true b.job a.job both.1) in
+    ap (λ (n : ℕ). (k.instance == n && k.job == a.job)) instance ∙ ap (λ (n : ℕ). (k.instance == b.instance && k.job == n)) job
+
+has-same : (a b : RunKey) (ks : List RunKey) → is_key a b ≡ true → has_key a ks ≡ has_key b ks
+has-same a b [] h = refl
+has-same a b (k ∷ ks) h = ap (λ (t : Bool). t || has_key a ks) (key-same a b k h) ∙ ap (λ (t : Bool). is_key b k || t) (has-same a b ks h)
+
+none-beside : (key : RunKey) (xs ys : List RunKey) → AreOnce (xs ++ ys) → has_key key ys ≡ true → has_key key xs ≡ false
+none-beside key [] ys h is = refl
+none-beside key (x ∷ xs) ys h is = or-both (is_key key x) (has_key key xs) (go (is_key key x) refl) (none-beside key xs ys h.1 is) where
+  go : (b : Bool) → is_key key x ≡ b → is_key key x ≡ false
+  go false other = other
+  go true same =
+      let there : has_key x ys ≡ true = sym (has-same key x ys same) ∙ is in
+      absurd (true≢false (sym there ∙ none-back x xs ys h.0))
+
 pub once-insert : (xs : List RunKey) (k : RunKey) (ys : List RunKey) → has_key k (xs ++ ys) ≡ false → AreOnce (xs ++ ys) → AreOnce (xs ++ k ∷ ys)
 once-insert [] k ys new h = (new, h)
 once-insert (x ∷ xs) k ys new h =
@@ -94,64 +117,70 @@ once-insert (x ∷ xs) k ys new h =
 
 -- ---- of runs
 
-keys-at : (earlier : List Run) (run : Run) (later : List Run) (unbegun : List RunKey) → all_keys (earlier ++ run ∷ later) unbegun ≡ run_keys earlier ++ run.place.run ∷ all_keys later unbegun
-keys-at [] run later unbegun = refl
-keys-at (r ∷ earlier) run later unbegun = ap (λ (ks : List RunKey). r.place.run ∷ ks) (keys-at earlier run later unbegun)
+keys-at : (earlier : List Run) (run : Run) (later : List Run) (to_begin : List RunKey) → all_keys (earlier ++ run ∷ later) to_begin ≡ run_keys earlier ++ run.place.run ∷ all_keys later to_begin
+keys-at [] run later to_begin = refl
+keys-at (r ∷ earlier) run later to_begin = ap (λ (ks : List RunKey). r.place.run ∷ ks) (keys-at earlier run later to_begin)
 
-keys-beside : (earlier later : List Run) (unbegun : List RunKey) → all_keys (earlier ++ later) unbegun ≡ run_keys earlier ++ all_keys later unbegun
-keys-beside [] later unbegun = refl
-keys-beside (r ∷ earlier) later unbegun = ap (λ (ks : List RunKey). r.place.run ∷ ks) (keys-beside earlier later unbegun)
+keys-beside : (earlier later : List Run) (to_begin : List RunKey) → all_keys (earlier ++ later) to_begin ≡ run_keys earlier ++ all_keys later to_begin
+keys-beside [] later to_begin = refl
+keys-beside (r ∷ earlier) later to_begin = ap (λ (ks : List RunKey). r.place.run ∷ ks) (keys-beside earlier later to_begin)
 
-behind : (runs : List Run) (run : Run) (unbegun : List RunKey) → all_keys (runs ++ run ∷ []) unbegun ≡ run_keys runs ++ run.place.run ∷ unbegun
-behind [] run unbegun = refl
-behind (r ∷ runs) run unbegun = ap (λ (ks : List RunKey). r.place.run ∷ ks) (behind runs run unbegun)
+behind : (runs : List Run) (run : Run) (to_begin : List RunKey) → all_keys (runs ++ run ∷ []) to_begin ≡ run_keys runs ++ run.place.run ∷ to_begin
+behind [] run to_begin = refl
+behind (r ∷ runs) run to_begin = ap (λ (ks : List RunKey). r.place.run ∷ ks) (behind runs run to_begin)
 
 abbrev StayOnce : List Run → List Run → List RunKey → Type 0
-StayOnce old new unbegun = AreOnce (all_keys old unbegun) → AreOnce (all_keys new unbegun)
+StayOnce old new to_begin = AreOnce (all_keys old to_begin) → AreOnce (all_keys new to_begin)
 
-kept-once : (earlier later : List Run) (place : Place) (kept : Option State) (unbegun : List RunKey) → AreOnce (run_keys earlier ++ place.run ∷ all_keys later unbegun) → AreOnce (all_keys (earlier ++ (run_kept place kept ++ later)) unbegun)
-kept-once earlier later place (Some s) unbegun h = subst AreOnce (sym (keys-at earlier (run_of place s) later unbegun)) h
-kept-once earlier later place None unbegun h = subst AreOnce (sym (keys-beside earlier later unbegun)) (once-remove (run_keys earlier) place.run (all_keys later unbegun) h)
+kept-once : (earlier later : List Run) (place : Place) (kept : Option State) (to_begin : List RunKey) → AreOnce (run_keys earlier ++ place.run ∷ all_keys later to_begin) → AreOnce (all_keys (earlier ++ (run_kept place kept ++ later)) to_begin)
+kept-once earlier later place (Some s) to_begin h = subst AreOnce (sym (keys-at earlier (run_of place s) later to_begin)) h
+kept-once earlier later place None to_begin h = subst AreOnce (sym (keys-beside earlier later to_begin)) (once-remove (run_keys earlier) place.run (all_keys later to_begin) h)
 
-ends-once : (key : RunKey) (state : State) (old new : List Run) (f g : Option (List FolderCall)) (p q : Option (List ProgramCall)) (unbegun : List RunKey) → Ends key state old new f g p q → StayOnce old new unbegun
-ends-once key state old new f g p q unbegun e h =
-    subst (λ (rs : List Run). AreOnce (all_keys rs unbegun)) (sym e.then)
-    (kept-once e.earlier e.later e.place (option_map Over (still_left e.left)) unbegun
-    (subst AreOnce (keys-at e.earlier (run_of e.place state) e.later unbegun)
-    (subst (λ (rs : List Run). AreOnce (all_keys rs unbegun)) e.there h)))
+ends-once : (key : RunKey) (state : State) (old new : List Run) (f g : Option (List FolderCall)) (p q : Option (List ProgramCall)) (to_begin : List RunKey) → Ends key state old new f g p q → StayOnce old new to_begin
+ends-once key state old new f g p q to_begin e h =
+    subst (λ (rs : List Run). AreOnce (all_keys rs to_begin)) (sym e.then)
+    (kept-once e.earlier e.later e.place (option_map Over (still_left e.left)) to_begin
+    (subst AreOnce (keys-at e.earlier (run_of e.place state) e.later to_begin)
+    (subst (λ (rs : List Run). AreOnce (all_keys rs to_begin)) e.there h)))
 
-goes-once : (text : ℕ → List ℕ) (key : RunKey) (r : Result (Option Outcome) RunFault) (old new : List Run) (f g : Option (List FolderCall)) (p q : Option (List ProgramCall)) (unbegun : List RunKey) → GoesOn text key r old new f g p q → StayOnce old new unbegun
-goes-once text key r old new f g p q unbegun e h =
-    subst (λ (rs : List Run). AreOnce (all_keys rs unbegun)) (sym e.then)
-    (kept-once e.earlier e.later e.place e.kept unbegun
-    (subst AreOnce (keys-at e.earlier (run_of e.place (Live e.stage)) e.later unbegun)
-    (subst (λ (rs : List Run). AreOnce (all_keys rs unbegun)) e.there h)))
+goes-once : (text : ℕ → List ℕ) (key : RunKey) (r : Result (Option Outcome) RunFault) (old new : List Run) (f g : Option (List FolderCall)) (p q : Option (List ProgramCall)) (to_begin : List RunKey) → GoesOn text key r old new f g p q → StayOnce old new to_begin
+goes-once text key r old new f g p q to_begin e h =
+    subst (λ (rs : List Run). AreOnce (all_keys rs to_begin)) (sym e.then)
+    (kept-once e.earlier e.later e.place e.kept to_begin
+    (subst AreOnce (keys-at e.earlier (run_of e.place (Live e.stage)) e.later to_begin)
+    (subst (λ (rs : List Run). AreOnce (all_keys rs to_begin)) e.there h)))
 
-pub same-once : (old new : List Run) (unbegun : List RunKey) → new ≡ old → StayOnce old new unbegun
-same-once old new unbegun same h = subst (λ (rs : List Run). AreOnce (all_keys rs unbegun)) (sym same) h
+pub same-once : (old new : List Run) (to_begin : List RunKey) → new ≡ old → StayOnce old new to_begin
+same-once old new to_begin same h = subst (λ (rs : List Run). AreOnce (all_keys rs to_begin)) (sym same) h
 
-pub killed-once : (key : RunKey) (told : Result ⊤ RunFault) (old new : List Run) (f g : Option (List FolderCall)) (p q : Option (List ProgramCall)) (unbegun : List RunKey) → IsKilled key told old new f g p q → StayOnce old new unbegun
-killed-once key told old new f g p q unbegun (inl h) = same-once old new unbegun h.0.1
-killed-once key told old new f g p q unbegun (inr ended) = ends-once key ended.0 old new f g p q unbegun ended.1
+pub killed-once : (key : RunKey) (told : Result ⊤ RunFault) (old new : List Run) (f g : Option (List FolderCall)) (p q : Option (List ProgramCall)) (to_begin : List RunKey) → IsKilled key told old new f g p q → StayOnce old new to_begin
+killed-once key told old new f g p q to_begin (inl h) = same-once old new to_begin h.0.1
+killed-once key told old new f g p q to_begin (inr ended) = ends-once key ended.0 old new f g p q to_begin ended.1
 
-pub asked-once : (text : ℕ → List ℕ) (key : RunKey) (r : Result (Option Outcome) RunFault) (old new : List Run) (f g : Option (List FolderCall)) (p q : Option (List ProgramCall)) (unbegun : List RunKey) → IsAsked text key r old new f g p q → StayOnce old new unbegun
-asked-once text key r old new f g p q unbegun (inl h) = same-once old new unbegun h.0.1
-asked-once text key r old new f g p q unbegun (inr (inl ended)) = ends-once key (Over ended.0) old new f g p q unbegun ended.1
-asked-once text key r old new f g p q unbegun (inr (inr goes)) = goes-once text key r old new f g p q unbegun goes
+pub asked-once : (text : ℕ → List ℕ) (key : RunKey) (r : Result (Option Outcome) RunFault) (old new : List Run) (f g : Option (List FolderCall)) (p q : Option (List ProgramCall)) (to_begin : List RunKey) → IsAsked text key r old new f g p q → StayOnce old new to_begin
+asked-once text key r old new f g p q to_begin (inl h) = same-once old new to_begin h.0.1
+asked-once text key r old new f g p q to_begin (inr (inl ended)) = ends-once key (Over ended.0) old new f g p q to_begin ended.1
+asked-once text key r old new f g p q to_begin (inr (inr goes)) = goes-once text key r old new f g p q to_begin goes
 
 -- ---- of a runner and the jobs noted beside it
 
-pub begun-once : (key : RunKey) (old new : List Run) (run : Run) (unbegun : List RunKey) → new ≡ old ++ run ∷ [] → run.place.run ≡ key → has_key key (all_keys old unbegun) ≡ false → AreOnce (all_keys old unbegun) → AreOnce (all_keys new unbegun)
-begun-once key old new run unbegun added same none h =
-    subst (λ (rs : List Run). AreOnce (all_keys rs unbegun)) (sym added)
-    (subst AreOnce (sym (behind old run unbegun))
-    (subst (λ (k : RunKey). AreOnce (run_keys old ++ k ∷ unbegun)) (sym same) (once-insert (run_keys old) key unbegun none h)))
+begun-once : (key : RunKey) (old new : List Run) (run : Run) (to_begin : List RunKey) → new ≡ old ++ run ∷ [] → run.place.run ≡ key → has_key key (all_keys old to_begin) ≡ false → AreOnce (all_keys old to_begin) → AreOnce (all_keys new to_begin)
+begun-once key old new run to_begin added same none h =
+    subst (λ (rs : List Run). AreOnce (all_keys rs to_begin)) (sym added)
+    (subst AreOnce (sym (behind old run to_begin))
+    (subst (λ (k : RunKey). AreOnce (run_keys old ++ k ∷ to_begin)) (sym same) (once-insert (run_keys old) key to_begin none h)))
 
-pub noted-once : (key : RunKey) (runs : List Run) (unbegun : List RunKey) → has_key key (all_keys runs unbegun) ≡ false → AreOnce (all_keys runs unbegun) → AreOnce (all_keys runs (unbegun ++ key ∷ []))
-noted-once key runs unbegun none h =
-    let same : all_keys runs unbegun ≡ all_keys runs unbegun ++ [] = sym (append-nil (all_keys runs unbegun)) in
-    subst AreOnce (append_assoc (run_keys runs) unbegun (key ∷ []))
-    (once-insert (all_keys runs unbegun) key [] (subst (λ (ks : List RunKey). has_key key ks ≡ false) same none) (subst AreOnce same h))
+-- one that was noted begins, and is noted no more
+pub first-once : (key : RunKey) (old new : List Run) (run : Run) (to_begin : List RunKey) → new ≡ old ++ run ∷ [] → run.place.run ≡ key → has_key key to_begin ≡ true → AreOnce (all_keys old to_begin) → AreOnce (all_keys new (without_key key to_begin))
+first-once key old new run to_begin added same is h =
+    let none : has_key key (all_keys old (without_key key to_begin)) ≡ false = none-append key (run_keys old) (without_key key to_begin) (none-beside key (run_keys old) to_begin h is) (none-left key to_begin) in
+    begun-once key old new run (without_key key to_begin) added same none (once-without key (run_keys old) to_begin h)
+
+pub noted-once : (key : RunKey) (runs : List Run) (to_begin : List RunKey) → has_key key (all_keys runs to_begin) ≡ false → AreOnce (all_keys runs to_begin) → AreOnce (all_keys runs (to_begin ++ key ∷ []))
+noted-once key runs to_begin none h =
+    let same : all_keys runs to_begin ≡ all_keys runs to_begin ++ [] = sym (append-nil (all_keys runs to_begin)) in
+    subst AreOnce (append_assoc (run_keys runs) to_begin (key ∷ []))
+    (once-insert (all_keys runs to_begin) key [] (subst (λ (ks : List RunKey). has_key key ks ≡ false) same none) (subst AreOnce same h))
 
 pub taken-once : (key : RunKey) (runs : List Run) (before now : List RunKey) → now ≡ without_key key before → AreOnce (all_keys runs before) → AreOnce (all_keys runs now)
 taken-once key runs before now is h = subst (λ (ks : List RunKey). AreOnce (all_keys runs ks)) (sym is) (once-without key (run_keys runs) before h)

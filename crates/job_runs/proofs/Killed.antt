@@ -1,5 +1,5 @@
 -- Runs that are killed one after another, the last first.
-use Rattle.std.proofs.Common.{◌≡◌, ◌≤◌, ◌<◌, ℕ, zero, suc, ◌-◌, List, refl, subst, arith}
+use Rattle.std.proofs.Common.{◌≡◌, ◌<◌, ℕ, zero, suc, ◌-◌, List, refl, subst, arith}
 use Rattle.std.specs.Prelude.{Option, Some, None, option_map, slice_get}
 use Rattle.runner.specs.declared.task.RunKey.{RunKey}
 use Rattle.runner.specs.declared.stage.Run.{Run}
@@ -30,7 +30,3 @@ killed_next configs moment left key old mid new some is killed rest =
 pub killed_no : (configs : List ConfigValue) (moment left : ℕ) (old new : Standing) → 0 < left → None ≡ option_map key_of (slice_get old.runs (left - 1)) → AreKilled configs moment (left - 1) old new → AreKilled configs moment left old new
 killed_no configs moment left old new some is rest =
     killed_more configs moment left old old new some (killed_none configs moment (slice_get old.runs (left - 1)) old is) rest
-
-pub killed_all : (configs : List ConfigValue) (moment left : ℕ) (old : Standing) → left ≤ 0 → AreKilled configs moment left old old
-killed_all configs moment zero old none = refl
-killed_all configs moment (suc left) old none = absurd (omega (arith, none))

@@ -1,6 +1,6 @@
 -- No key stands twice after a call, where none did before.
-use Rattle.std.proofs.Common.{◌≡◌, ℕ, List, [], ◌∷◌, ◌++◌, refl, sym, ap, subst, ◌∙◌}
-use Rattle.std.specs.Prelude.{⊤, if◌then◌else◌, true, false, Option, Result, Ok, Err, is_ok}
+use Rattle.std.proofs.Common.{inl, inr, ◌≡◌, List, [], ◌∷◌, ◌++◌, refl, sym, ap, subst}
+use Rattle.std.specs.Prelude.{⊤, if◌then◌else◌, true, false, Option, Some, None, Result, Ok, Err, is_ok}
 use Rattle.std.specs.declared.alloc.Global.{Global}
 use Rattle.std.specs.declared.vec.Vec.{Vec}
 use Rattle.outcomes.specs.declared.outcome.Outcome.{Outcome}
@@ -12,26 +12,25 @@ use Rattle.runner.specs.Calls.{FolderCall, ProgramCall}
 use Rattle.runner.specs.Runs.{IsKilled}
 use Rattle.run_tasks.specs.Texts.{numbered_text}
 use Rattle.job_runs.specs.Keys.{AreOnce, all_keys, has_key, without_key}
-use Rattle.job_runs.specs.Runs.{IsAnswered, IsBegun}
-use Rattle.job_runs.proofs.Keys.{asked-once, begun-once, killed-once, noted-once, taken-once}
+use Rattle.job_runs.specs.Runs.{IsAnswered, IsBegunIf}
+use Rattle.job_runs.proofs.Keys.{asked-once, first-once, killed-once, noted-once, same-once, taken-once}
 
 abbrev StayOnce : List Run → List Run → Vec RunKey Global → Vec RunKey Global → Type 0
 StayOnce old new before now = AreOnce (all_keys old before.items) → AreOnce (all_keys new now.items)
 
-pub after_begun : (key : RunKey) (task : TaskValue) (old new : List Run) (before now : Vec RunKey Global) → IsBegun key task old new → now ≡ before → has_key key (all_keys old before.items) ≡ false → StayOnce old new before now
-after_begun key task old new before now b same none h =
+pub after_noted : {A E : Type 0} (r : Result A E) (key : RunKey) (runs : List Run) (before now : Vec RunKey Global) → now.items ≡ (if is_ok r then before.items ++ key ∷ [] else before.items) → has_key key (all_keys runs before.items) ≡ false → StayOnce runs runs before now
+after_noted (Ok x) key runs before now is none h = subst (λ (ks : List RunKey). AreOnce (all_keys runs ks)) (sym is) (noted-once key runs before.items none h)
+after_noted (Err e) key runs before now is none h = subst (λ (ks : List RunKey). AreOnce (all_keys runs ks)) (sym is) h
+
+begun_if : (task : Option TaskValue) (key : RunKey) (told : Result (Option Outcome) RunFault) (old new : List Run) (to_begin : List RunKey) → has_key key to_begin ≡ true → IsBegunIf task key told old new → AreOnce (all_keys old to_begin) → AreOnce (all_keys new (without_key key to_begin))
+begun_if None key told old new to_begin was b h = taken-once key new to_begin _ refl (same-once old new to_begin b.1 h)
+begun_if (Some task) key told old new to_begin was (inl b) h = first-once key old new b.1.begun to_begin b.1.added (ap (λ p. p.run) b.1.started.0) was h
+begun_if (Some task) key told old new to_begin was (inr b) h = taken-once key new to_begin _ refl (same-once old new to_begin b.1 h)
+
+pub after_begun : (task : Option TaskValue) (key : RunKey) (told : Result (Option Outcome) RunFault) (old new : List Run) (before mid now : Vec RunKey Global) → has_key key before.items ≡ true → mid.items ≡ without_key key before.items → now ≡ mid → IsBegunIf task key told old new → StayOnce old new before now
+after_begun task key told old new before mid now was is same b h =
     subst (λ (v : Vec RunKey Global). AreOnce (all_keys new v.items)) (sym same)
-    (begun-once key old new b.begun before.items b.added (ap (λ p. p.run) b.started.0) none h)
-
-noted_by : {A E : Type 0} (r : Result A E) (key : RunKey) (runs : List Run) (before now : Vec RunKey Global) → now.items ≡ (if is_ok r then before.items ++ key ∷ [] else before.items) → has_key key (all_keys runs before.items) ≡ false → StayOnce runs runs before now
-noted_by (Ok x) key runs before now is none h = subst (λ (ks : List RunKey). AreOnce (all_keys runs ks)) (sym is) (noted-once key runs before.items none h)
-noted_by (Err e) key runs before now is none h = subst (λ (ks : List RunKey). AreOnce (all_keys runs ks)) (sym is) h
-
-pub after_noted : {A E : Type 0} (r : Result A E) (key : RunKey) (old new : List Run) (before mid now : Vec RunKey Global) → new ≡ old → mid ≡ before → now.items ≡ (if is_ok r then mid.items ++ key ∷ [] else mid.items) → has_key key (all_keys old before.items) ≡ false → StayOnce old new before now
-after_noted r key old new before mid now same stays is none h =
-    let none_mid : has_key key (all_keys old mid.items) ≡ false = subst (λ (v : Vec RunKey Global). has_key key (all_keys old v.items) ≡ false) (sym stays) none in
-    let h_mid : AreOnce (all_keys old mid.items) = subst (λ (v : Vec RunKey Global). AreOnce (all_keys old v.items)) (sym stays) h in
-    subst (λ (rs : List Run). AreOnce (all_keys rs now.items)) (sym same) (noted_by r key old mid now is none_mid h_mid)
+    (subst (λ (ks : List RunKey). AreOnce (all_keys new ks)) (sym is) (begun_if task key told old new before.items was b h))
 
 pub after_killed : (key : RunKey) (told : Result ⊤ RunFault) (old new : List Run) (f g : Option (List FolderCall)) (p q : Option (List ProgramCall)) (before now : Vec RunKey Global) → now.items ≡ without_key key before.items → IsKilled key told old new f g p q → StayOnce old new before now
 after_killed key told old new f g p q before now is killed h =

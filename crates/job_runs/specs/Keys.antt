@@ -1,4 +1,4 @@
--- What is to be asked: runs, and the jobs whose run could not be begun.
+-- What is to be asked: runs, and the jobs whose run is to begin.
 use Rattle.std.specs.Prelude.{◌≡◌, ◌==◌, ◌&&◌, ℕ, Bool, false, not, nat_lt, List, [], ◌∷◌, ◌++◌, length, map, min, if◌then◌else◌}
 use Rattle.std.specs.List.{filter, list_any}
 use Rattle.runner.specs.declared.task.RunKey.{RunKey}
@@ -16,9 +16,9 @@ without_key key keys = filter (λ other. not (is_key key other)) keys
 abbrev pub run_keys : List Run → List RunKey
 run_keys runs = map (λ (run : Run). run.place.run) runs
 
--- the keys of runs, and behind them the jobs whose run could not be begun
+-- the keys of runs, and behind them the jobs whose run is to begin
 abbrev pub all_keys : List Run → List RunKey → List RunKey
-all_keys runs unbegun = run_keys runs ++ unbegun
+all_keys runs to_begin = run_keys runs ++ to_begin
 
 -- none stands twice
 abbrev pub AreOnce : List RunKey → Type 0

@@ -28,13 +28,20 @@ pub record IsBegun (run : RunKey) (task : TaskValue) (old new : List Run) : Type
   pub started : IsStarted run made begun
   pub added : new ≡ old ++ begun ∷ []
 
--- no run was added, for want of memory, and that is noted, unless as many are noted as there is room
--- for
-abbrev pub IsNoted : RunKey → List Run → List Run → Vec RunKey Global → Vec RunKey Global → Type 0
-IsNoted run old new before now =
-    (new ≡ old)
-    × ((now.items ≡ before.items ++ run ∷ [])
-    ⊎ ((now.items ≡ before.items) × (vec_capacity before ≤ vec_len before)))
+-- that a run is to begin is noted, unless as many are noted as there is room for
+abbrev pub IsNoted : RunKey → Vec RunKey Global → Vec RunKey Global → Type 0
+IsNoted run before now =
+    (now.items ≡ before.items ++ run ∷ [])
+    ⊎ ((now.items ≡ before.items) × (vec_capacity before ≤ vec_len before))
+
+-- a run that was to begin was begun with the task that is lent, and nothing is told of it yet; or
+-- memory was refused, which is told, and none was begun. Where no task is lent none was begun either:
+-- the job that it was noted for does not run
+abbrev pub IsBegunIf : Option TaskValue → RunKey → Result (Option Outcome) RunFault →
+    List Run → List Run → Type 0
+IsBegunIf None run told old new = (told ≡ Ok None) × (new ≡ old)
+IsBegunIf (Some task) run told old new =
+    ((told ≡ Ok None) × IsBegun run task old new) ⊎ ((told ≡ Err NoMemory) × (new ≡ old))
 
 -- the server is told what the run gave; or that memory was refused, where it gave an outcome and no
 -- room was there for what is told of it

@@ -1,15 +1,14 @@
 //! Runs that a runner carries out.
 
-ghost use Rattle.std.specs.Prelude.{◌≡◌, ◌≤◌, ◌⊎◌, ◌+◌, ◌++◌, ◌∷◌, ◌||◌, [], true, false, None, Ok, Err, OnOk, OnErr, IfOk, length, nat_lt, slice_get, vec_capacity, vec_len};
+ghost use Rattle.std.specs.Prelude.{◌≡◌, ◌≤◌, ◌⊎◌, ◌+◌, ◌++◌, ◌∷◌, ◌||◌, [], true, false, None, Ok, OnOk, OnErr, IfOk, length, nat_lt, slice_get, vec_capacity, vec_len};
 ghost use Rattle.std.specs.List.{list_any};
 ghost use Rattle.std.specs.Option.{option_map};
 ghost use Rattle.runner.specs.Faults.{Counted};
 ghost use Rattle.runner.specs.Runs.{IsOver, can_go_on};
-ghost use Rattle.runner.specs.declared.fault.RunFault.TheVariants.{NoMemory};
 ghost use Rattle.runner.specs.declared.stage.Run.{Run};
 ghost use Rattle.server_core.specs.Lent.{lent_shown};
 ghost use Rattle.job_runs.specs.Keys.{AreOnce, all_keys, count_of, has_key, is_key, turn_in, without_key};
-ghost use Rattle.job_runs.specs.Runs.{AreKilled, IsAnswered, IsAnsweredFor, IsBegun, IsEnded, IsKilledAt, IsNoted, IsOnlyEnded, IsTold};
+ghost use Rattle.job_runs.specs.Runs.{AreKilled, IsAnswered, IsAnsweredFor, IsBegun, IsBegunIf, IsEnded, IsKilledAt, IsNoted, IsOnlyEnded, IsTold};
 
 use outcomes::Outcome;
 use run_tasks::{LentTexts, outcome_told, run_task};
@@ -25,8 +24,8 @@ use std::io::{self, Write};
 pub struct JobRunner<F: Folder + Drop, P: Programs + Drop> {
     alloc: Global,
     runner: Runner<F, P>,
-    /// Jobs whose run could not be begun, and of which that is still to be told.
-    unbegun: Vec<RunKey>,
+    /// Jobs whose run was ordered, and is begun when it is asked for the first time.
+    to_begin: Vec<RunKey>,
     /// The place of the run that is to be asked next.
     next: usize,
 }
@@ -42,13 +41,13 @@ impl<F: Folder + Drop, P: Programs + Drop> JobRunner<F, P> {
         ensures folder { IfOk result (λ r. r.runner.folder ≡ folder) }
         ensures programs { IfOk result (λ r. r.runner.programs ≡ programs) }
         ensures runs { IfOk result (λ r. r.runner.runs.items ≡ []) }
-        ensures unbegun { IfOk result (λ r. r.unbegun.items ≡ []) }
-        ensures room { IfOk result (λ r. most ≤ vec_capacity r.unbegun) }
+        ensures to_begin { IfOk result (λ r. r.to_begin.items ≡ []) }
+        ensures room { IfOk result (λ r. most ≤ vec_capacity r.to_begin) }
     {
         Ok(JobRunner {
             alloc,
             runner: Runner::new(alloc, folder, programs),
-            unbegun: Vec::with_capacity(alloc, most)?,
+            to_begin: Vec::with_capacity(alloc, most)?,
             next: 0,
         })
     }
@@ -61,7 +60,7 @@ impl<F: Folder + Drop, P: Programs + Drop> JobRunner<F, P> {
     }
 
     /// Ends what runs, by a bounded piece of work for each run, and says how many are left: it is
-    /// to be called until none is. A folder that is left then is a line.
+    /// to be called until none is. A folder that is left then is a line. What was to begin does not.
     pub fn end_all<E: Write>(
         &mut self,
         configs: &Configs,
@@ -83,10 +82,10 @@ impl<F: Folder + Drop, P: Programs + Drop> JobRunner<F, P> {
               text = E.contents errors.new.output;
               backlog = errors.new.backlog;
             }) }
-        ensures unbegun { self.new.unbegun.items ≡ [] }
+        ensures to_begin { self.new.to_begin.items ≡ [] }
         ensures left { result ≡ vec_len self.new.runner.runs }
     {
-        self.unbegun.clear();
+        self.to_begin.clear();
         kill_each(&mut self.runner, configs, moment, errors);
         self.runner.count()
     }
@@ -99,11 +98,31 @@ impl<F: Folder + Drop, P: Programs + Drop> JobRunner<F, P> {
             (self.new.runner.runs.items ≡ self.old.runner.runs.items) }
         ensures folder { self.new.runner.folder ≡ self.old.runner.folder }
         ensures programs { self.new.runner.programs ≡ self.old.runner.programs }
-        ensures unbegun { self.new.unbegun ≡ self.old.unbegun }
+        ensures to_begin { self.new.to_begin ≡ self.old.to_begin }
         ensures next { self.new.next ≡ self.old.next }
     {
-        let made = run_task(self.alloc, task.task)?;
+        let made = run_task(self.alloc, task.pool, task.task)?;
         self.runner.start(run.instance, run.job, made)
+    }
+
+    /// Begins a run that was noted, where its task is lent. There is nothing to tell of it then. Where
+    /// none is lent the job that it was noted for does not run any more.
+    fn begin_noted(
+        &mut self,
+        run: RunKey,
+        task: Option<LentTask<'_>>,
+    ) -> Result<Option<Outcome>, RunFault>
+        ensures begun { IsBegunIf (option_map lent_shown task.entry) run result
+            self.old.runner.runs.items self.new.runner.runs.items }
+        ensures folder { self.new.runner.folder ≡ self.old.runner.folder }
+        ensures programs { self.new.runner.programs ≡ self.old.runner.programs }
+        ensures to_begin { self.new.to_begin ≡ self.old.to_begin }
+        ensures next { self.new.next ≡ self.old.next }
+    {
+        if let Some(task) = task {
+            self.begin(run, task)?;
+        }
+        Ok(None)
     }
 
     /// Asks a run to which this task is lent.
@@ -116,7 +135,7 @@ impl<F: Folder + Drop, P: Programs + Drop> JobRunner<F, P> {
             (F.failures self.old.runner.folder) (F.failures self.new.runner.folder)
             (P.failures self.old.runner.programs) (P.failures self.new.runner.programs)
             ⊎ (IsOver run self.old.runner.runs.items × (result ≡ Ok None)) }
-        ensures unbegun { self.new.unbegun ≡ self.old.unbegun }
+        ensures to_begin { self.new.to_begin ≡ self.old.to_begin }
         ensures next { self.new.next ≡ self.old.next }
     {
         let answer = self.runner.ask(run.instance, run.job, &texts_of(task));
@@ -130,14 +149,14 @@ fn is_key(key: RunKey, other: &RunKey) -> bool
     other.instance == key.instance && other.job == key.job
 }
 
-/// Takes a job out of those whose run could not be begun. Whether it was among them.
-fn take(unbegun: &mut Vec<RunKey>, run: RunKey) -> bool
-    ensures was { result ≡ has_key run unbegun.old.items }
-    ensures others { unbegun.new.items ≡ without_key run unbegun.old.items }
-    ensures room { vec_capacity unbegun.new ≡ vec_capacity unbegun.old }
+/// Takes a job out of those whose run is to begin. Whether it was among them.
+fn take(to_begin: &mut Vec<RunKey>, run: RunKey) -> bool
+    ensures was { result ≡ has_key run to_begin.old.items }
+    ensures others { to_begin.new.items ≡ without_key run to_begin.old.items }
+    ensures room { vec_capacity to_begin.new ≡ vec_capacity to_begin.old }
 {
-    let was_among = unbegun.iter().any(|other| is_key(run, other));
-    unbegun.retain(|other| !is_key(run, other));
+    let was_among = to_begin.iter().any(|other| is_key(run, other));
+    to_begin.retain(|other| !is_key(run, other));
     was_among
 }
 
@@ -227,58 +246,51 @@ fn told(
 }
 
 impl<F: Folder + Drop, P: Programs + Drop> Runs for JobRunner<F, P> {
-    fn start(&mut self, run: RunKey, task: LentTask<'_>)
-        ensures begun { (IsBegun run (lent_shown task.entry)
-            self.old.runner.runs.items self.new.runner.runs.items
-            × (self.new.unbegun ≡ self.old.unbegun))
-            ⊎ IsNoted run self.old.runner.runs.items self.new.runner.runs.items
-            self.old.unbegun self.new.unbegun }
-        ensures room { vec_capacity self.old.unbegun ≤ vec_capacity self.new.unbegun }
-        ensures folder { self.new.runner.folder ≡ self.old.runner.folder }
-        ensures programs { self.new.runner.programs ≡ self.old.runner.programs }
+    fn start(&mut self, run: RunKey, _task: LentTask<'_>)
+        ensures noted { IsNoted run self.old.to_begin self.new.to_begin }
+        ensures room { vec_capacity self.old.to_begin ≤ vec_capacity self.new.to_begin }
+        ensures runner { self.new.runner ≡ self.old.runner }
         ensures next { self.new.next ≡ self.old.next }
-        ensures once { has_key run (all_keys self.old.runner.runs.items self.old.unbegun.items)
-            ≡ false → AreOnce (all_keys self.old.runner.runs.items self.old.unbegun.items)
-            → AreOnce (all_keys self.new.runner.runs.items self.new.unbegun.items) }
+        ensures once { has_key run (all_keys self.old.runner.runs.items self.old.to_begin.items)
+            ≡ false → AreOnce (all_keys self.old.runner.runs.items self.old.to_begin.items)
+            → AreOnce (all_keys self.new.runner.runs.items self.new.to_begin.items) }
     {
-        if self.begin(run, task).is_err() {
-            // There is room for each job that may run at a time.
-            let _room_is_there = self.unbegun.push(run);
-        }
+        // There is room for each job that may run at a time.
+        let _room_is_there = self.to_begin.push(run);
     }
 
     fn kill(&mut self, run: RunKey)
-        ensures noted { has_key run self.old.unbegun.items ≡ true →
+        ensures noted { has_key run self.old.to_begin.items ≡ true →
             self.new.runner ≡ self.old.runner }
-        ensures killed { has_key run self.old.unbegun.items ≡ false → IsEnded run
+        ensures killed { has_key run self.old.to_begin.items ≡ false → IsEnded run
             self.old.runner.runs.items self.new.runner.runs.items
             (F.asked self.old.runner.folder) (F.asked self.new.runner.folder)
             (P.asked self.old.runner.programs) (P.asked self.new.runner.programs) }
-        ensures unbegun { self.new.unbegun.items ≡ without_key run self.old.unbegun.items }
-        ensures room { vec_capacity self.new.unbegun ≡ vec_capacity self.old.unbegun }
+        ensures to_begin { self.new.to_begin.items ≡ without_key run self.old.to_begin.items }
+        ensures room { vec_capacity self.new.to_begin ≡ vec_capacity self.old.to_begin }
         ensures next { self.new.next ≡ self.old.next }
-        ensures once { AreOnce (all_keys self.old.runner.runs.items self.old.unbegun.items)
-            → AreOnce (all_keys self.new.runner.runs.items self.new.unbegun.items) }
+        ensures once { AreOnce (all_keys self.old.runner.runs.items self.old.to_begin.items)
+            → AreOnce (all_keys self.new.runner.runs.items self.new.to_begin.items) }
     {
-        if !take(&mut self.unbegun, run) {
+        if !take(&mut self.to_begin, run) {
             // A job that is ordered to be ended still runs, so that no folder is removed yet.
             let _ended = self.runner.kill(run.instance, run.job);
         }
     }
 
     fn count(&self) -> usize
-        ensures { result ≡ count_of (all_keys self.now.runner.runs.items self.now.unbegun.items) }
+        ensures { result ≡ count_of (all_keys self.now.runner.runs.items self.now.to_begin.items) }
     {
-        self.runner.count().saturating_add(self.unbegun.len())
+        self.runner.count().saturating_add(self.to_begin.len())
     }
 
     fn next(&mut self) -> Option<RunKey>
-        ensures key { let keys = all_keys self.old.runner.runs.items self.old.unbegun.items in
+        ensures key { let keys = all_keys self.old.runner.runs.items self.old.to_begin.items in
             result ≡ slice_get keys (turn_in (count_of keys) self.old.next) }
-        ensures next { let keys = all_keys self.old.runner.runs.items self.old.unbegun.items in
+        ensures next { let keys = all_keys self.old.runner.runs.items self.old.to_begin.items in
             self.new.next ≡ turn_in (count_of keys) self.old.next + 1 }
         ensures runner { self.new.runner ≡ self.old.runner }
-        ensures unbegun { self.new.unbegun ≡ self.old.unbegun }
+        ensures to_begin { self.new.to_begin ≡ self.old.to_begin }
     {
         if self.next >= self.count() {
             self.next = 0;
@@ -289,13 +301,17 @@ impl<F: Folder + Drop, P: Programs + Drop> Runs for JobRunner<F, P> {
         if place < of_runner {
             return self.runner.run(place);
         }
-        self.unbegun.get(place - of_runner).copied()
+        self.to_begin.get(place - of_runner).copied()
     }
 
     fn ask(&mut self, run: RunKey, task: Option<LentTask<'_>>) -> Result<Option<Outcome>, RunFault>
-        ensures noted { has_key run self.old.unbegun.items ≡ true →
-            (result ≡ Err NoMemory) × (self.new.runner ≡ self.old.runner) }
-        ensures answered { has_key run self.old.unbegun.items ≡ false →
+        ensures begun { has_key run self.old.to_begin.items ≡ true →
+            IsBegunIf (option_map lent_shown task.entry) run result
+            self.old.runner.runs.items self.new.runner.runs.items }
+        ensures only_begun { has_key run self.old.to_begin.items ≡ true →
+            (self.new.runner.folder ≡ self.old.runner.folder)
+            × (self.new.runner.programs ≡ self.old.runner.programs) }
+        ensures answered { has_key run self.old.to_begin.items ≡ false →
             IsAnsweredFor (option_map lent_shown task.entry) run result
             self.old.runner.runs.items self.new.runner.runs.items
             (F.asked self.old.runner.folder) (F.asked self.new.runner.folder)
@@ -305,14 +321,14 @@ impl<F: Folder + Drop, P: Programs + Drop> Runs for JobRunner<F, P> {
             (P.failures self.old.runner.programs) (P.failures self.new.runner.programs)
             ⊎ (IsOnlyEnded (option_map lent_shown task.entry) run self.old.runner.runs.items
             × (result ≡ Ok None)) }
-        ensures unbegun { self.new.unbegun.items ≡ without_key run self.old.unbegun.items }
-        ensures room { vec_capacity self.new.unbegun ≡ vec_capacity self.old.unbegun }
+        ensures to_begin { self.new.to_begin.items ≡ without_key run self.old.to_begin.items }
+        ensures room { vec_capacity self.new.to_begin ≡ vec_capacity self.old.to_begin }
         ensures next { self.new.next ≡ self.old.next }
-        ensures once { AreOnce (all_keys self.old.runner.runs.items self.old.unbegun.items)
-            → AreOnce (all_keys self.new.runner.runs.items self.new.unbegun.items) }
+        ensures once { AreOnce (all_keys self.old.runner.runs.items self.old.to_begin.items)
+            → AreOnce (all_keys self.new.runner.runs.items self.new.to_begin.items) }
     {
-        if take(&mut self.unbegun, run) {
-            return Err(RunFault::NoMemory);
+        if take(&mut self.to_begin, run) {
+            return self.begin_noted(run, task);
         }
         match task {
             Some(task) => self.ask_run(run, task),
@@ -330,8 +346,8 @@ impl<F: Folder + Drop, P: Programs + Drop> Runs for JobRunner<F, P> {
 
     fn is_busy(&self) -> bool
         ensures { result ≡ (list_any (λ (run : Run). can_go_on run.state) self.now.runner.runs.items
-            || nat_lt 0 (length self.now.unbegun.items)) }
+            || nat_lt 0 (length self.now.to_begin.items)) }
     {
-        self.runner.is_busy() || !self.unbegun.is_empty()
+        self.runner.is_busy() || !self.to_begin.is_empty()
     }
 }

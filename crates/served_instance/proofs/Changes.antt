@@ -36,16 +36,16 @@ pub changed_ok : {T E : Type 0} (r : Result T E) (c : ℕ) (os : List OpenConnec
 changed_ok (Ok x) c os k d w R h r = changed_some c os k d w R h r
 changed_ok (Err e) c os k d w R h r = tt
 
-pub changed_read : {E : Type 0} (r : Result Bool E) (c : ℕ) (os : List OpenConnection) (k : ℕ) (d : OpenConnection) (w : ConnectionValue) → position (is_numbered c) os ≡ Some k → IfOk r (λ more. ReadsOneFrame (get_or os k d).connection more w) → IfOk r (λ more. IsTrue more → unread_length w < unread_length (get_or os k d).connection) → IfOk r (λ more. BecomesAt c os (set os k (record { number = (get_or os k d).number; connection = w })) (ReadsFrame more))
-changed_read (Ok more) c os k d w h r f = changed_some c os k d w (ReadsFrame more) h (record { frame = r; fewer = f })
-changed_read (Err e) c os k d w h r f = tt
+-- .. whatever its number is
+pub changed_here : {T E : Type 0} (r : Result T E) (os : List OpenConnection) (k : ℕ) (d : OpenConnection) (w : ConnectionValue) (R : ConnectionValue → ConnectionValue → Type 0) → OnOk r (R (get_or os k d).connection w) →
+    OnOk r ((c : ℕ) → position (is_numbered c) os ≡ Some k → BecomesAt c os (set os k (record { number = (get_or os k d).number; connection = w })) R)
+changed_here (Ok x) os k d w R r = λ c h. changed_some c os k d w R h r
+changed_here (Err e) os k d w R r = tt
 
-pub there_is_one : (c : ℕ) (os : List OpenConnection) (k : ℕ) (d : OpenConnection) → position (is_numbered c) os ≡ Some k → present_at c os ≡ None → ⊥
-there_is_one c os k d h n = let e = place_some c os k d h in cc
-
-pub none_read : {E : Type 0} (r : Result Bool E) (c : ℕ) (os : List OpenConnection) (k : ℕ) (d : OpenConnection) → position (is_numbered c) os ≡ Some k → IfOk r (λ more. present_at c os ≡ None → more ≡ false)
-none_read (Ok more) c os k d h = λ n. absurd (there_is_one c os k d h n)
-none_read (Err e) c os k d h = tt
+pub changed_read : {E : Type 0} (r : Result Bool E) (os : List OpenConnection) (k : ℕ) (d : OpenConnection) (w : ConnectionValue) → IfOk r (λ more. ReadsOneFrame (get_or os k d).connection more w) → IfOk r (λ more. IsTrue more → unread_length w < unread_length (get_or os k d).connection) →
+    IfOk r (λ more. (c : ℕ) → position (is_numbered c) os ≡ Some k → BecomesAt c os (set os k (record { number = (get_or os k d).number; connection = w })) (ReadsFrame more))
+changed_read (Ok more) os k d w r f = λ c h. changed_some c os k d w (ReadsFrame more) h (record { frame = r; fewer = f })
+changed_read (Err e) os k d w r f = tt
 
 -- ---- what is kept
 

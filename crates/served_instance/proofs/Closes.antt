@@ -4,7 +4,7 @@ use Rattle.std.proofs.Math.ListN.{drop_of_length-le}
 use Rattle.std.proofs.lemmas.List.{take_all}
 use Rattle.grpc_sending.proofs.Histories.{append-nil}
 use Rattle.grpc_sending.specs.StoredSending.{SourceTexts}
-use Rattle.std.specs.Prelude.{ℕ, ◌==◌, if◌then◌else◌, Bool, true, false, List, [], ◌∷◌, ◌++◌, map, Option, Some, None, position, nat_lt, Result, Ok, Err, OnOk}
+use Rattle.std.specs.Prelude.{ℕ, ◌==◌, if◌then◌else◌, Bool, true, false, List, [], ◌∷◌, ◌++◌, map, Option, Some, None, position, nat_lt}
 use Rattle.std.specs.Option.{option_map_or}
 use Rattle.std.proofs.lemmas.List.Elements.{filter-append}
 use Rattle.conn_core.specs.declared.event.CallEvent.{CallEvent}
@@ -20,15 +20,15 @@ use Rattle.served_instance.specs.declared.open_connection.OpenConnection.{OpenCo
 use Rattle.served_instance.specs.Connections.{LoneConnection, is_open, open_ones, open_at, with_closed}
 use Rattle.served_instance.specs.Calls.{call_event_on}
 use Rattle.served_instance.specs.Lone.{LoneInstance, after_call_event, after_call_events, after_opening, after_closing}
-use Rattle.served_instance.specs.Present.{is_numbered, CanTake, unless_more}
+use Rattle.served_instance.specs.Present.{is_numbered, unless_more}
 use Rattle.std.proofs.lemmas.Bool.{cond-false, cond-true, ltb-false}
 use Rattle.served_instance.specs.declared.refusal.EventRefusal.TheVariants.{NoSuchConnection, TookTooMuch}
 use Rattle.served_instance.specs.StandsFor.{ServedConnection, AreServed}
 use Rattle.served_instance.specs.Shown.{connection_shown}
-use Rattle.served_instance.specs.Acts.{Acts, ActsBy, LeadsOn, StandsBy, cancels_of}
-use Rattle.served_instance.proofs.Opens.{first_past, without_at, open_at_is, closed_at_is}
-use Rattle.served_instance.proofs.Places.{IsPlace, is_place, place_some, place_none}
-use Rattle.served_instance.proofs.Changes.{open_past, no_past}
+use Rattle.served_instance.specs.Acts.{Acts, LeadsOn, StandsBy, cancels_of}
+use Rattle.served_instance.proofs.Opens.{without_at, closed_at_is}
+use Rattle.served_instance.proofs.Places.{IsPlace, is_place, place_some}
+use Rattle.served_instance.proofs.Changes.{open_past}
 use Rattle.served_instance.proofs.Leads.{leads_acts}
 use Rattle.conn_core.proofs.Left.{left_calls, left_cancels}
 
@@ -82,25 +82,6 @@ closes c s t os ns k d h act = λ texts l st.
     ∙ sym (ap (λ (o : Option Past). option_map_or (λ (p : Past). cancels p.history) o []) past.1) in
     subst (λ (es : List CallEvent). StandsBy texts t ns (after_call_events c es left)) same (act texts left gone)
 
-without_by : (c : ℕ) (l : LoneConnection) (ls : List LoneConnection) (n : Bool) → (if n then Some l.past else first_past c ls) ≡ None → (first_past c ls ≡ None → without_at c ls ≡ ls) → (if n then ls else l ∷ without_at c ls) ≡ l ∷ ls
-without_by c l ls true h r = cc
-without_by c l ls false h r = ap (λ (xs : List LoneConnection). l ∷ xs) (r h)
-
-without_none : (c : ℕ) (ls : List LoneConnection) → first_past c ls ≡ None → without_at c ls ≡ ls
-without_none c [] h = refl
-without_none c (l ∷ ls) h = without_by c l ls (l.number == c) h (without_none c ls)
-
-pub closes_none : (c : ℕ) (s : InstanceState) (os : List OpenConnection) → position (is_numbered c) os ≡ None → Acts s os s os (after_closing c)
-closes_none c s os h = λ texts l st.
-    let none = no_past texts c os l.connections (sym (place_none c os h)) st.connections in
-    let left : LoneInstance = record l { connections = with_closed c l.connections } in
-    let same : open_ones (with_closed c l.connections) ≡ open_ones l.connections = closed_at_is c l.connections ∙ without_none c (open_ones l.connections) (sym (open_at_is c l.connections) ∙ none) in
-    let gone : StandsBy texts s os left = record {
-      state = st.state;
-      connections = subst (λ (xs : List LoneConnection). AreServed texts (map connection_shown os) xs) (sym same) st.connections;
-    } in
-    subst (λ (o : Option Past). StandsBy texts s os (after_call_events c (option_map_or (λ (p : Past). cancels p.history) o []) left)) (sym none) gone
-
 -- ---- its calls
 
 -- a call is given up, which owes nothing to any connection
@@ -143,9 +124,11 @@ untaken_by : (n : ℕ) (v : ConnectionValue) (b : Bool) → nat_lt (length v.sen
 untaken_by n v true e h = cc
 untaken_by n v false e h = omega (arith, ltb-false (length v.sending.pending) n e)
 
-pub can_take : (n : ℕ) (o : Option ConnectionValue) → option_map_or (unless_more n) o (Some NoSuchConnection) ≡ None → CanTake n o
-can_take n None h = tt
-can_take n (Some v) h = untaken_by n v (nat_lt (length v.sending.pending) n) refl h
+pub can_take : (n : ℕ) (o : Option ConnectionValue) (v : ConnectionValue) → Some v ≡ o → option_map_or (unless_more n) o (Some NoSuchConnection) ≡ None → n ≤ length v.sending.pending
+can_take n None v e h = cc
+can_take n (Some u) v e h =
+    let same : v ≡ u = cc in
+    subst (λ (x : ConnectionValue). n ≤ length x.sending.pending) (sym same) (untaken_by n u (nat_lt (length u.sending.pending) n) refl h)
 
 -- ---- through slices
 
@@ -156,11 +139,6 @@ written_back n xs ys e f =
     let whole : length xs ≤ n = omega arith in
     ap (λ (zs : List OpenConnection). take n (xs ++ zs)) (drop_of_length-le ys le) ∙ ap (take n) (append-nil xs) ∙ take_all n xs whole
 
-pub acts_between : {T E : Type 0} (r : Result T E) (texts others : SourceTexts) (s t : InstanceState) (os xs ns zs : List OpenConnection) (f g : LoneInstance → LoneInstance) → xs ≡ os → zs ≡ ns → g ≡ f → OnOk r (ActsBy texts s xs others t ns f) → OnOk r (ActsBy texts s os others t zs g)
-acts_between (Ok x) texts others s t os xs ns zs f g a b e h =
-    subst (λ (ys : List OpenConnection). ActsBy texts s ys others t zs g) a (subst (λ (ys : List OpenConnection). ActsBy texts s xs others t ys g) (sym b) (subst (λ (step : LoneInstance → LoneInstance). ActsBy texts s xs others t ns step) (sym e) h))
-acts_between (Err x) texts others s t os xs ns zs f g a b e h = tt
-
 pub closes_by : (c : ℕ) (s t : InstanceState) (os xs : List OpenConnection) (k : ℕ) (o : OpenConnection) → position (is_numbered c) os ≡ Some k → o ≡ get_or os k o → xs ≡ take k os ++ drop (k + 1) os →
     Acts s xs t xs (after_call_events c (cancels_of o.connection)) → Acts s os t xs (after_closing c)
 closes_by c s t os xs k o h here e act =
@@ -169,7 +147,3 @@ closes_by c s t os xs k o h here e act =
     subst (λ (y : OpenConnection). Acts s (take k os ++ drop (suc k) os) t xs (after_call_events c (cancels_of y.connection))) here
     (subst (λ (ys : List OpenConnection). Acts s ys t xs (after_call_events c (cancels_of o.connection))) left act) in
     closes c s t os xs k o h given
-
-pub at_state : {T E : Type 0} (r : Result T E) (texts : SourceTexts) (s : InstanceState) (os ns : List OpenConnection) (f : LoneInstance → LoneInstance) → OnOk r ((t : InstanceState) → Acts t os t ns f) → OnOk r (ActsBy texts s os texts s ns f)
-at_state (Ok x) texts s os ns f h = h s texts
-at_state (Err x) texts s os ns f h = tt

@@ -70,12 +70,6 @@ give_both r rest os ns xs e h = λ texts l s.
 pub give_more : (rs rest : List Reply) (r : Reply) (os ns xs : List OpenConnection) → rs ≡ r ∷ rest → BecomesAt r.call.connection os ns (Owes (with_owed r.call.stream r.items.items)) → AreGiven rest ns xs → AreGiven rs os xs
 give_more rs rest r os ns xs is e h = subst (λ (ys : List Reply). AreGiven ys os xs) (sym is) (give_both r rest os ns xs e h)
 
-give_nothing : (os : List OpenConnection) → AreGiven [] os os
-give_nothing os = λ texts l s. s
-
-pub give_none : (rs : List Reply) (os : List OpenConnection) → rs ≡ [] → AreGiven rs os os
-give_none rs os is = subst (λ (ys : List Reply). AreGiven ys os os) (sym is) (give_nothing os)
-
 pub give_keeps : (c : ℕ) (step : SourceTexts → Past → Past) (os ns : List OpenConnection) → BecomesAt c os ns (Owes step) → Keeps os ns
 give_keeps c step os ns e = λ d. changed_keeps without_sending c d os ns (Owes step) e (λ v w o. ap without_sending o.rest)
 

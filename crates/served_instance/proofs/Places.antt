@@ -1,11 +1,12 @@
 -- Where the connection of a number stands.
-use Rattle.std.proofs.Common.{◌≡◌, refl, sym, ap, ◌∙◌, zero, suc, arith, get_or}
+use Rattle.std.proofs.Common.{◌≡◌, ◌<◌, refl, sym, ap, ◌∙◌, zero, suc, arith, get_or, length}
+use Rattle.std.proofs.Math.ListN.{set}
 use Rattle.std.specs.Prelude.{ℕ, ◌+◌, ◌==◌, if◌then◌else◌, Bool, true, false, List, [], ◌∷◌, map, option_map, Option, Some, None, position}
 use Rattle.std.specs.List.{position_from}
 use Rattle.std.proofs.lemmas.Iterator.Adapters.{position_from-zero}
 use Rattle.conn_core.specs.StandsFor.{ConnectionValue}
 use Rattle.served_instance.specs.declared.open_connection.OpenConnection.{OpenConnection}
-use Rattle.served_instance.specs.Present.{is_numbered}
+use Rattle.served_instance.specs.Present.{is_numbered, StayInPlace}
 use Rattle.served_instance.specs.StandsFor.{connection_at}
 use Rattle.served_instance.specs.Shown.{connection_shown}
 
@@ -80,3 +81,38 @@ none_at c (o ∷ os) h = none_by (o.number == c) (place_of c os) o.connection (c
 
 pub place_none : (c : ℕ) (os : List OpenConnection) → position (is_numbered c) os ≡ None → None ≡ connection_at c (map connection_shown os)
 place_none c os h = none_at c os (sym (place_is c os) ∙ h)
+
+-- ---- a place that is known
+
+within : (c : ℕ) (os : List OpenConnection) (k : ℕ) → IsPlace c os k → k < length os
+within c [] k h = absurd h
+within c (o ∷ os) zero h = omega arith
+within c (o ∷ os) (suc k) h = omega (arith, within c os k h.1)
+
+pub place_within : (c k : ℕ) (os : List OpenConnection) → position (is_numbered c) os ≡ Some k → k < length os
+place_within c k os h = within c os k (is_place c os k h)
+
+there_by : (b : Bool) (v : ConnectionValue) (r : Option ConnectionValue) → b ≡ true → (if b then Some v else r) ≡ None → ⊥
+there_by true v r e n = cc
+there_by false v r e n = cc
+
+not_here : (b : Bool) (v : ConnectionValue) (r : Option ConnectionValue) → b ≡ false → (if b then Some v else r) ≡ None → r ≡ None
+not_here true v r e n = cc
+not_here false v r e n = n
+
+there : (c : ℕ) (os : List OpenConnection) (k : ℕ) → IsPlace c os k → connection_at c (map connection_shown os) ≡ None → ⊥
+there c [] k h n = absurd h
+there c (o ∷ os) zero h n = there_by (o.number == c) o.connection (connection_at c (map connection_shown os)) h n
+there c (o ∷ os) (suc k) h n = there c os k h.1 (not_here (o.number == c) o.connection (connection_at c (map connection_shown os)) h.0 n)
+
+pub place_there : (c k : ℕ) (os : List OpenConnection) → position (is_numbered c) os ≡ Some k → connection_at c (map connection_shown os) ≡ None → ⊥
+place_there c k os h n = there c os k (is_place c os k h) n
+
+-- one becomes another of its number
+stays : (c : ℕ) (os : List OpenConnection) (k : ℕ) (d : OpenConnection) (w : ConnectionValue) → place_of c (set os k (record { number = (get_or os k d).number; connection = w })) ≡ place_of c os
+stays c [] k d w = refl
+stays c (o ∷ os) zero d w = refl
+stays c (o ∷ os) (suc k) d w = ap (λ (r : Option ℕ). if o.number == c then Some 0 else option_map suc r) (stays c os k d w)
+
+pub places_kept : (os : List OpenConnection) (k : ℕ) (d : OpenConnection) (w : ConnectionValue) → StayInPlace os (set os k (record { number = (get_or os k d).number; connection = w }))
+places_kept os k d w = λ c. place_is c (set os k (record { number = (get_or os k d).number; connection = w })) ∙ stays c os k d w ∙ sym (place_is c os)

@@ -2,7 +2,7 @@
 use Rattle.std.proofs.Common.{◌≡◌, refl, sym, ap, ◌∙◌, subst, zero, suc, ◌+◌, ◌*◌, ◌^◌, ◌<◌, ◌≤◌, arith, get_or, inl, inr}
 use Rattle.std.proofs.Math.ListN.{set}
 use Rattle.std.proofs.lemmas.Bool.{cases_Bool}
-use Rattle.std.specs.Prelude.{ℕ, ◌==◌, List, [], ◌∷◌, ◌++◌, map, length, position, Some}
+use Rattle.std.specs.Prelude.{ℕ, ◌==◌, List, [], ◌∷◌, ◌++◌, map, length, position}
 use Rattle.std.specs.List.{flat_map, AllByRecursion}
 use Rattle.grpc_sending.specs.declared.piece.StoredPiece.{StoredPiece}
 use Rattle.grpc_sending.specs.declared.piece.StoredPiece.TheVariants.{Encoded, Framed, Ranged}
@@ -20,8 +20,6 @@ use Rattle.served_instance.specs.StandsFor.{ServedConnection, SeenConnection, Ar
 use Rattle.served_instance.specs.Ranges.{seen_with, sources_at, range_holders, HaveFewSources, RangesEndWithin, KeepsRanges, AllKeepRanges}
 use Rattle.served_instance.specs.Shown.{connection_shown}
 use Rattle.served_instance.specs.Acts.{HoldAlike}
-use Rattle.served_instance.specs.Present.{is_numbered}
-use Rattle.served_instance.proofs.Places.{IsPlace, is_place}
 use Rattle.grpc_sending.specs.Pieces.{most_read}
 use Rattle.grpc_sending.specs.Spans.{span_pieces, span_ends, span_front}
 use Rattle.grpc_sending.proofs.Spans.{span_is, span_rest}
@@ -139,14 +137,11 @@ alike_first v w vs h = record {
   fit = λ texts f. (h.fit texts f.0, f.1);
 }
 
-place_keeps : (c : ℕ) (os : List OpenConnection) (k : ℕ) (d : OpenConnection) (w : ConnectionValue) → IsPlace c os k → KeepsRanges (get_or os k d).connection w → HoldAlike os (set os k (record { number = (get_or os k d).number; connection = w }))
-place_keeps c [] k d w at h = absurd at
-place_keeps c (o ∷ os) zero d w at h = alike_first (connection_shown o) (connection_shown (record { number = o.number; connection = w })) (map connection_shown os) h
-place_keeps c (o ∷ os) (suc k) d w at h = alike_behind (connection_shown o) (map connection_shown os) _ (place_keeps c os k d w at.1 h)
-
--- the connection of number c became another that holds the same sources
-pub alike_place : (c : ℕ) (os : List OpenConnection) (k : ℕ) (d : OpenConnection) (w : ConnectionValue) → position (is_numbered c) os ≡ Some k → KeepsRanges (get_or os k d).connection w → HoldAlike os (set os k (record { number = (get_or os k d).number; connection = w }))
-alike_place c os k d w at h = place_keeps c os k d w (is_place c os k at) h
+-- the connection at a place became another that holds the same sources
+pub alike_place : (os : List OpenConnection) (k : ℕ) (d : OpenConnection) (w : ConnectionValue) → KeepsRanges (get_or os k d).connection w → HoldAlike os (set os k (record { number = (get_or os k d).number; connection = w }))
+alike_place [] k d w h = alike_here []
+alike_place (o ∷ os) zero d w h = alike_first (connection_shown o) (connection_shown (record { number = o.number; connection = w })) (map connection_shown os) h
+alike_place (o ∷ os) (suc k) d w h = alike_behind (connection_shown o) (map connection_shown os) _ (alike_place os k d w h)
 
 -- other bytes wait, and the same is to be put
 pub keeps_queues : (v w : ConnectionValue) → w.sending.queues ≡ v.sending.queues → w.sending.spent ≡ v.sending.spent → KeepsRanges v w

@@ -1,6 +1,7 @@
 -- What is refused by what is kept is refused by all that happened.
-use Rattle.std.proofs.Common.{◌≡◌, refl, sym, ap, ◌∙◌, subst}
-use Rattle.std.specs.Prelude.{ℕ, nat_le, nat_lt, ◌==◌, ◌&&◌, if◌then◌else◌, Bool, true, false, not, List, [], length, Option, Some, None, Err}
+use Rattle.std.proofs.Common.{◌≡◌, ◌<◌, ◌≤◌, refl, sym, ap, ◌∙◌, subst, get_or}
+use Rattle.std.proofs.lemmas.Bool.{le-ltb, lt-ltb}
+use Rattle.std.specs.Prelude.{ℕ, nat_le, nat_lt, ◌==◌, ◌&&◌, if◌then◌else◌, Bool, true, false, not, List, [], length, map, position, Option, Some, None, Err}
 use Rattle.std.specs.Option.{is_some, option_map, option_map_or}
 use Rattle.conn_core.specs.History.{has_failed}
 use Rattle.grpc_sending.specs.Bytes.{pending_bytes, untaken_count}
@@ -29,10 +30,13 @@ use Rattle.served_instance.specs.Refusals.{refusal_of, refusal_of_what, after_ev
 use Rattle.served_instance.specs.StandsFor.{ServedConnection, ServedState, IsServedInstance, AreSettled, connection_at}
 use Rattle.served_instance.specs.declared.open_connection.OpenConnection.{OpenConnection}
 use Rattle.served_instance.specs.Slots.{ServedSlots, served_state_in}
-use Rattle.served_instance.specs.Acts.{StandsBy}
+use Rattle.served_instance.specs.Acts.{StandsBy, slots_of}
+use Rattle.instance_core.specs.Slots.{InstanceSlots}
 use Rattle.served_instance.specs.Ranges.{RangesEndWithin}
 use Rattle.served_instance.proofs.Ranges.{plain_served}
-use Rattle.served_instance.specs.Present.{refusal_by, refusal_by_what, unless_more, unless_running}
+use Rattle.served_instance.specs.Present.{is_numbered, refusal_by, refusal_by_what, refusal_to_take, unless_more, unless_present, unless_running}
+use Rattle.served_instance.specs.Shown.{connection_shown}
+use Rattle.served_instance.proofs.Places.{place_none, place_some, place_there}
 use Rattle.served_instance.proofs.Serves.{SameAt, same_at, same_length}
 
 same_presence : (texts : SourceTexts) (a : Option ConnectionValue) (b : Option Past) → SameAt texts a b → is_some a ≡ is_some b
@@ -110,6 +114,48 @@ same_refusal p e v l fit s =
     ap (λ (x : InstanceState). if nat_lt e.moment x.moment then Some TimeWentBack else refusal_by_what e.what v.instance.jobs vs) s.state
     ∙ ap (λ (r : Option EventRefusal). if nat_lt e.moment l.state.moment then Some TimeWentBack else r)
     (same_by_what p e.what v.instance.jobs vs l jobs (λ c. same_at texts c vs l.connections stand) (same_length texts vs (open_ones l.connections) stand))
+
+-- ---- by where its connection stands
+
+abbrev unless_by : Option ConnectionValue → Option EventRefusal
+unless_by o = option_map_or (λ v. None) o (Some NoSuchConnection)
+
+found_unless : (o : Option ConnectionValue) → (o ≡ None → ⊥) → None ≡ unless_by o
+found_unless None h = absurd (h refl)
+found_unless (Some v) h = refl
+
+pub place_present : (c k : ℕ) (os : List OpenConnection) → position (is_numbered c) os ≡ Some k → None ≡ unless_present c (map connection_shown os)
+place_present c k os h = found_unless (connection_at c (map connection_shown os)) (place_there c k os h)
+
+pub place_absent : (c : ℕ) (os : List OpenConnection) → position (is_numbered c) os ≡ None → Some NoSuchConnection ≡ unless_present c (map connection_shown os)
+place_absent c os h = ap unless_by (place_none c os h)
+
+abbrev take_by : ℕ → Option ConnectionValue → Option EventRefusal
+take_by n o = option_map_or (unless_more n) o (Some NoSuchConnection)
+
+pub take_absent : (c n : ℕ) (os : List OpenConnection) → position (is_numbered c) os ≡ None → Some NoSuchConnection ≡ refusal_to_take c n (map connection_shown os)
+take_absent c n os h = ap (take_by n) (place_none c os h)
+
+pub take_present : (c n k : ℕ) (os : List OpenConnection) (d : OpenConnection) → position (is_numbered c) os ≡ Some k → unless_more n (get_or os k d).connection ≡ refusal_to_take c n (map connection_shown os)
+take_present c n k os d h = ap (take_by n) (place_some c os k d h)
+
+more_by : (b : Bool) → b ≡ true → Some TookTooMuch ≡ (if b then Some TookTooMuch else None)
+more_by true e = refl
+more_by false e = cc
+
+none_by : (b : Bool) → b ≡ false → None ≡ (if b then Some TookTooMuch else None)
+none_by true e = cc
+none_by false e = refl
+
+pub too_much : (n : ℕ) (v : ConnectionValue) → length v.sending.pending < n → Some TookTooMuch ≡ unless_more n v
+too_much n v h = more_by (nat_lt (length v.sending.pending) n) (lt-ltb (length v.sending.pending) n h)
+
+pub enough_waits : (n : ℕ) (v : ConnectionValue) → n ≤ length v.sending.pending → None ≡ unless_more n v
+enough_waits n v h = none_by (nat_lt (length v.sending.pending) n) (le-ltb (length v.sending.pending) n h)
+
+-- by connections that were seen through a slice
+pub seen_refusal : (e : EventValue) (i : InstanceSlots) (xs os : List OpenConnection) (v : ServedSlots) (r : Option EventRefusal) → xs ≡ os → slots_of i os ≡ v → r ≡ refusal_by e (slots_of i xs) → r ≡ refusal_by e v
+seen_refusal e i xs os v r seen is h = h ∙ ap (λ (ys : List OpenConnection). refusal_by e (slots_of i ys)) seen ∙ ap (refusal_by e) is
 
 -- ---- what comes of an event
 

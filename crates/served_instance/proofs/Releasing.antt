@@ -53,15 +53,6 @@ release_next p q r old now new n h e m = record {
   };
 }
 
--- none is left
-pub release_end : (p q : Slots) (old now : List ℕ) → IsReleased p old q now → now ≡ [] → Moves p q (λ k. count_of k old) no_holders
-release_end p q old now h e =
-    let all : (k : ℕ) → count_of k h.gone ≡ count_of k old = λ k. let none : count_of k now ≡ 0 = ap (count_of k) e in omega (arith, none, h.spent k) in
-    record {
-      counts = λ k. omega (arith, h.moves.counts k, all k);
-      texts = λ k few. h.moves.texts k (omega (arith, few, all k));
-    }
-
 -- ---- those of all connections
 
 pub releases_none : (p : Slots) (vs : List ServedConnection) → Releases p vs p vs

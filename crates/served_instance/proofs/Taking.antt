@@ -30,14 +30,6 @@ moves_both p q r a b m n = record {
   texts = λ k few. n.texts k (omega (arith, few, m.counts k)) ∙ m.texts k (omega (arith, few));
 }
 
-pub items_released : (p q r : Slots) (items rest : List ReplyItem) (item : ReplyItem) → items ≡ item ∷ rest → Moves p q (item_holders item) no_holders → Moves q r (items_holders rest) no_holders → Moves p r (items_holders items) no_holders
-items_released p q r items rest item is m n =
-    subst (λ (xs : List ReplyItem). Moves p r (items_holders xs) no_holders) (sym is) (moves_both p q r (item_holders item) (items_holders rest) m n)
-
-pub replies_released : (p q r : Slots) (rs rest : List Reply) (x : Reply) → rs ≡ x ∷ rest → Moves p q (items_holders x.items.items) no_holders → Moves q r (replies_holders rest) no_holders → Moves p r (replies_holders rs) no_holders
-replies_released p q r rs rest x is m n =
-    subst (λ (xs : List Reply). Moves p r (replies_holders xs) no_holders) (sym is) (moves_both p q r (items_holders x.items.items) (replies_holders rest) m n)
-
 -- what is left is held
 pub items_left : (p q : Slots) (items rest : List ReplyItem) (item : ReplyItem) → items ≡ item ∷ rest → ((k : ℕ) → items_holders items k ≤ count_at p k) → ((k : ℕ) → count_at p k ≤ count_at q k + item_holders item k) →
     (k : ℕ) → items_holders rest k ≤ count_at q k

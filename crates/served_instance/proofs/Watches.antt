@@ -18,7 +18,7 @@ use Rattle.conn_core.specs.Past.{Past}
 use Rattle.job_queue.specs.Order.{AreJobs}
 use Rattle.instance_core.specs.Answer.{answer, state_after}
 use Rattle.instance_core.specs.Apart.{is_apart, IsCallOn, replies_on}
-use Rattle.instance_core.specs.Calls.{CallEventValue, tick as time_passes, start_jobs, end_late_jobs, end_job}
+use Rattle.instance_core.specs.Calls.{CallEventValue, start_jobs, end_late_jobs, end_job, tick as time_passes}
 use Rattle.instance_core.specs.State.{InstanceState}
 use Rattle.instance_core.specs.Visible.{Blob}
 use Rattle.instance_core.specs.Watching.{WatchAtRest, WatchDuring}
@@ -26,12 +26,10 @@ use Rattle.instance_core.proofs.NamedTexts.{all_append}
 use Rattle.instance_core.proofs.WatchKept.{IsWatched, open_given, made_watched, event_watched, all_filtered}
 use Rattle.instance_core.proofs.WatchTold.{starts_rest, late_rest, ended_rest, tick_rest, cancel_rest, told_there}
 use Rattle.server_events.specs.Events.{EventValue, WhatValue, opened, received, took, closed, tick, ended}
-use Rattle.served_instance.specs.declared.refusal.EventRefusal.{EventRefusal}
 use Rattle.served_instance.specs.Connections.{open_at, at_open, with_closed}
 use Rattle.served_instance.specs.Calls.{call_id, call_event_on}
-use Rattle.served_instance.specs.Lone.{LoneInstance, new_lone, after_call_event, after_call_events, due_at, without_due, after_due_on, after_frame_on, is_over, after_frames_on, after_fault_on, after_end_on, unread_frames, after_reading_on, after_bytes_on, after_closing, effect_of, lone_at_moment, after_event}
+use Rattle.served_instance.specs.Lone.{LoneInstance, after_call_event, after_call_events, due_at, without_due, after_due_on, after_frame_on, is_over, after_frames_on, after_fault_on, after_end_on, unread_frames, after_reading_on, after_bytes_on, after_closing, effect_of, lone_at_moment, after_event}
 use Rattle.served_instance.specs.Events.{due_events, frame_taken, fault_met, frame_events, events_of_frames, fault_events, end_events, reading_events, bytes_come, bytes_events}
-use Rattle.served_instance.specs.Refusals.{refusal_of, after_event_unless, lone_step}
 use Rattle.served_instance.specs.Short.{IsCutShort, after_break, after_break_all, without_job, IsCutEffect, Short}
 use Rattle.served_instance.proofs.CutEvents.{after_events}
 use Rattle.served_instance.proofs.Frames.{happened_is}
@@ -223,12 +221,6 @@ accepted_watched parent e l w h =
     let done = acted_rest e.what (lone_at_moment e.moment parent l) w at in
     record { given = done.given; busy = done.busy }
 
-pub step_watched : (parent : List Blob) (e : EventValue) (l : LoneInstance) → AreJobs l.state.jobs → WatchAtRest l.state → WatchAtRest (lone_step parent e l).state
-step_watched parent e l w h = go (refusal_of e l) where
-  go : (o : Option EventRefusal) → WatchAtRest (after_event_unless parent e l o).state
-  go None = accepted_watched parent e l w h
-  go (Some refusal) = h
-
 -- ---- what want of memory leaves
 
 broken_rest : (c : ℕ) (left : InstanceState) (l : LoneInstance) → WatchDuring c left → WatchAtRest (after_break c left l).state
@@ -250,7 +242,3 @@ cut_rest (ended job outcome) l m b w h = same_lone _ m b.gone (broken_all_rest (
 
 pub short_watched : (parent : List Blob) (e : EventValue) (l m : LoneInstance) → Short parent e l m → AreJobs l.state.jobs → WatchAtRest l.state → WatchAtRest m.state
 short_watched parent e l m short w h = cut_rest e.what (lone_at_moment e.moment parent l) m short w (record { given = h.given; busy = h.busy })
-
--- at first there are no calls
-pub new_watched : (name : List ℕ) (quota slots : ℕ) → WatchAtRest (new_lone name quota slots).state
-new_watched name quota slots = record { given = tt; busy = inr tt }

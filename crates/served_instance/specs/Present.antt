@@ -1,5 +1,5 @@
 -- Which events are refused, by what is kept. For the code alone: no public contract speaks of it.
-use Rattle.std.specs.Prelude.{ℕ, ◌≤◌, ◌==◌, Bool, nat_le, nat_lt, if◌then◌else◌, List, length, Option, Some, None}
+use Rattle.std.specs.Prelude.{◌≡◌, ℕ, ◌==◌, Bool, nat_le, nat_lt, if◌then◌else◌, List, length, Option, Some, None, position}
 use Rattle.std.specs.Option.{is_some, option_map_or}
 use Rattle.conn_core.specs.StandsFor.{ConnectionValue}
 use Rattle.job_queue.specs.Jobs.{Jobs, running_job}
@@ -14,6 +14,23 @@ use Rattle.served_instance.specs.Slots.{ServedSlots}
 
 abbrev pub is_numbered : ℕ → OpenConnection → Bool
 is_numbered c kept = kept.number == c
+
+-- the connection of number c stands at this place, and none of this number before it
+abbrev pub IsPlaceOf : ℕ → ℕ → List OpenConnection → Type 0
+IsPlaceOf c place os = position (is_numbered c) os ≡ Some place
+
+-- the open connection that an event is about stands at this place
+abbrev pub IsPlaceFor : WhatValue → ℕ → List OpenConnection → Type 0
+IsPlaceFor (received c bytes) place os = IsPlaceOf c place os
+IsPlaceFor (took c n) place os = IsPlaceOf c place os
+IsPlaceFor (closed c) place os = IsPlaceOf c place os
+IsPlaceFor (opened c) place os = Unit {0}
+IsPlaceFor tick place os = Unit {0}
+IsPlaceFor (ended job outcome) place os = Unit {0}
+
+-- the connection of each number stands where it stood
+abbrev pub StayInPlace : List OpenConnection → List OpenConnection → Type 0
+StayInPlace os ns = (c : ℕ) → position (is_numbered c) ns ≡ position (is_numbered c) os
 
 abbrev pub unless_present : ℕ → List ServedConnection → Option EventRefusal
 unless_present c vs = option_map_or (λ v. None) (connection_at c vs) (Some NoSuchConnection)
@@ -45,8 +62,3 @@ abbrev pub refusal_by : EventValue → ServedSlots → Option EventRefusal
 refusal_by e v =
     if nat_lt e.moment v.instance.moment then Some TimeWentBack
     else refusal_by_what e.what v.instance.jobs v.connections
-
--- no more than waits
-abbrev pub CanTake : ℕ → Option ConnectionValue → Type 0
-CanTake n None = Unit {0}
-CanTake n (Some v) = n ≤ length v.sending.pending

@@ -12,6 +12,7 @@ ghost use Rattle.blob_pool.specs.Slots.{Slots, count_at};
 ghost use Rattle.blob_pool.specs.Moves.{Moves};
 ghost use Rattle.served_instance.specs.declared.open_connection.OpenConnection.{OpenConnection};
 ghost use Rattle.served_instance.specs.Acts.{Acts, ActsIn, LeadsIn, Keeps, present_at, slots_of, unread_at, after_rest_on, cancels_of};
+ghost use Rattle.served_instance.specs.Present.{IsPlaceOf, StayInPlace};
 ghost use Rattle.served_instance.specs.Ranges.{Releases, range_holders};
 ghost use Rattle.served_instance.specs.Shown.{connection_shown};
 ghost use Rattle.served_instance.specs.Events.{due_events, rest_events, bytes_events};
@@ -51,6 +52,7 @@ fn happen(
         → KeepsOthers c connections.old connections.new }
     ensures finds { (c : ℕ) → IsCallOn c (event_shown event)
         → OthersFindAlike c pool.old pool.new connections.old }
+    ensures places { StayInPlace connections.old connections.new }
     ensures moves { Moves pool.old pool.new (holders_of (slots_of instance.old connections.old))
         (holders_of (slots_of instance.new connections.new)) }
     ensures kept { IsServedInPool pool.new (slots_of instance.new connections.new) }
@@ -59,15 +61,17 @@ fn happen(
     give_all(pool, connections, replies)
 }
 
-/// What is due on the connection happens.
+/// What is due on the connection, which stands at this place, happens.
 fn give_due(
     alloc: Global,
     parent: &View,
     pool: &mut Pool,
     instance: &mut Instance,
     connections: &mut [OpenConnection],
+    place: usize,
     number: u32,
 ) -> Result<(), AllocError>
+    requires there { IsPlaceOf number place connections.old }
     requires kept { IsServedInPool pool.old (slots_of instance.old connections.old) }
     requires beside { IsServedBeside pool.old parent.now (slots_of instance.old connections.old) }
     ensures due { OnOk result (ActsIn parent.now pool.old instance.old connections.old
@@ -78,11 +82,12 @@ fn give_due(
         pool.new instance.new (due_events number)) }
     ensures others { KeepsOthers number connections.old connections.new }
     ensures finds { OthersFindAlike number pool.old pool.new connections.old }
+    ensures places { StayInPlace connections.old connections.new }
     ensures moves { Moves pool.old pool.new (holders_of (slots_of instance.old connections.old))
         (holders_of (slots_of instance.new connections.new)) }
     ensures kept { IsServedInPool pool.new (slots_of instance.new connections.new) }
 {
-    'events: while let Some(event) = pop_event(connections, number) {
+    'events: while let Some(event) = pop_event(connections, place) {
         let event = call_event_on(number, event);
         happen(alloc, parent, pool, instance, connections, event)?;
     }
@@ -97,8 +102,10 @@ fn read_next(
     pool: &mut Pool,
     instance: &mut Instance,
     connections: &mut [OpenConnection],
+    place: usize,
     number: u32,
 ) -> Result<bool, AllocError>
+    requires there { IsPlaceOf number place connections.old }
     requires kept { IsServedInPool pool.old (slots_of instance.old connections.old) }
     requires beside { IsServedBeside pool.old parent.now (slots_of instance.old connections.old) }
     ensures reads { OnOk result (LeadsIn parent.now pool.old instance.old connections.old
@@ -113,12 +120,13 @@ fn read_next(
         pool.new instance.new (rest_events number)) }
     ensures others { KeepsOthers number connections.old connections.new }
     ensures finds { OthersFindAlike number pool.old pool.new connections.old }
+    ensures places { StayInPlace connections.old connections.new }
     ensures moves { Moves pool.old pool.new (holders_of (slots_of instance.old connections.old))
         (holders_of (slots_of instance.new connections.new)) }
     ensures kept { IsServedInPool pool.new (slots_of instance.new connections.new) }
 {
-    if read_frame(connections, number)? {
-        give_due(alloc, parent, pool, instance, connections, number)?;
+    if read_frame(connections, place)? {
+        give_due(alloc, parent, pool, instance, connections, place, number)?;
         Ok(true)
     } else {
         Ok(false)
@@ -133,9 +141,11 @@ pub(crate) fn receive(
     pool: &mut Pool,
     instance: &mut Instance,
     connections: &mut [OpenConnection],
+    place: usize,
     number: u32,
     bytes: Vec<u8>,
 ) -> Result<(), AllocError>
+    requires there { IsPlaceOf number place connections.old }
     requires kept { IsServedInPool pool.old (slots_of instance.old connections.old) }
     requires beside { IsServedBeside pool.old parent.now (slots_of instance.old connections.old) }
     ensures came { OnOk result (ActsIn parent.now pool.old instance.old connections.old
@@ -148,20 +158,22 @@ pub(crate) fn receive(
         (holders_of (slots_of instance.new connections.new)) }
     ensures kept { IsServedInPool pool.new (slots_of instance.new connections.new) }
 {
-    feed(connections, number, bytes)?;
-    'frames: while read_next(alloc, parent, pool, instance, connections, number)? {}
+    feed(connections, place, bytes)?;
+    'frames: while read_next(alloc, parent, pool, instance, connections, place, number)? {}
     Ok(())
 }
 
-/// The connection goes, each of its calls is given up, and the sources of its ranges are released.
-/// This takes no memory.
+/// The connection at this place goes, each of its calls is given up, and the sources of its ranges
+/// are released. This takes no memory.
 pub(crate) fn close(
     pool: &mut Pool,
     instance: &mut Instance,
     connections: &mut Vec<OpenConnection>,
+    place: usize,
     number: u32,
 )
-    requires { (k : ℕ) → range_holders (map connection_shown connections.old.items) k
+    requires there { IsPlaceOf number place connections.old.items }
+    requires counted { (k : ℕ) → range_holders (map connection_shown connections.old.items) k
         ≤ count_at pool.old k }
     ensures closed { (p : Slots) (seen : List Blob) →
         Acts (seeing seen (state_in p instance.old)) connections.old.items
@@ -173,15 +185,10 @@ pub(crate) fn close(
         ≡ holders_of_instance instance.old k }
     ensures kept { (p : Slots) → IsInstanceInPool p instance.old → IsInstanceInPool p instance.new }
 {
-    match find(connections, number) {
-        None => {}
-        Some(place) => {
-            let mut closed = connections.remove(place).connection;
-            closed.close();
-            release_spent(pool, &mut closed);
-            give_up(instance, number, closed)
-        }
-    }
+    let mut closed = connections.remove(place).connection;
+    closed.close();
+    release_spent(pool, &mut closed);
+    give_up(instance, number, closed)
 }
 
 /// The connection goes after memory was refused in the midst of it: whatever it stands for, the

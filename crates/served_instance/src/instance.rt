@@ -1,6 +1,7 @@
 //! One instance and its connections.
 
 ghost use Rattle.std.specs.Prelude.{◌≡◌, ◌≢◌, ◌≤◌, ◌<◌, ◌^◌, ℕ, List, [], None, length, map, Option, option_map, string_bytes, IfSome, IfOk, OnOk, OnErr, IfErr, Err};
+ghost use Rattle.std.specs.Result.{result_err};
 ghost use Rattle.server_events.specs.Shown.{event_value, what_value};
 ghost use Rattle.grpc_sending.specs.Bytes.{most_untaken, pending_bytes};
 ghost use Rattle.conn_core.specs.History.{has_failed};
@@ -10,7 +11,7 @@ ghost use Rattle.served_instance.specs.Connections.{LoneConnection, AreApart, op
 ghost use Rattle.served_instance.specs.Lone.{LoneInstance, new_lone, effect_of, after_opening, after_pump};
 ghost use Rattle.served_instance.specs.Refusals.{NeedsNoMemory, refusal_of, lone_step, lone_orders, IsRefusalOutcome};
 ghost use Rattle.served_instance.specs.StandsFor.{IsServedInstance, IsServedWithin, AreServed, AreSettled};
-ghost use Rattle.served_instance.specs.Present.{refusal_by, refusal_by_what, refusal_to_open, unless_present, unless_running, refusal_to_take};
+ghost use Rattle.served_instance.specs.Present.{IsPlaceFor, IsPlaceOf, refusal_by, refusal_by_what, refusal_to_open, unless_present, unless_running, refusal_to_take};
 ghost use Rattle.served_instance.specs.Short.{IsServedShort};
 ghost use Rattle.served_instance.specs.Cuts.{CutsAct, others_by, others_than, state_without};
 ghost use Rattle.served_instance.specs.Shown.{connection_shown};
@@ -32,7 +33,7 @@ ghost use Rattle.instance_core.specs.Within.{most_stored_bytes};
 use crate::broken::Broken;
 use crate::calls::{break_off, break_off_all, close};
 use crate::jobs::{end_run, pass_time, receive_and_start};
-use crate::open_connection::{OpenConnection, connection_at, connection_near, take};
+use crate::open_connection::{OpenConnection, connection_at, connection_near, find, take};
 use crate::pool_parts::PoolParts;
 use crate::refusal::EventRefusal;
 use crate::release::release_all;
@@ -173,9 +174,10 @@ impl ServedInstance {
         ensures moves { Moves pool.old pool.new (holders_of self.old) (holders_of self.new) }
         ensures kept { IsServedInPool pool.new self.new }
     {
-        if let Some(refusal) = self.refusal(&event) {
-            return Err(refusal);
-        }
+        let place = match accept(&self.instance, &self.connections, &event) {
+            Ok(place) => place,
+            Err(refusal) => return Err(refusal),
+        };
         self.instance.set_moment(event.moment);
         let alloc = *self.connections.allocator();
         let broken = Broken::by(&event.what);
@@ -185,6 +187,7 @@ impl ServedInstance {
             pool,
             &mut self.instance,
             &mut self.connections,
+            place,
             event.what,
         ) {
             Err(_) => {
@@ -252,23 +255,6 @@ impl ServedInstance {
         }
     }
 
-    /// Why the event is refused, if it is.
-    fn refusal(&self, event: &Event) -> Option<EventRefusal>
-        ensures { result ≡ refusal_by (event_value event.now) self.now }
-    {
-        if event.moment < self.instance.moment() {
-            return Some(EventRefusal::TimeWentBack);
-        }
-        let connections = &self.connections;
-        match &event.what {
-            What::Open(number) => refusal_to_open(connections, *number),
-            What::Bytes(number, _) | What::Closed(number) => unless_open(connections, *number),
-            What::Took(number, count) => refusal_to_take(connections, *number, *count),
-            What::Tick => None,
-            What::Outcome(job, _) => unless_running(&self.instance, *job),
-        }
-    }
-
     /// Puts all that can be put, on each open connection, and releases what no range is left of.
     fn pump(&mut self, pool: &mut Pool)
         requires { IsServedInPool pool.old self.old }
@@ -279,6 +265,33 @@ impl ServedInstance {
         ensures kept { IsServedInPool pool.new self.new }
     {
         pump_all(pool, &mut self.connections);
+    }
+}
+
+/// Where the connection stands that the event is about, behind all where it is about none that is
+/// open; or why the event is refused.
+fn accept(
+    instance: &Instance,
+    connections: &[OpenConnection],
+    event: &Event,
+) -> Result<usize, EventRefusal>
+    ensures refused { result_err result
+        ≡ refusal_by (event_value event.now) (slots_of instance.now connections.now) }
+    ensures place { IfOk result (λ place.
+        IsPlaceFor (event_value event.now).what place connections.now) }
+{
+    if event.moment < instance.moment() {
+        return Err(EventRefusal::TimeWentBack);
+    }
+    match &event.what {
+        What::Open(number) => place_to_open(connections, *number),
+        What::Bytes(number, _) | What::Closed(number) => place_if_open(connections, *number),
+        What::Took(number, count) => place_to_take(connections, *number, *count),
+        What::Tick => Ok(connections.len()),
+        What::Outcome(job, _) => match unless_running(instance, *job) {
+            None => Ok(connections.len()),
+            Some(refusal) => Err(refusal),
+        },
     }
 }
 
@@ -310,15 +323,17 @@ fn break_off_by(
     }
 }
 
-/// Does what the event asks for.
+/// Does what the event asks for. The connection that it is about stands at this place.
 fn act(
     alloc: Global,
     parent: &View,
     pool: &mut Pool,
     instance: &mut Instance,
     connections: &mut Vec<OpenConnection>,
+    place: usize,
     what: What,
 ) -> Result<Vec<Order>, AllocError>
+    requires place { IsPlaceFor (what_value what) place connections.old.items }
     requires accepted { refusal_by_what (what_value what) instance.old.jobs
         (map connection_shown connections.old.items)
         ≡ None }
@@ -347,14 +362,23 @@ fn act(
             Ok(Vec::new(alloc))
         }
         What::Bytes(number, bytes) => {
-            receive_and_start(alloc, parent, pool, instance, connections, number, bytes)
+            receive_and_start(
+                alloc,
+                parent,
+                pool,
+                instance,
+                connections,
+                place,
+                number,
+                bytes,
+            )
         }
-        What::Took(number, count) => {
-            take(connections, number, count as usize);
+        What::Took(_, count) => {
+            take(connections, place, count as usize);
             Ok(Vec::new(alloc))
         }
         What::Closed(number) => {
-            close(pool, instance, connections, number);
+            close(pool, instance, connections, place, number);
             Ok(Vec::new(alloc))
         }
         What::Tick => pass_time(alloc, pool, instance, connections),
@@ -410,38 +434,49 @@ fn pump_each(pool: &Pool, connections: &mut [OpenConnection])
     }
 }
 
-/// Why a connection of this number is not opened.
-fn refusal_to_open(connections: &[OpenConnection], number: u32) -> Option<EventRefusal>
-    ensures { result ≡ refusal_to_open number (map connection_shown connections.now) }
+/// The place for a connection of this number, or why it is not opened.
+fn place_to_open(connections: &[OpenConnection], number: u32) -> Result<usize, EventRefusal>
+    ensures { result_err result ≡ refusal_to_open number (map connection_shown connections.now) }
 {
     if connection_at(connections, number).is_some() {
-        Some(EventRefusal::ConnectionExists)
+        Err(EventRefusal::ConnectionExists)
     } else if connections.len() >= CONNECTION_LIMIT {
-        Some(EventRefusal::TooManyConnections)
+        Err(EventRefusal::TooManyConnections)
     } else {
-        None
+        Ok(connections.len())
     }
 }
 
-/// The connection has to be open.
-fn unless_open(connections: &[OpenConnection], number: u32) -> Option<EventRefusal>
-    ensures { result ≡ unless_present number (map connection_shown connections.now) }
+/// The place of the connection, which has to be open.
+fn place_if_open(connections: &[OpenConnection], number: u32) -> Result<usize, EventRefusal>
+    ensures refused { result_err result
+        ≡ unless_present number (map connection_shown connections.now) }
+    ensures place { IfOk result (λ place. IsPlaceOf number place connections.now) }
 {
-    match connection_at(connections, number) {
-        Some(_) => None,
-        None => Some(EventRefusal::NoSuchConnection),
+    match find(connections, number) {
+        Some(place) => Ok(place),
+        None => Err(EventRefusal::NoSuchConnection),
     }
 }
 
-/// No more can be taken than waits.
-fn refusal_to_take(connections: &[OpenConnection], number: u32, count: u32) -> Option<EventRefusal>
-    ensures { result ≡ refusal_to_take number count (map connection_shown connections.now) }
+/// The place of the connection. No more can be taken than waits.
+fn place_to_take(
+    connections: &[OpenConnection],
+    number: u32,
+    count: u32,
+) -> Result<usize, EventRefusal>
+    ensures refused { result_err result
+        ≡ refusal_to_take number count (map connection_shown connections.now) }
+    ensures place { IfOk result (λ place. IsPlaceOf number place connections.now) }
 {
-    match connection_at(connections, number) {
-        None => Some(EventRefusal::NoSuchConnection),
-        Some(kept) if (count as usize) > kept.pending().len() => Some(EventRefusal::TookTooMuch),
-        Some(_) => None,
+    let place = match find(connections, number) {
+        Some(place) => place,
+        None => return Err(EventRefusal::NoSuchConnection),
+    };
+    if (count as usize) > connections[place].connection.pending().len() {
+        return Err(EventRefusal::TookTooMuch);
     }
+    Ok(place)
 }
 
 /// A job has to run under the number.

@@ -21,6 +21,7 @@ ghost use Rattle.served_instance.specs.Connections.{open_ones};
 ghost use Rattle.served_instance.specs.Cuts.{CutsAct, KeepsOthers, OthersFindAlike};
 ghost use Rattle.served_instance.specs.Lone.{LoneInstance, after_replies, effect_of};
 ghost use Rattle.served_instance.specs.OwedReplies.{reply_by};
+ghost use Rattle.served_instance.specs.Present.{IsPlaceOf};
 ghost use Rattle.served_instance.specs.Shown.{connection_shown};
 ghost use Rattle.served_instance.specs.Slots.{holders_of, IsServedBeside, IsServedInPool};
 ghost use Rattle.served_instance.specs.StandsFor.{AreServed};
@@ -75,16 +76,18 @@ fn settle(
     Ok(orders)
 }
 
-/// Bytes come on a connection, and then the jobs start for which there is a slot.
+/// Bytes come on the connection at this place, and then the jobs start for which there is a slot.
 pub(crate) fn receive_and_start(
     alloc: Global,
     parent: &View,
     pool: &mut Pool,
     instance: &mut Instance,
     connections: &mut [OpenConnection],
+    place: usize,
     number: u32,
     bytes: Vec<u8>,
 ) -> Result<Vec<Order>, AllocError>
+    requires there { IsPlaceOf number place connections.old }
     requires kept { IsServedInPool pool.old (slots_of instance.old connections.old) }
     requires beside { IsServedBeside pool.old parent.now (slots_of instance.old connections.old) }
     ensures acted { OnOk result (ActsAtRest parent.now pool.old instance.old connections.old
@@ -99,7 +102,16 @@ pub(crate) fn receive_and_start(
         (holders_of (slots_of instance.new connections.new)) }
     ensures kept { IsServedInPool pool.new (slots_of instance.new connections.new) }
 {
-    receive(alloc, parent, pool, instance, connections, number, bytes)?;
+    receive(
+        alloc,
+        parent,
+        pool,
+        instance,
+        connections,
+        place,
+        number,
+        bytes,
+    )?;
     let turn = instance.ready_starts(alloc, number)?;
     settle(pool, instance, connections, turn)
 }

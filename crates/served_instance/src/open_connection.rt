@@ -1,13 +1,12 @@
 //! The open connections of an instance, by their numbers.
 
-ghost use Rattle.std.specs.Prelude.{◌≡◌, ◌++◌, ◌<◌, ◌≤◌, List, false, None, map, option_map, position, IfOk, OnOk, length};
-ghost use Rattle.std.specs.Option.{option_map_or};
+ghost use Rattle.std.specs.Prelude.{◌≡◌, ◌++◌, ◌<◌, ◌≤◌, ℕ, List, map, option_map, position, IfOk, OnOk, length, slice_index_or};
 ghost use Rattle.grpc_sending.specs.StoredSending.{SourceTexts};
 ghost use Rattle.conn_core.specs.Past.{Past, with_taken};
-ghost use Rattle.served_instance.specs.Acts.{BecomesAt, TakesStep, Pops, ReadsFrame, present_at, HoldAlike};
+ghost use Rattle.served_instance.specs.Acts.{BecomesAt, TakesStep, Pops, ReadsFrame, HoldAlike};
 ghost use Rattle.served_instance.specs.Cuts.{KeepsOthers};
 ghost use Rattle.served_instance.specs.Shown.{connection_shown};
-ghost use Rattle.served_instance.specs.Present.{is_numbered, CanTake};
+ghost use Rattle.served_instance.specs.Present.{is_numbered, IsPlaceOf, StayInPlace};
 ghost use Rattle.served_instance.specs.Connections.{LoneConnection, AreApart, open_ones};
 ghost use Rattle.served_instance.specs.StandsFor.{AreServed, connection_at};
 
@@ -59,62 +58,61 @@ pub(crate) fn connection_near<'a>(
     connection_at(connections, number)
 }
 
-/// Takes bytes that were received on the connection.
+/// Takes bytes that were received on the connection at this place.
 pub(crate) fn feed(
     connections: &mut [OpenConnection],
-    number: u32,
+    place: usize,
     bytes: Vec<u8>,
 ) -> Result<(), AllocError>
-    ensures fed { OnOk result (BecomesAt number connections.old connections.new
+    requires { place < length connections.old }
+    ensures fed { OnOk result ((c : ℕ) → IsPlaceOf c place connections.old
+        → BecomesAt c connections.old connections.new
         (TakesStep (λ p. record p { text = p.text ++ bytes.items }))) }
     ensures holds { HoldAlike connections.old connections.new }
-    ensures others { KeepsOthers number connections.old connections.new }
+    ensures others { (c : ℕ) → IsPlaceOf c place connections.old
+        → KeepsOthers c connections.old connections.new }
+    ensures places { StayInPlace connections.old connections.new }
 {
-    match find(connections, number) {
-        None => Ok(()),
-        Some(place) => connections[place].connection.feed(bytes),
-    }
+    connections[place].connection.feed(bytes)
 }
 
-/// Takes the next whole frame of the connection, and says whether there was one.
+/// Takes the next whole frame of the connection at this place, and says whether there was one.
 pub(crate) fn read_frame(
     connections: &mut [OpenConnection],
-    number: u32,
+    place: usize,
 ) -> Result<bool, AllocError>
-    ensures read { IfOk result (λ more. BecomesAt number connections.old connections.new
-        (ReadsFrame more)) }
-    ensures none { IfOk result (λ more. present_at number connections.old ≡ None → more ≡ false) }
+    requires { place < length connections.old }
+    ensures read { IfOk result (λ more. (c : ℕ) → IsPlaceOf c place connections.old
+        → BecomesAt c connections.old connections.new (ReadsFrame more)) }
     ensures holds { HoldAlike connections.old connections.new }
-    ensures others { KeepsOthers number connections.old connections.new }
+    ensures others { (c : ℕ) → IsPlaceOf c place connections.old
+        → KeepsOthers c connections.old connections.new }
+    ensures places { StayInPlace connections.old connections.new }
 {
-    match find(connections, number) {
-        None => Ok(false),
-        Some(place) => connections[place].connection.read_frame(),
-    }
+    connections[place].connection.read_frame()
 }
 
-/// Gives the next event of a call on the connection that is due.
-pub(crate) fn pop_event(connections: &mut [OpenConnection], number: u32) -> Option<CallEvent>
-    ensures event { BecomesAt number connections.old connections.new (Pops result) }
-    ensures none { present_at number connections.old ≡ None → result ≡ None }
+/// Gives the next event of a call on the connection at this place that is due.
+pub(crate) fn pop_event(connections: &mut [OpenConnection], place: usize) -> Option<CallEvent>
+    requires { place < length connections.old }
+    ensures event { (c : ℕ) → IsPlaceOf c place connections.old
+        → BecomesAt c connections.old connections.new (Pops result) }
     ensures holds { HoldAlike connections.old connections.new }
-    ensures others { KeepsOthers number connections.old connections.new }
+    ensures others { (c : ℕ) → IsPlaceOf c place connections.old
+        → KeepsOthers c connections.old connections.new }
+    ensures places { StayInPlace connections.old connections.new }
 {
-    match find(connections, number) {
-        None => None,
-        Some(place) => connections[place].connection.pop_event(),
-    }
+    connections[place].connection.pop_event()
 }
 
-/// The client of the connection took so many of the bytes that wait for it.
-pub(crate) fn take(connections: &mut [OpenConnection], number: u32, count: usize)
-    requires { CanTake count (present_at number connections.old) }
-    ensures taken { BecomesAt number connections.old connections.new
-        (TakesStep (λ p. with_taken p count)) }
+/// The client of the connection at this place took so many of the bytes that wait for it.
+pub(crate) fn take(connections: &mut [OpenConnection], place: usize, count: usize)
+    requires there { place < length connections.old }
+    requires can { (o : OpenConnection)
+        → count ≤ length (slice_index_or connections.old place o).connection.sending.pending }
+    ensures taken { (c : ℕ) → IsPlaceOf c place connections.old
+        → BecomesAt c connections.old connections.new (TakesStep (λ p. with_taken p count)) }
     ensures holds { HoldAlike connections.old connections.new }
 {
-    match find(connections, number) {
-        None => {}
-        Some(place) => connections[place].connection.took(count),
-    }
+    connections[place].connection.took(count)
 }

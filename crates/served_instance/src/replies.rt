@@ -16,6 +16,7 @@ ghost use Rattle.served_instance.specs.Connections.{LoneConnection, open_ones};
 ghost use Rattle.served_instance.specs.Lone.{LoneInstance, after_replies};
 ghost use Rattle.served_instance.specs.OwedReplies.{item_by, reply_by, with_owed, CanBeOwed, ReplyCanBeOwed, ItemEndsWithin, ItemsEndWithin, ReplyEndsWithin, RepliesEndWithin, TakesRanges, AllTakeRanges};
 ghost use Rattle.served_instance.specs.Cuts.{KeepsOthers};
+ghost use Rattle.served_instance.specs.Present.{StayInPlace};
 ghost use Rattle.instance_core.specs.Apart.{AreRepliesTo};
 ghost use Rattle.served_instance.specs.Shown.{connection_shown};
 ghost use Rattle.served_instance.specs.StandsFor.{AreServed};
@@ -61,6 +62,7 @@ pub(crate) fn give_all(
     ensures rest { OnOk result (Keeps connections.old connections.new) }
     ensures others { (c : ℕ) → AreRepliesTo c replies.items
         → KeepsOthers c connections.old connections.new }
+    ensures places { StayInPlace connections.old connections.new }
     ensures takes { AllTakeRanges (replies_holders replies.items) (RepliesEndWithin replies.items)
         pool.old (map connection_shown connections.old) pool.new
         (map connection_shown connections.new) }
@@ -83,6 +85,7 @@ fn give(pool: &mut Pool, connections: &mut [OpenConnection], reply: Reply) -> Re
     ensures given { OnOk result (BecomesAt reply.call.connection connections.old connections.new
         (Owes (with_owed reply.call.stream reply.items.items))) }
     ensures others { KeepsOthers reply.call.connection connections.old connections.new }
+    ensures places { StayInPlace connections.old connections.new }
     ensures takes { AllTakeRanges (items_holders reply.items.items) (ReplyEndsWithin reply)
         pool.old (map connection_shown connections.old) pool.new
         (map connection_shown connections.new) }

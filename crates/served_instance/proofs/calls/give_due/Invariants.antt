@@ -4,6 +4,7 @@ use Rattle.served_instance.specs.Lone.{after_due_on}
 use Rattle.served_instance.specs.Acts.{LeadsIn, due_count, slots_of, unread_at}
 use Rattle.served_instance.specs.Slots.{holders_of, IsServedInPool}
 use Rattle.served_instance.specs.Events.{due_events}
+use Rattle.served_instance.specs.Present.{StayInPlace}
 use Rattle.served_instance.specs.Cuts.{CutLeads, KeepsOthers, OthersFindAlike}
 use Rattle.served_instance.proofs.calls.give_due.Given as goal
 
@@ -14,6 +15,7 @@ invariant-events l = record {
   moves : Moves l.fn.pool l.pool (holders_of (slots_of l.fn.instance l.fn.connections)) (holders_of (slots_of l.instance l.connections));
   kept : IsServedInPool l.pool (slots_of l.instance l.connections);
   cuts : CutLeads l.parent l.fn.pool l.fn.instance l.fn.connections l.pool l.instance l.connections (due_events l.number) (due_events l.number);
+  places : StayInPlace l.fn.connections l.connections;
   others : KeepsOthers l.number l.fn.connections l.connections;
   finds : OthersFindAlike l.number l.fn.pool l.pool l.fn.connections;
 }

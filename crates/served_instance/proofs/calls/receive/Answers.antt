@@ -9,6 +9,7 @@ use Rattle.served_instance.specs.Acts.{after_rest_on, slots_of}
 use Rattle.served_instance.specs.Shown.{connection_shown}
 use Rattle.served_instance.specs.Slots.{holders_of}
 use Rattle.served_instance.proofs.Kept.{alike_moves}
+use Rattle.served_instance.proofs.Places.{place_within}
 use Rattle.served_instance.proofs.Leads.{step_acts, leads_trans, leads_acts_by}
 use Rattle.served_instance.proofs.Besides.{moved_beside}
 use Rattle.served_instance.proofs.Writes.{alike_after}
@@ -19,6 +20,9 @@ use Rattle.served_instance.proofs.CutEvents.{nothing_cut, cut_leads_trans, cut_l
 use Rattle.served_instance.proofs.BrokenOff.{on_err}
 use Rattle.served_instance.proofs.calls.receive.Goals as goal
 
+pub feed-requires : goal.feed-requires
+feed-requires c = place_within c.args.number c.args.place c.args.connections.now c.requires.there
+
 pub frames-init : goal.frames-init
 frames-init c =
     let p = c.args.pool.now in
@@ -27,13 +31,14 @@ frames-init c =
     record {
       leads = λ l st.
           let k : LoneInstance = record l { connections = at_open c.args.number (with_bytes c.args.bytes.items) l.connections } in
-          (k, step_acts c.args.number (state_beside p c.args.parent.now c.args.instance.now) os ns (with_bytes c.args.bytes.items) c.in_ok-feed.ensures.fed (text_at p) l st, refl);
+          (k, step_acts c.args.number (state_beside p c.args.parent.now c.args.instance.now) os ns (with_bytes c.args.bytes.items) (c.in_ok-feed.ensures.fed c.args.number c.requires.there) (text_at p) l st, refl);
       moves = alike_moves p c.args.instance.now (map connection_shown os) (map connection_shown ns) c.feed.ensures.holds;
       kept = alike_after p c.args.instance.now os ns c.feed.auto.connections c.requires.kept c.feed.ensures.holds;
       cuts = λ l st.
           let k = bytes_come c.args.number c.args.bytes.items l in
-          (k, step_acts c.args.number (state_beside p c.args.parent.now c.args.instance.now) os ns (with_bytes c.args.bytes.items) c.in_ok-feed.ensures.fed (text_at p) l st, λ u cut. cut);
-      others = c.feed.ensures.others;
+          (k, step_acts c.args.number (state_beside p c.args.parent.now c.args.instance.now) os ns (with_bytes c.args.bytes.items) (c.in_ok-feed.ensures.fed c.args.number c.requires.there) (text_at p) l st, λ u cut. cut);
+      places = c.feed.ensures.places;
+      others = c.feed.ensures.others c.args.number c.requires.there;
       finds = finds_here p (others_of c.args.number os);
     }
 
@@ -42,6 +47,9 @@ returns-in_err-feed-clause-moves c = alike_moves c.args.pool.now c.args.instance
 
 pub returns-in_err-feed-clause-kept : goal.returns-in_err-feed-clause-kept
 returns-in_err-feed-clause-kept c = alike_after c.args.pool.now c.args.instance.now c.args.connections.now c.feed.new.connections c.feed.auto.connections c.requires.kept c.feed.ensures.holds
+
+pub read_next-requires-clause-there : goal.read_next-requires-clause-there
+read_next-requires-clause-there c = c.frames.invariant.places c.args.number ∙ c.requires.there
 
 pub read_next-requires-clause-beside : goal.read_next-requires-clause-beside
 read_next-requires-clause-beside c =
@@ -63,6 +71,7 @@ frames-preserved c =
       kept = c.read_next.ensures.kept;
       cuts = cut_leads_trans (text_at p) (text_at q) (text_at r) (state_beside p c.args.parent.now c.args.instance.now) (state_beside q c.args.parent.now c.frames.instance) (state_beside r c.args.parent.now c.read_next.new.instance) c.args.connections.now c.frames.connections c.read_next.new.connections
           (bytes_events c.args.number c.args.bytes.items) (rest_events c.args.number) (rest_events c.args.number) c.frames.invariant.cuts c.in_ok-read_next.ensures.cuts;
+      places = λ m. c.read_next.ensures.places m ∙ c.frames.invariant.places m;
       others = c.read_next.ensures.others ∙ c.frames.invariant.others;
       finds = finds_trans p q r (others_of c.args.number c.args.connections.now) (others_of c.args.number c.frames.connections) c.frames.invariant.others c.frames.invariant.finds c.read_next.ensures.finds;
     }
@@ -111,3 +120,6 @@ returns-in_err-read_next-clause-others c = c.read_next.ensures.others ∙ c.fram
 
 pub returns-in_err-read_next-clause-finds : goal.returns-in_err-read_next-clause-finds
 returns-in_err-read_next-clause-finds c = finds_trans c.args.pool.now c.frames.pool c.read_next.new.pool (others_of c.args.number c.args.connections.now) (others_of c.args.number c.frames.connections) c.frames.invariant.others c.frames.invariant.finds c.read_next.ensures.finds
+
+pub returns-in_err-feed-clause-others : goal.returns-in_err-feed-clause-others
+returns-in_err-feed-clause-others c = c.feed.ensures.others c.args.number c.requires.there

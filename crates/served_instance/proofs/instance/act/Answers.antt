@@ -1,5 +1,5 @@
 use Rattle.std.proofs.Common.{◌≡◌, sym, ap, ◌∙◌, subst, refl, arith, length, List}
-use Rattle.std.specs.Prelude.{map, None, Ok, Result}
+use Rattle.std.specs.Prelude.{◌<◌, ◌≤◌, map, None, Ok, Result, slice_index_or}
 use Rattle.std.proofs.lemmas.Grind.{common_steps}
 use Rattle.std.proofs.lemmas.List.{length-map}
 use Rattle.std.specs.declared.alloc.AllocError.{AllocError}
@@ -15,7 +15,7 @@ use Rattle.blob_pool.specs.Slots.{text_at}
 use Rattle.served_instance.specs.Acts.{ActsIn, present_at, slots_of}
 use Rattle.served_instance.specs.Cuts.{CutsAct, others_than}
 use Rattle.served_instance.specs.Lone.{after_closing}
-use Rattle.served_instance.specs.Present.{CanTake, refusal_by_what}
+use Rattle.served_instance.specs.Present.{IsPlaceFor, IsPlaceOf, refusal_by_what}
 use Rattle.served_instance.specs.Shown.{connection_shown}
 use Rattle.served_instance.specs.Slots.{IsServedBeside}
 use Rattle.served_instance.proofs.Acting.{rest_between, orders_between, orders_none}
@@ -24,6 +24,7 @@ use Rattle.served_instance.proofs.Closes.{written_back, can_take}
 use Rattle.served_instance.proofs.Cut.{finds_here}
 use Rattle.served_instance.proofs.Kept.{alike_keeps, few_connections, instance_after, release_keeps}
 use Rattle.served_instance.proofs.Leads.{step_acts}
+use Rattle.served_instance.proofs.Places.{place_some, place_within}
 use Rattle.served_instance.proofs.Stands.{released_acts}
 use Rattle.served_instance.proofs.Turning.{if_map, ok_map}
 use Rattle.served_instance.proofs.Writes.{alike_writes, moves_written, seen_kept}
@@ -90,10 +91,17 @@ returns-in_err-open-in-Open-clause-finds c =
 pub take-requires : goal.take-requires
 take-requires c =
     let os = c.args.connections.now.items in
-    let n = c.in-Took.number in
+    let n = c.in-Took.field-0 in
+    let k = c.args.place in
     let P : What → Type 0 = λ w. refusal_by_what (what_value w) c.args.instance.now.jobs (map connection_shown os) ≡ None in
-    let Q : List OpenConnection → Type 0 = λ xs. CanTake c.in-Took.count (present_at n xs) in
-    subst Q (sym c.deref_mut-in-Took.ensures.value) (can_take c.in-Took.count (present_at n os) (subst P c.in-Took.is c.requires.accepted))
+    let S : What → Type 0 = λ w. IsPlaceFor (what_value w) k os in
+    let at : IsPlaceOf n k os = subst S c.in-Took.is c.requires.place in
+    let seen = sym c.deref_mut-in-Took.ensures.value in
+    record {
+      there = subst (λ (xs : List OpenConnection). k < length xs) seen (place_within n k os at);
+      can = subst (λ (xs : List OpenConnection). (o : OpenConnection) → c.in-Took.count ≤ length (slice_index_or xs k o).connection.sending.pending) seen
+          (λ o. can_take c.in-Took.count (present_at n os) _ (place_some n os k o at) (subst P c.in-Took.is c.requires.accepted));
+    }
 
 pub returns-in-Took-clause-acted : goal.returns-in-Took-clause-acted
 returns-in-Took-clause-acted c =
@@ -104,10 +112,12 @@ returns-in-Took-clause-acted c =
     let os = all.items in
     let xs = c.deref_mut-in-Took.result.now in
     let ns = c.take.new.connections in
+    let S : What → Type 0 = λ w. IsPlaceFor (what_value w) c.args.place os in
+    let at : IsPlaceOf c.in-Took.field-0 c.args.place xs = subst (λ (ys : List OpenConnection). IsPlaceOf c.in-Took.field-0 c.args.place ys) (sym c.deref_mut-in-Took.ensures.value) (subst S c.in-Took.is c.requires.place) in
     let done : Result (Unit {0}) AllocError = Ok tt in
     let back = written_back all.len ns os (c.take.auto.connections ∙ ap length c.deref_mut-in-Took.ensures.value) (grind (arith, common_steps)) in
-    rest_between done parent p p i i os xs ns _ (what_value c.args.what) (took c.in-Took.number c.in-Took.count) c.deref_mut-in-Took.ensures.value back (ap what_value c.in-Took.is)
-    (λ l rest st. step_acts c.in-Took.number (state_beside p parent i) xs ns (λ y. with_taken y c.in-Took.count) c.take.ensures.taken (text_at p) l st)
+    rest_between done parent p p i i os xs ns _ (what_value c.args.what) (took c.in-Took.field-0 c.in-Took.count) c.deref_mut-in-Took.ensures.value back (ap what_value c.in-Took.is)
+    (λ l rest st. step_acts c.in-Took.field-0 (state_beside p parent i) xs ns (λ y. with_taken y c.in-Took.count) (c.take.ensures.taken c.in-Took.field-0 at) (text_at p) l st)
 
 pub returns-in-Took-clause-orders : goal.returns-in-Took-clause-orders
 returns-in-Took-clause-orders c =
@@ -116,7 +126,7 @@ returns-in-Took-clause-orders c =
     let i = c.args.instance.now in
     let all = c.args.connections.now in
     let os = all.items in
-    orders_none parent p p i i os (what_value c.args.what) (took c.in-Took.number c.in-Took.count) c.new-in-Took.result (ap what_value c.in-Took.is) c.new-in-Took.ensures.items (λ l. refl)
+    orders_none parent p p i i os (what_value c.args.what) (took c.in-Took.field-0 c.in-Took.count) c.new-in-Took.result (ap what_value c.in-Took.is) c.new-in-Took.ensures.items (λ l. refl)
 
 pub returns-in-Took-clause-kept : goal.returns-in-Took-clause-kept
 returns-in-Took-clause-kept c =
@@ -125,6 +135,11 @@ returns-in-Took-clause-kept c =
     alike_writes c.args.pool.now c.args.instance.now all.items c.deref_mut-in-Took.result.now ns _
     c.deref_mut-in-Took.ensures.value (written_back all.len ns all.items (c.take.auto.connections ∙ ap length c.deref_mut-in-Took.ensures.value) (grind (arith, common_steps)))
     c.take.auto.connections c.requires.kept c.take.ensures.holds
+
+pub close-requires-clause-there : goal.close-requires-clause-there
+close-requires-clause-there c =
+    let S : What → Type 0 = λ w. IsPlaceFor (what_value w) c.args.place c.args.connections.now.items in
+    subst S c.in-Closed.is c.requires.place
 
 pub returns-in-Closed-clause-acted : goal.returns-in-Closed-clause-acted
 returns-in-Closed-clause-acted c =
@@ -164,7 +179,9 @@ returns-in-Closed-clause-kept c =
 
 pub receive_and_start-requires : goal.receive_and_start-requires
 receive_and_start-requires c =
+    let S : What → Type 0 = λ w. IsPlaceFor (what_value w) c.args.place c.args.connections.now.items in
     record {
+      there = subst (λ (ys : List OpenConnection). IsPlaceOf c.in-Bytes.number c.args.place ys) (sym c.deref_mut.ensures.value) (subst S c.in-Bytes.is c.requires.place);
       kept = seen_kept c.args.pool.now c.args.instance.now c.args.connections.now.items c.deref_mut.result.now c.deref_mut.ensures.value c.requires.kept;
       beside = subst (λ (ys : List OpenConnection). IsServedBeside c.args.pool.now c.args.parent.now (slots_of c.args.instance.now ys)) (sym c.deref_mut.ensures.value) c.requires.beside;
     }

@@ -7,6 +7,7 @@ use Rattle.served_instance.specs.OwedReplies.{ItemsEndWithin, ReplyEndsWithin, T
 use Rattle.served_instance.proofs.Changes.{changed_none, changed_ok}
 use Rattle.served_instance.proofs.Taking.{take_at}
 use Rattle.served_instance.proofs.Cut.{others_kept}
+use Rattle.served_instance.proofs.Places.{places_kept}
 use Rattle.served_instance.proofs.replies.give.Goals as goal
 
 pub returns-in-None-clause-given : goal.returns-in-None-clause-given
@@ -32,3 +33,6 @@ returns-in-Some-clause-takes c =
 
 pub returns-in-Some-clause-others : goal.returns-in-Some-clause-others
 returns-in-Some-clause-others c = others_kept c.args.reply.call.connection c.args.connections.now c.in-Some.place c.index-connections-place.result c.owe.new.connection (sym c.find.ensures ∙ c.in-Some.is)
+
+pub returns-in-Some-clause-places : goal.returns-in-Some-clause-places
+returns-in-Some-clause-places c = places_kept c.args.connections.now c.in-Some.place c.index-connections-place.result c.owe.new.connection

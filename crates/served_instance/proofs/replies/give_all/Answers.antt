@@ -1,4 +1,4 @@
-use Rattle.std.proofs.Common.{rules, ◌≡◌, ◌∷◌, [], arith, ℕ, ◌≤◌, ◌+◌, map}
+use Rattle.std.proofs.Common.{rules, ◌≡◌, ◌∙◌, ◌∷◌, [], arith, ℕ, ◌≤◌, ◌+◌, map}
 use Rattle.blob_pool.specs.Slots.{count_at}
 use Rattle.instance_core.specs.ReplyHolders.{items_holders}
 use Rattle.served_instance.specs.OwedReplies.{with_owed}
@@ -34,6 +34,7 @@ replies-preserved c =
       counted = replies_left p q c.replies.left.items rest r is c.replies.invariant.counted less;
       owed = (replies_owed c.replies.left.items rest r is c.replies.invariant.owed).1;
       others = λ n all. given_others n c.replies.left.items rest r c.args.connections.now os ns is (c.replies.invariant.others n all) c.give.ensures.others;
+      places = λ n. c.give.ensures.places n ∙ c.replies.invariant.places n;
     }
 
 pub returns-in-Err-clause-takes : goal.returns-in-Err-clause-takes
@@ -59,3 +60,6 @@ returns-in-Err-clause-others c = λ n all.
 
 pub returns-clause-others : goal.returns-clause-others
 returns-clause-others c = λ n all. (c.replies.invariant.others n all).0
+
+pub returns-in-Err-clause-places : goal.returns-in-Err-clause-places
+returns-in-Err-clause-places c = λ n. c.give.ensures.places n ∙ c.replies.invariant.places n

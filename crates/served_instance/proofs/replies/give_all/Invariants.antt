@@ -6,6 +6,7 @@ use Rattle.served_instance.specs.declared.open_connection.OpenConnection.{OpenCo
 use Rattle.served_instance.specs.Acts.{Keeps}
 use Rattle.served_instance.specs.OwedReplies.{ReplyCanBeOwed, RepliesEndWithin, AllTakeRanges}
 use Rattle.served_instance.specs.Cuts.{KeepsOthers}
+use Rattle.served_instance.specs.Present.{StayInPlace}
 use Rattle.instance_core.specs.Apart.{AreRepliesTo}
 use Rattle.served_instance.specs.Shown.{connection_shown}
 use Rattle.served_instance.specs.StandsFor.{ServedConnection}
@@ -20,6 +21,7 @@ invariant-replies l = record {
   takes : (r : Slots) (ws : List ServedConnection) → AllTakeRanges (replies_holders l.left.items) (RepliesEndWithin l.left.items) l.pool (map connection_shown l.connections) r ws → AllTakeRanges (replies_holders l.fn.replies.items) (RepliesEndWithin l.fn.replies.items) l.fn.pool (map connection_shown l.fn.connections) r ws;
   counted : (k : ℕ) → replies_holders l.left.items k ≤ count_at l.pool k;
   owed : AllByRecursion ReplyCanBeOwed l.left.items;
+  places : StayInPlace l.fn.connections l.connections;
   others : (c : ℕ) → AreRepliesTo c l.fn.replies.items → KeepsOthers c l.fn.connections l.connections × AreRepliesTo c l.left.items;
 }
 

@@ -3,13 +3,14 @@
 use crate::serve_ports::is_memory;
 use metrics_text::{ServerFigures, figures_text};
 use std::alloc::AllocError;
+use std::fs::{self, File, OpenOptions};
+use std::io::{self, ErrorKind, Write};
 use std::time::SystemTime;
-use std::{fs, io};
 
 /// How often the file of figures is written, in milliseconds.
 const WRITING: u64 = 10_000;
 
-/// How often is told that it cannot be written.
+/// How often is told at most that it cannot be written.
 const TELLING: u64 = 60_000;
 
 /// How often the file that ends the server is looked for.
@@ -50,6 +51,8 @@ pub struct MetricsFile<'a> {
     beside: String,
     writing: Due,
     telling: Due,
+    /// Whether it was told that it cannot be written, and it could not be since.
+    is_told: bool,
 }
 
 impl<'a> MetricsFile<'a> {
@@ -60,6 +63,7 @@ impl<'a> MetricsFile<'a> {
             beside: format!(in rt.alloc(); "{path}.new")?,
             writing: Due::every(WRITING),
             telling: Due::every(TELLING),
+            is_told: false,
         })
     }
 
@@ -68,22 +72,48 @@ impl<'a> MetricsFile<'a> {
         self.writing.take(moment)
     }
 
-    /// Writes the file anew, whole or not at all. Where that could not be done, and was not told in
-    /// the last minute, there is a line to be told.
+    /// Writes the file anew, whole or not at all. Where that could not be done there is a line to be
+    /// told, once until it goes well again.
     pub fn write(&mut self, figures: &ServerFigures<'_>, moment: u64) -> Option<String> {
         let Err(error) = self.replace(figures) else {
+            self.is_told = false;
             return None;
         };
-        if !self.telling.take(moment) {
+        if self.is_told || !self.telling.take(moment) {
             return None;
         }
+        self.is_told = true;
         let path = self.path;
         format!(in self.rt.alloc(); "remoted: cannot write {path}: {error}\n").ok()
     }
 
     fn replace(&self, figures: &ServerFigures<'_>) -> io::Result<()> {
         let text = figures_text(self.rt.alloc(), figures)?;
-        fs::write(self.rt, self.beside.as_str(), &text)?;
+        let file = self.create_beside()?;
+        let replaced = self.put(file, &text);
+        if replaced.is_err() {
+            let _ = fs::remove_file(self.rt, self.beside.as_str());
+        }
+        replaced
+    }
+
+    /// Makes the file beside. What stood under its name, which others may have put there, is
+    /// removed and never opened: it could be a link, or a FIFO that nobody reads.
+    fn create_beside(&self) -> io::Result<File> {
+        let beside = self.beside.as_str();
+        match fs::remove_file(self.rt, beside) {
+            Err(error) if error.kind() != ErrorKind::NotFound => return Err(error),
+            _ => {}
+        }
+        OpenOptions::new()
+            .write(true)
+            .create_new(true)
+            .open(self.rt, beside)
+    }
+
+    /// Writes the file beside, and puts it in the place of the other.
+    fn put(&self, mut file: File, text: &[u8]) -> io::Result<()> {
+        file.write_all(text)?;
         fs::rename(self.rt, self.beside.as_str(), self.path)
     }
 }
@@ -105,7 +135,8 @@ impl<'a> StopFile<'a> {
         }
     }
 
-    /// Whether it is there. A file that cannot be looked at counts as not there.
+    /// Whether it is there: anything under its name, a link itself and not where it leads. It is not
+    /// opened. A file that cannot be looked at counts as not there.
     pub fn is_there(&self) -> io::Result<bool> {
         match fs::symlink_metadata(self.rt, self.path) {
             Ok(_) => Ok(true),

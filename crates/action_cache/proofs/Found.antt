@@ -1,12 +1,10 @@
 -- What is found of an action's result, where each tree is read where it is named last.
-use Rattle.std.proofs.Common.{◌≡◌, ℕ, true, List, [], Option, Some, None, is_some, refl}
-use Rattle.std.specs.Prelude.{unwrap_or}
+use Rattle.std.proofs.Common.{◌≡◌, ℕ, true, List, Option, Some, None, is_some, refl}
 use Rattle.std.specs.Map.{lookup}
 use Rattle.digest.specs.declared.Digest.{Digest}
 use Rattle.digest.specs.Naming.{same_digest}
 use Rattle.instance_view.specs.Visible.{Blob}
 use Rattle.input_tree.specs.Listing.{Lookup}
-use Rattle.input_tree.specs.Uses.{visible_after_uses}
 use Rattle.action_cache.specs.Complete.{and_then}
 use Rattle.action_cache.specs.LastTrees.{blobs_once}
 use Rattle.action_cache.specs.Answering.{HaveSameUses, blobs_for, result_for}
@@ -21,10 +19,6 @@ neither_is_there (Some es) h = absurd h
 pub both_are_there : (ds : List Digest) (o : Option (List Digest)) → HaveSameUses (Some ds) o → is_some o ≡ true
 both_are_there ds (Some es) h = refl
 both_are_there ds None h = absurd h
-
-pub leave_the_same : (ds : List Digest) (o : Option (List Digest)) (visible : List Blob) → HaveSameUses (Some ds) o → visible_after_uses ds visible ≡ visible_after_uses (unwrap_or o []) visible
-leave_the_same ds (Some es) visible h = h visible
-leave_the_same ds None visible h = absurd h
 
 -- ---- an action's result
 

@@ -15,7 +15,7 @@ use std::alloc::{AllocError, Global};
 const LONGEST: u64 = 3_600_000;
 
 /// An action that is taken.
-#[derive(Clone, Copy, PartialEq, Eq)]
+#[derive(Clone, Copy, Debug, PartialEq, Eq)]
 pub struct ActionTaken {
     /// The digest of its command's text.
     pub command: Digest,

@@ -18,7 +18,7 @@ pub struct Hashing {
 }
 
 /// The digests of a text: by SHA-256, and by SHA-512 where that is known.
-#[derive(Clone, Copy)]
+#[derive(Clone, Copy, Debug)]
 pub struct Digests {
     pub sha256: Digest,
     pub sha512: Option<Digest>,

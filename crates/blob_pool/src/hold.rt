@@ -18,7 +18,7 @@ impl Model for Hold {
 }
 
 /// The plain number by which a holder remembers its right.
-#[derive(Clone, Copy)]
+#[derive(Clone, Copy, Debug)]
 pub struct Kept {
     slot: usize,
 }

@@ -19,7 +19,7 @@ use std::alloc::Global;
 use uploads::{Piece, UploadError, UploadKey, Uploads};
 
 /// A message's piece of an upload, and whether it is the last (bytestream.proto, `finish_write`).
-#[derive(Clone, Copy)]
+#[derive(Clone, Copy, Debug)]
 pub struct Part<'a> {
     pub key: &'a UploadKey,
     pub piece: Piece<'a>,
@@ -27,7 +27,7 @@ pub struct Part<'a> {
 }
 
 /// The terms on which a message of a `Write` is taken.
-#[derive(Clone, Copy)]
+#[derive(Clone, Copy, Debug)]
 pub struct Terms {
     /// How many bytes the instance stores at most.
     pub quota: u64,

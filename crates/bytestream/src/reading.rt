@@ -23,7 +23,7 @@ use std::alloc::Global;
 
 /// A range of a blob: its bytes from one place until before another. It is another holder of the
 /// blob's text.
-#[derive(Clone, Copy)]
+#[derive(Clone, Copy, Debug)]
 pub struct Source {
     pub digest: Digest,
     pub text: Seen,
@@ -45,7 +45,7 @@ impl Source {
 }
 
 /// What a `Read` asks for; the limit 0 is none.
-#[derive(Clone, Copy)]
+#[derive(Clone, Copy, Debug)]
 pub struct ReadAsked {
     pub digest: Digest,
     pub offset: i64,

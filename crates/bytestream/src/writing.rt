@@ -44,7 +44,7 @@ pub enum Written {
 }
 
 /// The first message of a `Write`.
-#[derive(Clone, Copy)]
+#[derive(Clone, Copy, Debug)]
 pub struct FirstPart<'a> {
     pub name: &'a str,
     pub uuid: &'a str,

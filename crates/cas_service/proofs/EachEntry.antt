@@ -38,11 +38,6 @@ pub entries_end : {V : Type 0} (value_of : List Record → Result V MessageError
 unfolding payloads each_of
 entries_end value_of = refl
 
--- a list of entries in turn: the first, and then the others
-pub each_next : {V W : Type 0} (k l : List V → Result W Refusal) (v : V) (before after : Result (List V) Refusal) → before ≡ (after >>= λ vs. Ok (v ∷ vs)) → ((vs : List V) → k (v ∷ vs) ≡ l vs) → (before >>= k) ≡ (after >>= l)
-each_next k l v before (Ok vs) is same = rw is (same vs)
-each_next k l v before (Err e) is same = rw is refl
-
 pub reads_some : {X V : Type 0} (shown : X → V) (o : Option X) (x : X) (before after : Result (List V) Refusal) → o ≡ Some x → ReadsEntry shown (Ok o) before after → before ≡ (after >>= λ vs. Ok (shown x ∷ vs))
 reads_some shown None x before after is reads = absurd (cc)
 reads_some shown (Some y) x before after is reads =

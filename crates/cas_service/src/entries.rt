@@ -21,7 +21,7 @@ use rpc::Refusal;
 use std::alloc::Global;
 
 /// What a request says beside its entries.
-#[derive(Clone, Copy)]
+#[derive(Clone, Copy, Debug)]
 pub struct Head<'a> {
     pub instance_name: &'a str,
     /// A number of the enum `DigestFunction.Value`; 0 where it is not set.

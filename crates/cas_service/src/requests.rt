@@ -24,7 +24,7 @@ use std::alloc::{AllocError, Global};
 pub const MOST_BATCH_BYTES: u64 = 4_000_000;
 
 /// A digest that a request asks for, as it was sent and as it was read.
-#[derive(Clone, Copy)]
+#[derive(Clone, Copy, Debug)]
 pub struct Asked<'a> {
     pub sent: messages::Digest<'a>,
     pub digest: Digest,

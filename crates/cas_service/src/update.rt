@@ -33,7 +33,7 @@ use rpc::Refusal;
 use std::alloc::{AllocError, Global};
 
 /// A blob that is stored, and the digest that names it.
-#[derive(Clone, Copy)]
+#[derive(Clone, Copy, Debug)]
 pub struct Accepted<'a> {
     pub digest: Digest,
     pub content: &'a [u8],

@@ -54,9 +54,6 @@ sound_put d fs h s = record {
 abbrev IsSilent : Entry → Type 0
 IsSilent e = sent_frames (e ∷ []) ≡ []
 
-append_none : (d : List Entry) (xs : List Frame) → xs ≡ [] → sent_frames d ++ xs ≡ sent_frames d ++ []
-append_none d xs h = ap (λ (ys : List Frame). sent_frames d ++ ys) h
-
 sound_entry : (d : List Entry) (e : Entry) → IsSilent e → IsFramed e → Sound d → Sound (d ++ e ∷ [])
 sound_entry d e silent framed s = record {
   framed = all_append IsFramed d (e ∷ []) s.framed (framed, tt);

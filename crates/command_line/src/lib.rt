@@ -66,7 +66,7 @@ pub struct Service<'a> {
 }
 
 /// Which server is asked, and for how many seconds its answer is waited for at most.
-#[derive(Clone, Copy)]
+#[derive(Clone, Copy, Debug)]
 pub struct Question<'a> {
     pub port: u16,
     pub host: &'a str,
@@ -329,7 +329,7 @@ fn requested<'a>(
 }
 
 /// Why the words of a command line ask for nothing.
-#[derive(Drop)]
+#[derive(Debug, Drop)]
 pub enum CommandLineError {
     /// A request for memory was refused.
     NoMemory,

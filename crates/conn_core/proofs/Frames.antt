@@ -154,11 +154,6 @@ fault_by texts (Ok y) o v old x u f code is err gives live highest fails = λ p 
 alive_of : (texts : SourceTexts) (v : ConnectionValue) (p : Past) → IsConnection texts v p → v.ended ≡ false → IsAlive v p
 alive_of texts v p st alive = st.alive (sym st.ended ∙ alive)
 
-pub read_ended : (texts : SourceTexts) (v old : ConnectionValue) → v ≡ old → v.ended ≡ true → (p : Past) → IsConnection texts old p → StandsAfterReading texts p false v
-read_ended texts v old is ended p st0 =
-    let st : IsConnection texts v p = subst (λ (y : ConnectionValue). IsConnection texts y p) (sym is) st0 in
-    (inl (sym st.ended ∙ ended), st)
-
 abbrev ReadAlike : Result FrameReaderValue FrameError → Result FrameReaderValue FrameError → Type 0
 ReadAlike old new = (preface text : List ℕ) (given : List RawFrame) → IsReader preface old text given → IsReader preface new text given
 

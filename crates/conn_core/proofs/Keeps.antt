@@ -1,6 +1,6 @@
 -- What the calls that bring nothing leave stands for the past after them.
 use Rattle.std.proofs.Common.{◌≡◌, ℕ, List, [], ◌∷◌, ◌++◌, refl, ap, ◌∙◌, sym, subst, append_assoc, arith}
-use Rattle.std.specs.Prelude.{Bool, true, false, cond, ◌==◌, map, filter, fold, ◌&&◌, ◌||◌, not, Option, Some, None, Result, Ok, Err, OnOk, OnErr, IfErr, drop, length, option_to_list}
+use Rattle.std.specs.Prelude.{Bool, false, cond, ◌==◌, map, filter, fold, ◌&&◌, ◌||◌, not, Option, Some, None, Result, Ok, Err, OnOk, OnErr, IfErr, drop, length, option_to_list}
 use Rattle.std.specs.List.{list_any, flat_map}
 use Rattle.std.proofs.lemmas.List.Elements.{filter_map-append}
 use Rattle.http2_frames.specs.declared.reader.TheConstants.{CLIENT_PREFACE}
@@ -172,12 +172,6 @@ pub fed_by : (texts : SourceTexts) (v old : ConnectionValue) (r : Result Unit Fr
 fed_by texts v old r new piece is ok err refused memory p st0 =
     let st : IsConnection texts v p = subst (λ (y : ConnectionValue). IsConnection texts y p) (sym is) st0 in
     more_kept texts v new p piece st (λ alive. fed r v.reader new CLIENT_PREFACE.now p.text piece (received_raw_frames p.history) ok err refused memory (st.alive alive).reader)
-
-pub fed_ended : (texts : SourceTexts) (v old : ConnectionValue) (piece : List ℕ) → v ≡ old → v.ended ≡ true → (p : Past) → IsConnection texts old p → IsConnection texts v (record p { text = p.text ++ piece })
-fed_ended texts v old piece is ended p st0 =
-    let st : IsConnection texts v p = subst (λ (y : ConnectionValue). IsConnection texts y p) (sym is) st0 in
-    let failed : has_failed p.history ≡ true = sym st.ended ∙ ended in
-    more_kept texts v v.reader p piece st (λ alive. let no : true ≡ false = sym failed ∙ alive in absurd (let z : ⊥ = cc in z))
 
 pub fed_ok : (texts : SourceTexts) {T E : Type 0} (o : Result T E) (v old : ConnectionValue) (r : Result Unit FrameError) (new : Result FrameReaderValue FrameError) (piece : List ℕ) → v ≡ old → OnOk r ((p t : List ℕ) (g : List RawFrame) → IsReader p v.reader t g → IsReader p new (t ++ piece) g) → OnErr r (new ≡ v.reader) → IfErr r (λ fault. (fault ≡ NoMemory → ⊥) → v.reader ≡ Err fault) → OnOk o (r ≡ Err NoMemory → ⊥) → OnOk o ((p : Past) → IsConnection texts old p → IsConnection texts (record { reader = new; streams = v.streams; sending = v.sending; calls = v.calls; due = v.due; ended = v.ended; reset_count = v.reset_count }) (record p { text = p.text ++ piece }))
 fed_ok texts (Err e) v old r new piece is ok err refused memory = tt

@@ -65,15 +65,6 @@ frames_to_put-append n (f ∷ fs) gs h = elim (cases_Bool (may_put n f)) [
 abbrev pub with_sending : ConnectionValue → StoredSending → ConnectionValue
 with_sending v w = record { reader = v.reader; streams = v.streams; sending = w; calls = v.calls; due = v.due; ended = v.ended; reset_count = v.reset_count }
 
-pub puts_none : (v : ConnectionValue) → Puts v [] true v
-puts_none v = record {
-  all = refl;
-  sending = λ texts d os st. subst (λ (e : List Entry). IsStoredSending texts v.sending e os) (sym (append-nil d)) st;
-  size = omega arith;
-  queues = refl;
-  rest = refl;
-}
-
 pub puts_more : (v w x : ConnectionValue) (fs gs : List Frame) (all : Bool) → Puts v fs true w → Puts w gs all x → Puts v (fs ++ gs) all x
 puts_more v w x fs gs all a b =
     let n : ℕ = length v.sending.pending in
@@ -126,18 +117,6 @@ puts_one v old w f b is room-is room stands size queues =
       sending = λ texts d os st. subst (λ (xs : List Frame). IsStoredSending texts w (d ++ map Out xs) os) (sym one) (stands texts d os st);
       size = omega (arith, size, ap (λ (xs : List Frame). length (flat_map text_of xs)) one, ap length (append-nil (text_of f)), text_length (raw_of f));
       queues = queues;
-      rest = refl;
-    })
-
-pub puts_not : (v old : ConnectionValue) (f : Frame) (b : Bool) → v ≡ old → b ≡ false → (IsTrue b ↔ ((length v.sending.pending + (9 + length (raw_of f).payload)) ≤ 131055)) → Puts old (f ∷ []) false v
-puts_not v old f b is room-is room =
-    let fit : may_put (length v.sending.pending) f ≡ false = fits_is (length v.sending.pending) f b room ∙ room-is in
-    let none : frames_to_put (length v.sending.pending) (f ∷ []) ≡ [] = rw fit refl in
-    subst (λ (y : ConnectionValue). Puts y (f ∷ []) false v) is (record {
-      all = sym (rw fit refl);
-      sending = λ texts d os st. subst (λ (xs : List Frame). IsStoredSending texts v.sending (d ++ map Out xs) os) (sym none) (subst (λ (e : List Entry). IsStoredSending texts v.sending e os) (sym (append-nil d)) st);
-      size = omega (arith, ap (λ (xs : List Frame). length (flat_map text_of xs)) none);
-      queues = refl;
       rest = refl;
     })
 

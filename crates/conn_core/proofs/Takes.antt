@@ -25,13 +25,6 @@ Stands old new ms = (text : List ℕ) (given : List (List ℕ)) → AreMessages 
 
 -- ---- the loop
 
-pub gave_none : (s : ℕ) (m : Kept) (es : List CallEvent) → GaveMessages [] s s m m es es
-gave_none s m es = record {
-  stream = refl;
-  events = sym (append-nil es);
-  stands = λ u earlier stands. subst (λ (gs : List (List ℕ)). AreMessages message_limit m u gs) (sym (append-nil earlier)) stands;
-}
-
 pub gave_more : (given : List (List ℕ)) (s t : ℕ) (old mid new : Kept) (before after later : List CallEvent) (message : List ℕ) → GaveMessages given s t old mid before after → Stands mid new (message ∷ []) → later ≡ after ++ Message t message ∷ [] → GaveMessages (given ++ message ∷ []) s t old new before later
 gave_more given s t old mid new before after later message h stands events = record {
   stream = h.stream;

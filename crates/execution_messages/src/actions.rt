@@ -11,7 +11,7 @@ use reapi_messages::Digest;
 use std::alloc::{AllocError, Global};
 
 /// `google.protobuf.Duration`, as it was sent: nothing is checked.
-#[derive(Clone, Copy)]
+#[derive(Clone, Copy, Debug)]
 pub struct Duration {
     pub seconds: i64,
     /// Nanoseconds beside the seconds: 0 to 999,999,999 of a length of time that is not negative.
@@ -45,7 +45,7 @@ impl<'a> Message<'a> for Duration {
 }
 
 /// `build.bazel.remote.execution.v2.Action`, as it was sent: nothing is checked.
-#[derive(Clone, Copy)]
+#[derive(Clone, Copy, Debug)]
 pub struct Action<'a> {
     /// Of the text of a `Command`.
     pub command_digest: Option<Digest<'a>>,
@@ -88,7 +88,7 @@ impl<'a> Message<'a> for Action<'a> {
 }
 
 /// `build.bazel.remote.execution.v2.Command.EnvironmentVariable`.
-#[derive(Clone, Copy)]
+#[derive(Clone, Copy, Debug)]
 pub struct EnvironmentVariable<'a> {
     pub name: &'a str,
     pub value: &'a str,

@@ -11,7 +11,7 @@ use std::alloc::{AllocError, Global};
 use tree_messages::ActionResult;
 
 /// `build.bazel.remote.execution.v2.ExecuteOperationMetadata`.
-#[derive(Clone, Copy)]
+#[derive(Clone, Copy, Debug)]
 pub struct ExecuteOperationMetadata<'a> {
     /// A number of the enum `ExecutionStage.Value`: 2 for queued, 3 for executing, 4 for completed.
     pub stage: i32,
@@ -85,7 +85,7 @@ impl<'a> Message<'a> for ExecuteResponse<'a> {
 }
 
 /// `google.longrunning.Operation`.
-#[derive(Clone, Copy)]
+#[derive(Clone, Copy, Debug)]
 pub struct Operation<'a> {
     pub name: &'a str,
     /// An `ExecuteOperationMetadata`.
@@ -126,7 +126,7 @@ impl<'a> Message<'a> for Operation<'a> {
 }
 
 /// `google.rpc.PreconditionFailure.Violation`.
-#[derive(Clone, Copy)]
+#[derive(Clone, Copy, Debug)]
 pub struct Violation<'a> {
     /// The field `type`: which kind of condition does not hold.
     pub kind: &'a str,

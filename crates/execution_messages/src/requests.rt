@@ -10,7 +10,7 @@ use reapi_messages::Digest;
 use std::alloc::{AllocError, Global};
 
 /// `build.bazel.remote.execution.v2.ExecuteRequest`.
-#[derive(Clone, Copy)]
+#[derive(Clone, Copy, Debug)]
 pub struct ExecuteRequest<'a> {
     pub instance_name: &'a str,
     /// Whether a stored result is no answer.
@@ -52,7 +52,7 @@ impl<'a> Message<'a> for ExecuteRequest<'a> {
 }
 
 /// `build.bazel.remote.execution.v2.WaitExecutionRequest`.
-#[derive(Clone, Copy)]
+#[derive(Clone, Copy, Debug)]
 pub struct WaitExecutionRequest<'a> {
     /// The name of an `Operation`.
     pub name: &'a str,

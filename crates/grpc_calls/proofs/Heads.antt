@@ -1,4 +1,5 @@
 -- Reading a head, and which request is a call.
+use Rattle.grpc_calls.specs.declared.request.HeadFault.TheVariants.{Method as BadMethod, ContentType as BadContentType, Path as BadPath}
 use Rattle.std.proofs.Common.{◌≡◌, ℕ, ◌⊎◌, ◌↔◌, inl, inr, Bool, true, false, cond, ◌&&◌, ◌||◌, nat_eq, List, [], ◌∷◌, length, drop, Option, Some, None, Result, Ok, Err, codes, refl, sym, ap, ◌∙◌}
 use Rattle.std.specs.List.{list_any, starts_with}
 use Rattle.std.specs.Str.{bytes_eq}
@@ -8,7 +9,6 @@ use Rattle.hpack.specs.Header.{Header, value_of}
 use Rattle.rpc.specs.declared.method.Method.{Method}
 use Rattle.rpc.specs.declared.method.Method.TheVariants.{FindMissingBlobs, BatchUpdateBlobs, BatchReadBlobs, GetTree, GetActionResult, UpdateActionResult, Execute, WaitExecution, GetCapabilities, Read, Write, QueryWriteStatus}
 use Rattle.grpc_calls.specs.declared.request.HeadFault.{HeadFault}
-use Rattle.grpc_calls.specs.declared.request.HeadFault.TheVariants.{Method as BadMethod, ContentType as BadContentType, Path as BadPath}
 use Rattle.rpc.specs.Methods.{path_of, methods, method_in, method_at}
 use Rattle.grpc_calls.specs.Requests.{IsPost, IsGrpcType, IsGrpc, HasPathOf, IsCall, is_value, is_grpc_type, method_for, method_or_fault, head_of}
 
@@ -112,9 +112,6 @@ grpc_of hs = list_any is_grpc_type hs
 
 abbrev named_by : List Header → Option Method
 named_by hs = method_for (value_of (codes ":path") hs)
-
-is_by : (hs : List Header) → head_of hs ≡ head_by (post_of hs) (grpc_of hs) (named_by hs)
-is_by hs = refl
 
 record Found (p g : Bool) (o : Option Method) (m : Method) : Type 0 where
   post : p ≡ true

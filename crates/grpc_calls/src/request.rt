@@ -11,7 +11,7 @@ use hpack::{HeaderField, Headers};
 use rpc::{Method, Refusal};
 
 /// Why a request is no call.
-#[derive(Clone, Copy, PartialEq, Eq)]
+#[derive(Clone, Copy, Debug, PartialEq, Eq)]
 pub enum HeadFault {
     /// Its method is not POST.
     Method,

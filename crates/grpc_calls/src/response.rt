@@ -18,7 +18,7 @@ const HEAD_TEXT: &[u8] = b"\x88\x0f\x10\x10application/grpc";
 const SUCCESS_TEXT: &[u8] = b"\x00\x0bgrpc-status\x010";
 
 /// How a call ends.
-#[derive(Clone, Copy, PartialEq, Eq)]
+#[derive(Clone, Copy, Debug, PartialEq, Eq)]
 pub enum Status {
     /// The code OK.
     Success,
@@ -26,7 +26,7 @@ pub enum Status {
 }
 
 /// What a header block of a response says (gRPC over HTTP2, Responses).
-#[derive(Clone, Copy, PartialEq, Eq)]
+#[derive(Clone, Copy, Debug, PartialEq, Eq)]
 pub enum ResponseBlock {
     /// Response-Headers: messages may follow, and then trailers.
     Head,

@@ -84,10 +84,6 @@ parts_first n k h b is =
     let some : n - length h ≡ n - k = omega (arith, is) in
     sym (take_parts n h b ∙ ap (λ (t : List ℕ). t ++ take (n - length h) b) (take_few n k h is) ∙ ap (λ m. take k h ++ take m b) some)
 
--- the second part has what the first has not
-pub second_there : (n k : ℕ) (h b whole : List ℕ) → h ++ b ≡ whole → n ≤ length whole → k ≡ min (length h) n → n - k ≤ length b
-second_there n k h b whole is there of_first = omega (arith, ap length is, length-append h b, there, of_first)
-
 -- a DATA frame that is written in three steps, from two parts of a message
 pub message_put : (n k stream : ℕ) (h b whole out x y z : List ℕ) → h ++ b ≡ whole → n ≤ length whole → k ≡ min (length h) n →
     x ≡ out ++ header_text n DATA 0 stream → y ≡ x ++ take k h → z ≡ y ++ take (n - k) b → z ≡ out ++ text_of (Data stream false (take n whole))
@@ -162,10 +158,6 @@ put_text m n s text head rest of_head skipped is there h =
     ∙ ap (λ k. take of_head rest ++ take k (drop skipped b)) some
     ∙ ap (λ (t : List ℕ). take of_head rest ++ t) (part_within (span_count m s) skipped (n - of_head) s.from text (sizes m n s text head rest of_head skipped is there h))
     )
-
--- the bytes of the text that are put stand within the range
-pub put_there : (m n : ℕ) (s : Span) (text head rest : List ℕ) (of_head skipped : ℕ) → IsSpan m s text → n ≤ length (span_front m s text) → Shares m n s head rest of_head skipped → (s.from + skipped) + (n - of_head) ≤ s.until
-put_there m n s text head rest of_head skipped is there h = omega (arith, sizes m n s text head rest of_head skipped is there h, is.some)
 
 -- a DATA frame that is written in three steps
 pub range_put : (m n : ℕ) (s : Span) (text head rest : List ℕ) (of_head skipped stream : ℕ) (out a b e : List ℕ) → IsSpan m s text → n ≤ length (span_front m s text) → Shares m n s head rest of_head skipped →

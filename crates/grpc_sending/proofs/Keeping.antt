@@ -17,9 +17,6 @@ waiting w = record { queues = w.queues; spent = w.spent }
 pub keeps_by : (w v : StoredSending) (b : BacklogValue) → w ≡ v → AreSame (sources_of w) (sources_waiting b) → (k : ℕ) → count_of k (sources_waiting b) ≡ count_of k (sources_of v)
 keeps_by w v b is same k = same (λ n. cond (k == n) 1 0) ∙ ap (λ (x : StoredSending). count_of k (sources_of x)) is
 
-pub keeps_same : (v w : StoredSending) → w ≡ v → KeepsSources v w
-keeps_same v w is k = ap (λ (x : StoredSending). count_of k (sources_of x)) is
-
 pub keeps_more : (v w x : StoredSending) → KeepsSources v w → KeepsSources w x → KeepsSources v x
 keeps_more v w x a b k = b k ∙ a k
 

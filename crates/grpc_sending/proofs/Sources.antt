@@ -58,16 +58,6 @@ same_set os qs first old new i q d lt before step f =
     let g : sum_over f (sources_in q.pieces ++ new) ≡ sum_over f (sources_in q.pieces) + sum_over f new = sum_append f (sources_in q.pieces) new in
     omega (arith, a, b, c, e, g, before f, step f)
 
--- how many there are does not change
-pub room_at : (os qs : List StoredQueue) (first old : List ℕ) (i room room' : ℕ) (d : StoredQueue) → i < length qs → AreSame (sources_held os ++ first) (sources_held qs ++ old) → length (sources_held os) + length first ≤ room → room ≤ room' →
-    length (sources_in (get_or qs i d).pieces) + length old ≤ room'
-room_at os qs first old i room room' d lt same fits more =
-    let n = same_length (sources_held os ++ first) (sources_held qs ++ old) same in
-    let a : length (sources_held os ++ first) ≡ length (sources_held os) + length first = length-append (sources_held os) first in
-    let b : length (sources_held qs ++ old) ≡ length (sources_held qs) + length old = length-append (sources_held qs) old in
-    let c = few_at qs i d lt in
-    omega (arith, n, a, b, c, fits, more)
-
 pub room_of : (os ns first old : List ℕ) (room room' : ℕ) → AreSame (os ++ first) (ns ++ old) → length os + length first ≤ room → room ≤ room' → length ns + length old ≤ room'
 room_of os ns first old room room' same fits more =
     let n = same_length (os ++ first) (ns ++ old) same in

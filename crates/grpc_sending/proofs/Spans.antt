@@ -7,7 +7,7 @@ use Rattle.std.proofs.lemmas.Bool.Decides.{nat_tests}
 use Rattle.std.proofs.lemmas.Grind.{common_steps}
 use Rattle.std.proofs.lemmas.List.{take-take, drop-take, take_all, drop_all, length-take-le}
 use Rattle.grpc_messages.specs.Writing.{framed_message}
-use Rattle.grpc_sending.specs.Pieces.{Piece, Part, most_read, length_text, read_message, read_piece, message_pieces}
+use Rattle.grpc_sending.specs.Pieces.{Piece, Part, most_read, read_message, read_piece, message_pieces}
 use Rattle.grpc_sending.specs.Owed.{without_front}
 use Rattle.grpc_sending.specs.Spans.{Span, span_count, read_size, span_size, span_text, span_pieces, span_ends, span_front, span_after, IsSpan}
 use Rattle.grpc_sending.proofs.Histories.{append-nil}
@@ -52,12 +52,6 @@ cut_first text m (x ∷ xs) pos some = elim (cases_Bool (nat_lt m (length (x ∷
 ]
 
 -- ---- sizes
-
-length_text_three : (n : ℕ) → length (length_text n) ≤ 3
-length_text_three n = elim (cases_Bool (nat_lt n 128)) [
-  | inl a ↦ rw a (omega arith)
-  | inr b ↦ elim (cases_Bool (nat_lt n 16384)) [ inl c ↦ rw (b, c) (omega arith) | inr e ↦ rw (b, e) (omega arith) ]
-]
 
 pub framed_size : (bytes : List ℕ) → length (framed_message (read_message bytes)) ≡ read_size (length bytes)
 framed_size bytes = simp length-append (omega arith)

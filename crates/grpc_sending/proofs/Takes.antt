@@ -191,9 +191,6 @@ control_by texts w v f bs is control new d os st =
     subst (λ (xs : List ℕ). IsSending (record { pending = xs; position = w.position; queues = map (queue_in texts) w.queues }) (d ++ Out f ∷ []) os) (sym new)
     (stands_control (sending_in texts w) d os f control (subst (λ (x : StoredSending). IsSending (sending_in texts x) d os) (sym is) st))
 
-same_in : (texts : SourceTexts) (qs rs : List StoredQueue) → ((t : ℕ) → stored_on t rs ≡ stored_on t qs) → (t : ℕ) → pieces_on t (map (queue_in texts) rs) ≡ pieces_on t (map (queue_in texts) qs)
-same_in texts qs rs h t = on_in texts t rs ∙ ap (flat_map (pieces_in texts)) (h t) ∙ sym (on_in texts t qs)
-
 given_in : (texts : SourceTexts) (qs rs : List StoredQueue) (s : ℕ) (p : StoredPiece) → Pushed qs rs s p → Given (map (queue_in texts) qs) (map (queue_in texts) rs) s (pieces_in texts p)
 given_in texts qs rs s p h t =
     let back : (b : Bool) → flat_map (pieces_in texts) (cond b (stored_on t qs ++ p ∷ []) (stored_on t qs)) ≡ cond b (flat_map (pieces_in texts) (stored_on t qs) ++ pieces_in texts p) (flat_map (pieces_in texts) (stored_on t qs)) = elim [

@@ -2,7 +2,6 @@
 use Rattle.std.specs.Prelude.{◌≡◌, ◌≤◌, ◌==◌, ℕ, true, false, List, [], ◌∷◌, ◌++◌, length, if◌then◌else◌}
 use Rattle.std.specs.List.{flat_map}
 use Rattle.hpack.specs.declared.encoder.Position.{Position}
-use Rattle.hpack.specs.declared.encoder.Position.TheVariants.{First}
 use Rattle.http2_streams.specs.History.{Entry, sent_frames, is_not_closed, has_failed}
 use Rattle.grpc_sending.specs.Pieces.{Piece}
 use Rattle.grpc_sending.specs.Pieces.{Queue}
@@ -16,9 +15,6 @@ pub record Sending : Type 0 where
   pub position : Position
   -- what is still to be put on each stream
   pub queues : List Queue
-
-abbrev pub new_sending : Sending
-new_sending = record { pending = []; position = First; queues = [] }
 
 -- the pieces of stream s
 abbrev pub pieces_on : ℕ → List Queue → List Piece

@@ -33,10 +33,6 @@ turn_on qs connection_window x = turn_of connection_window x (pieces_on x.number
 abbrev pub next_turn : List Queue → ℤ → List Stream → Option Turn
 next_turn qs connection_window xs = first_of (turn_on qs connection_window) xs
 
-abbrev pub stream_of_turn : Turn → ℕ
-stream_of_turn (Head s block ended_by_client) = s
-stream_of_turn (Content s part) = s
-
 -- ---- changes of one queue
 
 abbrev pub without_first_at : ℕ → Queue → Queue

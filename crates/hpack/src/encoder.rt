@@ -14,7 +14,7 @@ use crate::string::push_string;
 use std::alloc::AllocError;
 
 /// Whether a block is the first of its connection.
-#[derive(Clone, Copy)]
+#[derive(Clone, Copy, Debug)]
 pub enum Position {
     /// It begins by setting the size of the dynamic table to 0 (RFC 7541, section 4.2).
     First,
@@ -23,7 +23,7 @@ pub enum Position {
 }
 
 /// A header field to write.
-#[derive(Clone, Copy)]
+#[derive(Clone, Copy, Debug)]
 pub struct Field<'a> {
     pub name: &'a [u8],
     pub value: &'a [u8],

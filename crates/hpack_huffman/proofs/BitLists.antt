@@ -9,10 +9,6 @@ unfolding bits
 length-bits zero n = refl
 length-bits (suc count) n = let rest = length-bits count n in omega arith
 
-pub bits-suc : (count n : ℕ) → bits (suc count) n ≡ n / 2 ^ count % 2 ∷ bits count n
-unfolding bits
-bits-suc count n = refl
-
 -- the high bits, and then the low ones
 pub bits-add : (high low n : ℕ) → bits (high + low) n ≡ bits high (n / 2 ^ low) ++ bits low n
 unfolding bits

@@ -13,7 +13,7 @@ pub const MAX_SIZE: u32 = 0x7fff_ffff;
 pub const INITIAL_SIZE: u32 = 65_535;
 
 /// Why a window was left as it was.
-#[derive(Clone, Copy, PartialEq, Eq)]
+#[derive(Clone, Copy, Debug, PartialEq, Eq)]
 pub enum FlowError {
     /// The window would have passed 2^31 - 1 bytes.
     TooLarge,

@@ -10,8 +10,8 @@ use Rattle.http2_flow.specs.declared.window.TheConstants.{INITIAL_SIZE}
 use Rattle.http2_frames.specs.declared.frame.Frame.{Frame}
 use Rattle.http2_streams.specs.declared.stream.Stream.{Stream}
 use Rattle.http2_streams.specs.declared.streams.TheConstants.{MAX_REMEMBERED}
-use Rattle.http2_streams.specs.History.{Entry, Blocks, blocks_after, no_blocks, stream_of, rising_numbers, resets, data_ends, block_ends, ends, size_after, increment_for, data_length, data_length_on, is_goaway, stream_reset_by, last_items, table_after_block, received_frames, sent_frames}
-use Rattle.http2_streams.specs.Standing.{Standing, standing}
+use Rattle.http2_streams.specs.History.{Blocks, blocks_after, no_blocks, stream_of, rising_numbers, resets, data_ends, block_ends, ends, size_after, increment_for, data_length, data_length_on, is_goaway, stream_reset_by, last_items, table_after_block}
+use Rattle.http2_streams.specs.Standing.{Standing}
 use Rattle.http2_streams.proofs.Lists.{any-push, filter-map, filter-filter, map-map}
 use Rattle.http2_streams.proofs.Bools.{or-swap, or-assoc}
 
@@ -69,9 +69,6 @@ std_of rs ss = record {
   unfinished = (blocks_in rs).unfinished;
   table = fold table_after_block (Some new_table) (blocks_in rs).finished;
 }
-
-pub standing_is : (d : List Entry) → standing d ≡ std_of (received_frames d) (sent_frames d)
-standing_is d = refl
 
 -- nothing has passed on stream s
 pub record Untouched (rs ss : List Frame) (s : ℕ) : Type 0 where

@@ -66,7 +66,7 @@ pub struct Dropped {
 }
 
 /// A text that an instance has.
-#[derive(Clone, Copy)]
+#[derive(Clone, Copy, Debug)]
 pub enum Seen {
     /// The empty text, which is always there.
     Empty,

@@ -10,7 +10,7 @@ use std::alloc::{AllocError, AllocFailed};
 ///
 /// All records of a text are read before any field, so where a text has a fault of its records
 /// and also a string that is not UTF-8, `Wire` is the answer.
-#[derive(Clone, Copy, PartialEq, Eq)]
+#[derive(Clone, Copy, Debug, PartialEq, Eq)]
 pub enum MessageError {
     /// The bytes are no sequence of records, or those of an embedded message or of packed numbers
     /// are none.

@@ -2,14 +2,14 @@
 //! it is not said to be of now.
 
 /// How often something that has a name came.
-#[derive(Clone, Copy, PartialEq, Eq)]
+#[derive(Clone, Copy, Debug, PartialEq, Eq)]
 pub struct Count<'a> {
     pub name: &'a str,
     pub count: u64,
 }
 
 /// What an instance has stored now, and what it dropped.
-#[derive(Clone, Copy, PartialEq, Eq)]
+#[derive(Clone, Copy, Debug, PartialEq, Eq)]
 pub struct StoreFigures {
     pub blobs: u64,
     pub bytes: u64,
@@ -56,7 +56,7 @@ pub struct CallFigures<'a> {
 }
 
 /// What was found in the action cache.
-#[derive(Clone, Copy, PartialEq, Eq)]
+#[derive(Clone, Copy, Debug, PartialEq, Eq)]
 pub struct HitFigures {
     /// Calls of GetActionResult that were answered a result.
     pub found: u64,
@@ -69,7 +69,7 @@ pub struct HitFigures {
 }
 
 /// The actions of an instance.
-#[derive(Clone, Copy, PartialEq, Eq)]
+#[derive(Clone, Copy, Debug, PartialEq, Eq)]
 pub struct JobFigures {
     /// Those that wait now.
     pub waiting: u64,

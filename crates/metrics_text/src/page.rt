@@ -7,14 +7,14 @@ ghost use Rattle.std.specs.Fmt.{decimal};
 use std::alloc::{AllocError, Global};
 
 /// Whether samples only rise, or may fall too.
-#[derive(Clone, Copy, PartialEq, Eq)]
+#[derive(Clone, Copy, Debug, PartialEq, Eq)]
 pub enum Kind {
     Counter,
     Gauge,
 }
 
 /// What is said of all samples of one name.
-#[derive(Clone, Copy)]
+#[derive(Clone, Copy, Debug)]
 pub struct Family<'a> {
     pub name: &'a str,
     pub help: &'a str,
@@ -22,14 +22,14 @@ pub struct Family<'a> {
 }
 
 /// A label of a sample.
-#[derive(Clone, Copy)]
+#[derive(Clone, Copy, Debug)]
 pub struct Label<'a> {
     pub name: &'a str,
     pub value: &'a str,
 }
 
 /// What a sample says.
-#[derive(Clone, Copy)]
+#[derive(Clone, Copy, Debug)]
 pub enum Value {
     Whole(u64),
     /// A time, which is shown in seconds.

@@ -3,7 +3,7 @@ use Rattle.std.proofs.Common.{◌≡◌, ℕ, ◌+◌, ◌<◌, ◌≤◌, Bool,
 use Rattle.std.specs.Prelude.{IfOk}
 use Rattle.std.specs.List.{AllByRecursion}
 use Rattle.std.specs.Map.{keys_of, lookup}
-use Rattle.job_queue.specs.Jobs.{Jobs, StageValue, waits, runs, has_ended, or_else, running_job, same_number}
+use Rattle.job_queue.specs.Jobs.{Jobs, StageValue, waits, runs, has_ended, or_else, same_number}
 use Rattle.job_queue.specs.Order.{AreJobs, open_numbers}
 use Rattle.job_queue.specs.declared.queue.Running.{Running}
 use Rattle.job_queue.specs.declared.queue.TheConstants.{LAST_NUMBER}
@@ -42,16 +42,6 @@ module _ {X : Type 0} where
     go : (b : Bool) → same_number n e.0 ≡ b → cond b (Some e.1) (lookup (same_number n) es) ≡ Some x → (lookup (same_number n) es ≡ Some x → P n) → P n
     go true here is later = subst P (sym (eqb-true n e.0 here)) h.0
     go false here is later = later is
-
--- the number of a job that runs was given, and the digest of its action has its form
-pub running_known : (n : ℕ) (jobs : Jobs JobValue) (job : JobValue) → AreJobs jobs → AreTold jobs → running_job n jobs ≡ Some job → IsNumber n × HasForm job.action
-running_known n jobs job h told is = go (lookup (same_number n) jobs.running) refl is where
-  go : (o : Option (Running JobValue)) → lookup (same_number n) jobs.running ≡ o → option_map (λ r. r.job) o ≡ Some job → IsNumber n × HasForm job.action
-  go None found e = absurd (cc)
-  go (Some r) found e =
-      let same : r.job ≡ job = cc in
-      let form = found_value (λ (r : Running JobValue). HasForm r.job.action) n jobs.running r told.running found in
-      (found_number IsNumber n jobs.running r (numbers_are jobs h).0 found, subst (λ (j : JobValue). HasForm j.action) same form)
 
 -- ---- answers
 

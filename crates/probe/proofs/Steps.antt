@@ -1,5 +1,5 @@
 -- Bytes sent and received, one turn after another.
-use Rattle.std.proofs.Common.{ℕ, List, [], ◌++◌, Option, Some, None, refl, sym, ap, ◌∙◌}
+use Rattle.std.proofs.Common.{ℕ, List, [], ◌++◌, Option, Some, None, sym, ap, ◌∙◌}
 use Rattle.std.specs.Io.KnownBytes.{Appends, Consumes}
 use Rattle.std.proofs.lemmas.List.{append_assoc, append-nil}
 use Rattle.probe.specs.Exchange.{IsSent, IsReceived}
@@ -14,16 +14,9 @@ appends_more (Some u) None third xs ys a b = absurd a
 appends_more (Some u) (Some v) None xs ys a b = absurd b
 appends_more (Some u) (Some v) (Some w) xs ys a b = b ∙ ap (λ (t : List ℕ). t ++ ys) a ∙ append_assoc u xs ys
 
-sent_none : (all : List ℕ) (o : Option (List ℕ)) → IsSent all all o o
-sent_none all o = ([], refl, appends_none o)
-
 pub sent_more : (all between rest : List ℕ) (first second third : Option (List ℕ)) → IsSent all between first second → IsSent between rest second third → IsSent all rest first third
 sent_more all between rest first second third a b =
     (a.0 ++ b.0, a.1 ∙ ap (λ (t : List ℕ). a.0 ++ t) b.1 ∙ sym (append_assoc a.0 b.0 rest), appends_more first second third a.0 b.0 a.2 b.2)
-
-received_none : (o : Option (List ℕ)) → Consumes o o []
-received_none None = tt
-received_none (Some xs) = refl
 
 consumes_more : (first second third : Option (List ℕ)) (xs ys : List ℕ) → Consumes first second xs → Consumes second third ys → Consumes first third (xs ++ ys)
 consumes_more None second third xs ys a b = tt
@@ -39,12 +32,6 @@ received_more old new first second third a b =
 pub record IsSoFar (all unsent received : List ℕ) (put put_now had had_now : Option (List ℕ)) : Type 0 where
   pub sent : IsSent all unsent put put_now
   pub taken : Consumes had had_now received
-
-pub none_so_far : (all : List ℕ) (put had : Option (List ℕ)) → IsSoFar all all [] put put had had
-none_so_far all put had = record {
-  sent = sent_none all put;
-  taken = received_none had;
-}
 
 pub more_so_far : (all unsent received rest more : List ℕ) (put put_now put_next had had_now had_next : Option (List ℕ))
     → IsSoFar all unsent received put put_now had had_now → IsSent unsent rest put_now put_next → IsReceived received more had_now had_next

@@ -17,7 +17,7 @@ use std::fs;
 use std::io::{self, ErrorKind, Read, Write};
 
 /// How a run ended.
-#[derive(Clone, Copy, PartialEq, Eq)]
+#[derive(Clone, Copy, Debug, PartialEq, Eq)]
 pub enum Status {
     /// All that was asked for was done.
     Done,
@@ -61,7 +61,7 @@ impl Status {
 }
 
 /// Why a run was not carried out to its end.
-#[derive(Clone, Copy, PartialEq, Eq)]
+#[derive(Clone, Copy, Debug, PartialEq, Eq)]
 pub enum Fault {
     /// Reading or writing failed.
     InputOrOutput,

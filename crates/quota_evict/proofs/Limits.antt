@@ -173,12 +173,6 @@ admitted_within limit quota d text bs some names w = go (is_some (visible_text d
 
 -- ---- the steps of an admission
 
-pub unseen_none : (d : Digest) (bs : List Blob) → is_some (visible_text d bs) ≡ false → visible_text d bs ≡ None
-unseen_none d bs h = go (visible_text d bs) refl h where
-  go : (o : Option (List ℕ)) → visible_text d bs ≡ o → is_some o ≡ false → visible_text d bs ≡ None
-  go None is h = is
-  go (Some text) is h = absurd (cc)
-
 -- what was added and what then had to go are an admission
 pub admitted_new : (limit quota : ℕ) (d : Digest) (text : List ℕ) (old between new : List Blob) → is_some (visible_text d old) ≡ false → length text ≤ quota
     → between ≡ visible_after_insertion limit d text old → new ≡ longest_front quota between → new ≡ visible_after_admission limit quota d text old

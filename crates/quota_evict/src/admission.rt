@@ -23,7 +23,7 @@ use std::alloc::AllocError;
 pub const MOST_BLOBS: usize = 65_536;
 
 /// Why a text was not admitted.
-#[derive(Clone, Copy, PartialEq, Eq)]
+#[derive(Clone, Copy, Debug, PartialEq, Eq)]
 pub enum AdmitError {
     /// It is longer than the quota.
     TooLarge,

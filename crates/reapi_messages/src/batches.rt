@@ -11,7 +11,7 @@ use message_fields::{
 use std::alloc::{AllocError, Global};
 
 /// `build.bazel.remote.execution.v2.BatchUpdateBlobsRequest.Request`.
-#[derive(Clone, Copy)]
+#[derive(Clone, Copy, Debug)]
 pub struct UpdateBlobRequest<'a> {
     pub digest: Option<Digest<'a>>,
     /// The field `data`.

@@ -9,7 +9,7 @@ use message_fields::{
 use std::alloc::{AllocError, Global};
 
 /// `google.bytestream.ReadRequest`.
-#[derive(Clone, Copy)]
+#[derive(Clone, Copy, Debug)]
 pub struct ReadRequest<'a> {
     pub resource_name: &'a str,
     /// The first byte to be sent.
@@ -47,7 +47,7 @@ impl<'a> Message<'a> for ReadRequest<'a> {
 }
 
 /// `google.bytestream.ReadResponse`.
-#[derive(Clone, Copy)]
+#[derive(Clone, Copy, Debug)]
 pub struct ReadResponse<'a> {
     /// The field `data`.
     pub content: &'a [u8],
@@ -78,7 +78,7 @@ impl<'a> Message<'a> for ReadResponse<'a> {
 }
 
 /// `google.bytestream.WriteRequest`.
-#[derive(Clone, Copy)]
+#[derive(Clone, Copy, Debug)]
 pub struct WriteRequest<'a> {
     /// Empty, or the same as before, in a request that is not the first of its stream.
     pub resource_name: &'a str,
@@ -121,7 +121,7 @@ impl<'a> Message<'a> for WriteRequest<'a> {
 }
 
 /// `google.bytestream.WriteResponse`.
-#[derive(Clone, Copy)]
+#[derive(Clone, Copy, Debug)]
 pub struct WriteResponse {
     /// In bytes.
     pub committed_size: i64,
@@ -152,7 +152,7 @@ impl<'a> Message<'a> for WriteResponse {
 }
 
 /// `google.bytestream.QueryWriteStatusRequest`.
-#[derive(Clone, Copy)]
+#[derive(Clone, Copy, Debug)]
 pub struct QueryWriteStatusRequest<'a> {
     pub resource_name: &'a str,
 }
@@ -182,7 +182,7 @@ impl<'a> Message<'a> for QueryWriteStatusRequest<'a> {
 }
 
 /// `google.bytestream.QueryWriteStatusResponse`.
-#[derive(Clone, Copy)]
+#[derive(Clone, Copy, Debug)]
 pub struct QueryWriteStatusResponse {
     /// In bytes.
     pub committed_size: i64,

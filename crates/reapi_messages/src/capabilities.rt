@@ -9,7 +9,7 @@ use message_fields::{
 use std::alloc::{AllocError, Global};
 
 /// `build.bazel.remote.execution.v2.GetCapabilitiesRequest`.
-#[derive(Clone, Copy)]
+#[derive(Clone, Copy, Debug)]
 pub struct GetCapabilitiesRequest<'a> {
     pub instance_name: &'a str,
 }
@@ -39,7 +39,7 @@ impl<'a> Message<'a> for GetCapabilitiesRequest<'a> {
 }
 
 /// `build.bazel.semver.SemVer`.
-#[derive(Clone, Copy)]
+#[derive(Clone, Copy, Debug)]
 pub struct SemVer {
     pub major: i32,
     pub minor: i32,
@@ -72,7 +72,7 @@ impl<'a> Message<'a> for SemVer {
 }
 
 /// `build.bazel.remote.execution.v2.ActionCacheUpdateCapabilities`.
-#[derive(Clone, Copy)]
+#[derive(Clone, Copy, Debug)]
 pub struct ActionCacheUpdateCapabilities {
     pub update_enabled: bool,
 }
@@ -144,7 +144,7 @@ impl<'a> Message<'a> for CacheCapabilities {
 }
 
 /// `build.bazel.remote.execution.v2.ExecutionCapabilities`.
-#[derive(Clone, Copy)]
+#[derive(Clone, Copy, Debug)]
 pub struct ExecutionCapabilities {
     /// A number of the enum `DigestFunction.Value`.
     pub digest_function: i32,

@@ -6,7 +6,7 @@ use message_fields::{Field, Message, MessageError, Writer, int64, put_int64, put
 use std::alloc::{AllocError, Global};
 
 /// `build.bazel.remote.execution.v2.Digest`, as it was sent: neither field is checked.
-#[derive(Clone, Copy)]
+#[derive(Clone, Copy, Debug)]
 pub struct Digest<'a> {
     pub hash: &'a str,
     /// In bytes.

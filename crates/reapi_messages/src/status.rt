@@ -9,7 +9,7 @@ use message_fields::{
 use std::alloc::{AllocError, Global};
 
 /// `google.protobuf.Any`.
-#[derive(Clone, Copy)]
+#[derive(Clone, Copy, Debug)]
 pub struct Any<'a> {
     pub type_url: &'a str,
     /// A message of the type that `type_url` names.

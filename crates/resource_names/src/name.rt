@@ -16,7 +16,7 @@ pub enum NameError {
 }
 
 /// What a `Read` names: `{instance}/blobs/{hash}/{size}`.
-#[derive(Clone, Copy)]
+#[derive(Clone, Copy, Debug)]
 pub struct ReadName<'a> {
     /// The instance's name, empty where the name has none.
     pub instance: &'a str,
@@ -25,7 +25,7 @@ pub struct ReadName<'a> {
 
 /// What a `Write` names: `{instance}/uploads/{uuid}/blobs/{hash}/{size}`, and perhaps further
 /// segments.
-#[derive(Clone, Copy)]
+#[derive(Clone, Copy, Debug)]
 pub struct WriteName<'a> {
     /// The instance's name, empty where the name has none.
     pub instance: &'a str,

@@ -4,7 +4,7 @@ ghost use Rattle.std.specs.Prelude.{◌≡◌};
 ghost use Rattle.rpc.specs.Methods.{path_of, method_in, method_at};
 
 /// A method of the remote execution services, or of the byte stream service.
-#[derive(Clone, Copy, PartialEq, Eq)]
+#[derive(Clone, Copy, Debug, PartialEq, Eq)]
 pub enum Method {
     FindMissingBlobs,
     BatchUpdateBlobs,

@@ -4,7 +4,7 @@ ghost use Rattle.std.specs.Prelude.{◌≡◌, pos};
 ghost use Rattle.rpc.specs.Status.{code_of, text_of};
 
 /// Why a call, or one blob of a batch, is refused.
-#[derive(Clone, Copy, PartialEq, Eq)]
+#[derive(Clone, Copy, Debug, PartialEq, Eq)]
 pub enum Refusal {
     /// The path names no known method, or one that is not served.
     UnknownMethod,

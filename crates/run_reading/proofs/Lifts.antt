@@ -14,17 +14,16 @@ use Rattle.conn_core.specs.declared.event.CallEvent.{CallEvent}
 use Rattle.conn_core.specs.Received.{received_raw_frames}
 use Rattle.conn_core.specs.Calls.{cancels}
 use Rattle.conn_core.specs.Past.{Past, new_past, with_frame, with_fault, with_item, with_taken, with_pumped, with_bytes}
-use Rattle.instance_core.specs.Calls.{CallEventValue, tick as time_passes, start_jobs, end_late_jobs, end_job}
+use Rattle.instance_core.specs.Calls.{CallEventValue, start_jobs, end_late_jobs, end_job, tick as time_passes}
 use Rattle.instance_core.specs.Replies.{ReplyValue}
 use Rattle.instance_core.specs.Answer.{answer, state_after}
-use Rattle.server_events.specs.Events.{EventValue, WhatValue, opened, received, took, closed, tick, ended}
+use Rattle.server_events.specs.Events.{WhatValue, opened, received, took, closed, tick, ended}
 use Rattle.served_instance.specs.Connections.{LoneConnection, is_open_at, open_at, at_open, with_closed, step_if_open, at_all_open}
 use Rattle.served_instance.specs.Calls.{call_event_on, owed_items, with_items}
-use Rattle.served_instance.specs.Lone.{LoneInstance, new_lone, after_replies, after_call_event, after_call_events, due_at, without_due, after_due_on, after_frame_on, is_over, after_frames_on, after_fault_on, after_end_on, unread_frames, after_reading_on, after_bytes_on, effect_of, after_pump, lone_at_moment, after_event}
+use Rattle.served_instance.specs.Lone.{LoneInstance, after_replies, after_call_event, after_call_events, due_at, without_due, after_due_on, after_frame_on, is_over, after_frames_on, after_fault_on, after_end_on, unread_frames, after_reading_on, after_bytes_on, effect_of, after_pump}
 use Rattle.client_reading.specs.Changes.{IsReceivable, IsPast, BytesReceived, FrameRead, FaultMet, ItemGiven, BytesTaken, FramesPut, EventsGiven}
-use Rattle.client_reading.proofs.Choices.{choose, all_append, all_by}
-use Rattle.client_reading.proofs.Pasts.{first_past, next_past, past_read, frames_received}
-use Rattle.client_reading.specs.Reads.{IsReadByClient}
+use Rattle.client_reading.proofs.Choices.{choose, all_append}
+use Rattle.client_reading.proofs.Pasts.{first_past, next_past, frames_received}
 use Rattle.run_reading.proofs.Connections.{ArePasts}
 
 abbrev Keeps : (Past → Past) → Type 0
@@ -118,14 +117,3 @@ pumped_made l h = all_open_made with_pumped l.connections (λ p k. next_past p F
 
 pub bytes_made : (c : ℕ) (bytes : List ℕ) (l : LoneInstance) → ArePasts l → AreMade (at_open c (with_bytes bytes) l.connections)
 bytes_made c bytes l h = at_open_made c (with_bytes bytes) l.connections (λ p k. next_past p (BytesReceived bytes) tt k) h
-
-pub start_made : (name : List ℕ) (quota slots : ℕ) → ArePasts (new_lone name quota slots)
-start_made name quota slots = tt
-
-pub accepted_made : (e : EventValue) (l : LoneInstance) → ArePasts l → ArePasts (after_event [] e l)
-accepted_made e l h =
-    let m : ArePasts (effect_of e.what (lone_at_moment e.moment [] l)) = acted_made e.what (lone_at_moment e.moment [] l) h in
-    all_open_made with_pumped (effect_of e.what (lone_at_moment e.moment [] l)).connections (λ p k. next_past p FramesPut tt k) m
-
-pub all_read_by_clients : (l : LoneInstance) → ArePasts l → AllByRecursion (λ (k : LoneConnection). IsReadByClient k.past) l.connections
-all_read_by_clients l h = all_by (λ (k : LoneConnection). IsPast k.past) (λ (k : LoneConnection). IsReadByClient k.past) l.connections (λ k is. past_read k.past is) h

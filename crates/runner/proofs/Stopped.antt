@@ -77,18 +77,6 @@ is_true TooLarge n calls small = absurd small
 is_true NoMemory n calls small = tt
 is_true Left n calls small = tt
 
--- nothing was asked
-pub stops_alone : (before : Walk) (text : ℕ → List ℕ) (place : PlaceValue) (from : Stage) (fault : RunFault) (f : Option (List FolderCall)) (p : Option (List ProgramCall))
-    → fault ≡ NoMemory → StopsWith before text place from fault f f p p
-stops_alone before text place from fault f p is = record {
-  calls = [];
-  folder_asked = adds_none f;
-  programs_asked = adds_none p;
-  asks = tt;
-  is_true = is_true fault (held from) [] (no_memory fault is);
-  is_of = memory_own fault is;
-}
-
 -- one thing was asked of folders
 pub folder_stops_with : (before : Walk) (text : ℕ → List ℕ) (place : PlaceValue) (from : Stage) (fault : RunFault) (f g : Option (List FolderCall)) (p : Option (List ProgramCall)) (q : FolderQuestion) (a : Result FolderAnswer ErrorKind)
     → IsOfFolder fault a → Adds f g (call q a) → AsksFolder before text place from q → StopsWith before text place from fault f g p p

@@ -76,9 +76,6 @@ grown_inside e t old new piece is = let more = ap length is ∙ length-append ol
 pub begins : (e : ℕ) (new : List ℕ) → new ≡ [] → e + length new ≡ e
 begins e new is = let none = ap length is in omega (arith, none)
 
-pub begins_inside : (e t : ℕ) (new : List ℕ) → new ≡ [] → e + (t + length new) ≡ e + t
-begins_inside e t new is = let none = ap length is in omega (arith, none)
-
 -- ---- of lists that grow
 
 nodes_append : (xs : List OutputNode) (n : OutputNode) → nodes_length (xs ++ n ∷ []) ≡ nodes_length xs + node_length n.kind

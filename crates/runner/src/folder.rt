@@ -16,7 +16,7 @@ pub struct Place {
 }
 
 /// What is told of a file.
-#[derive(Clone, Copy, PartialEq, Eq)]
+#[derive(Clone, Copy, Debug, PartialEq, Eq)]
 pub struct FileFacts {
     /// In bytes.
     pub size: u64,
@@ -24,7 +24,7 @@ pub struct FileFacts {
 }
 
 /// What stands at a path.
-#[derive(Clone, Copy, PartialEq, Eq)]
+#[derive(Clone, Copy, Debug, PartialEq, Eq)]
 pub enum Found {
     Nothing,
     /// Neither a file nor a directory, as a symbolic link.

@@ -7,7 +7,7 @@ use crate::task::{Command, RunKey};
 use std::io;
 
 /// What a program writes to.
-#[derive(Clone, Copy, PartialEq, Eq)]
+#[derive(Clone, Copy, Debug, PartialEq, Eq)]
 pub enum Stream {
     Output,
     Error,

@@ -4,7 +4,7 @@ use digest::HashFunction;
 use std::collections::VecDeque;
 
 /// A run: a job of an instance.
-#[derive(Clone, Copy, PartialEq, Eq)]
+#[derive(Clone, Copy, Debug, PartialEq, Eq)]
 pub struct RunKey {
     /// The instance's number, counted from 0.
     pub instance: u32,

@@ -8,7 +8,6 @@ use Rattle.std.specs.List.{All, find}
 use Rattle.std.specs.Option.{option_map_or, option_or, option_to_list}
 use Rattle.std.specs.Prelude.{nat_lt, is_none, option_map, option_and_then}
 use Rattle.std.specs.Str.{bytes_eq, IsUtf8}
-use Rattle.decimals.specs.Number.{decimal_of}
 use Rattle.script.specs.Parts.{words_of, lines_of}
 use Rattle.server_events.specs.Instance.{is_instance_name}
 use Rattle.server_events.proofs.NameLemmas.{IsInstanceName-from_test, IsUtf8-instance_name}
@@ -17,13 +16,12 @@ use Rattle.server_events.specs.declared.fault.ConfigFault.{ConfigFault}
 use Rattle.server_events.specs.declared.fault.ConfigFault.TheVariants.{BadParent, TooMany}
 use Rattle.server_events.specs.Configs.{ConfigValue, config_fault, first_own_fault, first_parent_fault, has_bad_parent, instance_limit, names_a_root, own_fault}
 use Rattle.script.specs.declared.replay.instance.InstanceForm.{InstanceForm}
-use Rattle.script.specs.Arguments.{ascii_of, number_of, three_or_four_of}
 use Rattle.script.specs.ReplayEvents.{event_of}
 use Rattle.script.specs.FirstBadLine.{Leads}
 use Rattle.script.specs.ReplayScript.{ReplayScriptValue, after_replay_line, after_replay_words, config, config_if_good, config_of, config_of_words, configs_of_lines, empty_replay_script, first_is_root, may_build, may_follow, replay_script_of, with_config, with_event}
 use Rattle.script.specs.ReplayShown.{form_value}
 use Rattle.script.proofs.FirstLemmas.{Leads-from_Ok}
-use Rattle.script.proofs.Somes.{mapped, chained, chosen, quadruple}
+use Rattle.script.proofs.Somes.{mapped, chained, chosen}
 
 -- ---- names that are no text
 
@@ -90,57 +88,6 @@ added all before words made h =
     let found = chosen (may_follow before read.0 && may_build all read.0) read.0 made read.2 in
     let parts = and_parts (may_follow before read.0) (may_build all read.0) found.0 in
     (read.1 ∙ ap Some found.1, ap (may_follow before) (sym found.1) ∙ parts.0, ap (may_build all) (sym found.1) ∙ parts.1)
-
--- the instance of these words
-pub config_of-plain : (words : List (List ℕ)) (name quota slots : List ℕ) (bytes count : ℕ) → Some (name, quota, slots, None) ≡ three_or_four_of words
-    → Some bytes ≡ decimal_of quota → Some count ≡ number_of slots → config_of words ≡ Some (config name bytes count None)
-config_of-plain [] name quota slots bytes count w q s = cc
-config_of-plain (a ∷ []) name quota slots bytes count w q s = cc
-config_of-plain (a ∷ b ∷ []) name quota slots bytes count w q s = cc
-config_of-plain (a ∷ b ∷ c ∷ []) name quota slots bytes count w q s =
-    let same = quadruple name quota slots a b c None None w in
-    rw (← same.0, ← same.1, ← same.2, ← q, ← s) refl
-config_of-plain (a ∷ b ∷ c ∷ d ∷ []) name quota slots bytes count w q s = let same = quadruple name quota slots a b c None (Some d) w in let clash : None ≡ Some d = same.3 in cc
-config_of-plain (a ∷ b ∷ c ∷ d ∷ e ∷ more) name quota slots bytes count w q s = cc
-
-pub config_of-parent : (words : List (List ℕ)) (name quota slots parent : List ℕ) (bytes count : ℕ) → Some (name, quota, slots, Some parent) ≡ three_or_four_of words
-    → Some bytes ≡ decimal_of quota → Some count ≡ number_of slots → config_of words ≡ option_map (λ text. config name bytes count (Some text)) (ascii_of parent)
-config_of-parent [] name quota slots parent bytes count w q s = cc
-config_of-parent (a ∷ []) name quota slots parent bytes count w q s = cc
-config_of-parent (a ∷ b ∷ []) name quota slots parent bytes count w q s = cc
-config_of-parent (a ∷ b ∷ c ∷ []) name quota slots parent bytes count w q s = let same = quadruple name quota slots a b c (Some parent) None w in let clash : Some parent ≡ None = same.3 in cc
-config_of-parent (a ∷ b ∷ c ∷ d ∷ []) name quota slots parent bytes count w q s =
-    let same = quadruple name quota slots a b c (Some parent) (Some d) w in
-    let named : parent ≡ d = cc in
-    rw (← same.0, ← same.1, ← same.2, ← named, ← q, ← s) refl
-config_of-parent (a ∷ b ∷ c ∷ d ∷ e ∷ more) name quota slots parent bytes count w q s = cc
-
--- none is the instance of words that are too few or too many, or not numbers
-pub config_of-no_words : (words : List (List ℕ)) → None ≡ three_or_four_of words → config_of words ≡ None
-config_of-no_words [] w = refl
-config_of-no_words (a ∷ []) w = refl
-config_of-no_words (a ∷ b ∷ []) w = refl
-config_of-no_words (a ∷ b ∷ c ∷ []) w = cc
-config_of-no_words (a ∷ b ∷ c ∷ d ∷ []) w = cc
-config_of-no_words (a ∷ b ∷ c ∷ d ∷ e ∷ more) w = refl
-
-pub config_of-no_quota : (words : List (List ℕ)) (name quota slots : List ℕ) (parent : Option (List ℕ)) → Some (name, quota, slots, parent) ≡ three_or_four_of words
-    → None ≡ decimal_of quota → config_of words ≡ None
-config_of-no_quota [] name quota slots parent w q = refl
-config_of-no_quota (a ∷ []) name quota slots parent w q = refl
-config_of-no_quota (a ∷ b ∷ []) name quota slots parent w q = refl
-config_of-no_quota (a ∷ b ∷ c ∷ []) name quota slots parent w q = let same = quadruple name quota slots a b c parent None w in rw (← same.1, ← q) refl
-config_of-no_quota (a ∷ b ∷ c ∷ d ∷ []) name quota slots parent w q = let same = quadruple name quota slots a b c parent (Some d) w in rw (← same.1, ← q) refl
-config_of-no_quota (a ∷ b ∷ c ∷ d ∷ e ∷ more) name quota slots parent w q = refl
-
-pub config_of-no_slots : (words : List (List ℕ)) (name quota slots : List ℕ) (parent : Option (List ℕ)) (bytes : ℕ) → Some (name, quota, slots, parent) ≡ three_or_four_of words
-    → Some bytes ≡ decimal_of quota → None ≡ number_of slots → config_of words ≡ None
-config_of-no_slots [] name quota slots parent bytes w q s = refl
-config_of-no_slots (a ∷ []) name quota slots parent bytes w q s = refl
-config_of-no_slots (a ∷ b ∷ []) name quota slots parent bytes w q s = refl
-config_of-no_slots (a ∷ b ∷ c ∷ []) name quota slots parent bytes w q s = let same = quadruple name quota slots a b c parent None w in rw (← same.1, ← same.2, ← q, ← s) refl
-config_of-no_slots (a ∷ b ∷ c ∷ d ∷ []) name quota slots parent bytes w q s = let same = quadruple name quota slots a b c parent (Some d) w in rw (← same.1, ← same.2, ← q, ← s) refl
-config_of-no_slots (a ∷ b ∷ c ∷ d ∷ e ∷ more) name quota slots parent bytes w q s = refl
 
 -- ---- the first instance of a name
 

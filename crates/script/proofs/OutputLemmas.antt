@@ -70,16 +70,3 @@ pub outputs_after-some : (outputs : List OutputValue) (word : List ℕ) (words :
 outputs_after-some outputs word words output h =
     ap (λ r. option_map (λ more. outputs ++ more) (option_and_then (λ o. option_map (λ os. o ∷ os) (outputs_of words)) r)) h
     ∙ one_more outputs output (outputs_of words)
-
-pub outputs_after-none : (outputs : List OutputValue) (word : List ℕ) (words : List (List ℕ))
-    → output_of word ≡ None → outputs_after outputs (word ∷ words) ≡ None
-outputs_after-none outputs word words h =
-    ap (λ r. option_map (λ more. outputs ++ more) (option_and_then (λ o. option_map (λ os. o ∷ os) (outputs_of words)) r)) h
-
--- before any
-pub outputs_after-nil : (words : List (List ℕ)) → outputs_after [] words ≡ outputs_of words
-outputs_after-nil words = go (outputs_of words)
-  where
-    go : (r : Option (List OutputValue)) → option_map (λ more. [] ++ more) r ≡ r
-    go None = refl
-    go (Some more) = refl

@@ -1,5 +1,5 @@
 -- What a `Some` shows of the steps that made it.
-use Rattle.std.proofs.Common.{◌≡◌, ℕ, Bool, true, false, cond, Option, Some, None, refl, ap}
+use Rattle.std.proofs.Common.{◌≡◌, ℕ, Bool, true, false, cond, Option, Some, None, refl}
 use Rattle.std.specs.Prelude.{is_none, option_map, option_and_then}
 
 pub mapped : {X Y : Type 0} (f : X → Y) (o : Option X) (y : Y) → option_map f o ≡ Some y → (x : X) × (o ≡ Some x) × (f x ≡ y)
@@ -23,20 +23,3 @@ if_some false o y h = cc
 pub not_found : (b : Bool) (place : ℕ) → is_none (cond b (Some place) None) ≡ true → b ≡ false
 not_found true place h = cc
 not_found false place h = refl
-
--- what a part of a tuple is, or another thing where there is none
-pub part_or : {T X : Type 0} (part : T → X) → X → Option T → X
-part_or part other None = other
-part_or part other (Some t) = part t
-
-pub triple : {X : Type 0} (a b c x y z : X)
-    → (let left : Option (X × X × X) = Some (a, b, c) in let right : Option (X × X × X) = Some (x, y, z) in left ≡ right)
-    → (a ≡ x) × (b ≡ y) × (c ≡ z)
-unfolding part_or
-triple a b c x y z h = (ap (part_or (λ t. t.0) a) h, ap (part_or (λ t. t.1) a) h, ap (part_or (λ t. t.2) a) h)
-
-pub quadruple : {X Y : Type 0} (a b c x y z : X) (d w : Y)
-    → (let left : Option (X × X × X × Y) = Some (a, b, c, d) in let right : Option (X × X × X × Y) = Some (x, y, z, w) in left ≡ right)
-    → (a ≡ x) × (b ≡ y) × (c ≡ z) × (d ≡ w)
-unfolding part_or
-quadruple a b c x y z d w h = (ap (part_or (λ t. t.0) a) h, ap (part_or (λ t. t.1) a) h, ap (part_or (λ t. t.2) a) h, ap (part_or (λ t. t.3) d) h)

@@ -6,7 +6,7 @@ ghost use Rattle.script.specs.declared.fault.LineFault.TheVariants.{NoMemory};
 use std::alloc::{AllocError, AllocFailed};
 
 /// Why a script was not read.
-#[derive(Clone, Copy)]
+#[derive(Clone, Copy, Debug)]
 pub enum ScriptFault {
     /// The line of this number, counted from 1, is bad, and none before it.
     BadLine(u64),

@@ -2,7 +2,7 @@
 use Rattle.std.proofs.Common.{◌≡◌, ◌≢◌, ℕ, ◌≤◌, ◌<◌, List, [], ◌∷◌, ◌++◌, map, length, take, drop, get_or, ◌-◌, refl, ap, ◌∙◌, sym, subst, arith, inl, inr, append-nil, append_assoc}
 use Rattle.std.specs.Prelude.{◌⊎◌, ◌↔◌, ◌+◌, min, Bool, true, false, cond, Option, Some, None, IsSomeAnd, IfSome, IfErr, Result, Ok, Err}
 use Rattle.std.specs.Option.{option_map, option_map_or, option_and_then}
-use Rattle.std.specs.List.{AllByRecursion, slice_get}
+use Rattle.std.specs.List.{slice_get}
 use Rattle.std.specs.Io.{StartsWith}
 use Rattle.std.specs.declared.alloc.Global.{Global}
 use Rattle.std.specs.declared.vec.Vec.{Vec}
@@ -41,8 +41,8 @@ use Rattle.server_core.specs.StandsFor.{ServerState, OrdersStand, StandsAt, inst
 use Rattle.serve.specs.SocketEvents.{SocketEvent, PortEvent, port, what_of, moment_after, moment_of, Adds, AddsAll}
 use Rattle.serve.specs.declared.carrying.Counting.{Counting}
 use Rattle.serve.specs.RunEvents.{RunEvent, ordered, gave, AddsRuns, AddsAllRuns}
-use Rattle.serve.specs.Happenings.{Happening, MarkedHappening, IsOfOne, at_sockets, told, at_runs, ran, timed_events, run_events, cut_on, cuts, with_times, all_timed, moment_then, moment_on, moment_behind, own_event, event_for}
-use Rattle.serve.specs.Served.{AtWork, with_orders, Comes, HappenedTogether, MayHappen, MayHappenTo, ParentMayHappen, MayStep, MayTake, IsFaithful, IsServed, Serves, WasServed, IsCount, most_counted, at_rest, begun, texts_of}
+use Rattle.serve.specs.Happenings.{Happening, MarkedHappening, IsOfOne, at_sockets, told, at_runs, ran, timed_events, run_events, cuts, with_times, all_timed, moment_then, moment_on, moment_behind, own_event, event_for}
+use Rattle.serve.specs.Served.{AtWork, with_orders, Comes, MayHappen, MayHappenTo, ParentMayHappen, MayStep, MayTake, IsFaithful, Serves, WasServed, IsCount, most_counted, at_rest, begun, texts_of}
 use Rattle.serve.specs.declared.counts.ServeCounts.{ServeCounts}
 use Rattle.serve.specs.KeepsServing.{AreCarriedOut, HasParents, StandsBeside, StandsServing, IsServerAt, IsServing, TakesEvent, cut_after, is_for_memory}
 use Rattle.served_instance.proofs.Moments.{took_taken}
@@ -615,10 +615,6 @@ begins configs (Some s) (Some r) server m fresh unrun at =
 pub on_error : {A E : Type 0} (P : Type 0) (r : Result A E) → P → IfErr r (λ error. P)
 on_error P (Ok x) so = tt
 on_error P (Err error) so = so
-
--- no answer for a connection that is not open
-pub pends_none : (i c : ℕ) (vs : List ServedState) (answer : Option (List ℕ)) → answer ≡ None → Pends i c vs answer → Pends i c vs None
-pends_none i c vs answer is pends = subst (λ (a : Option (List ℕ)). Pends i c vs a) is pends
 
 -- what is counted beside it does not matter
 pub recounted : (configs : List ConfigValue) (sockets : Option (List SocketEvent)) (runs : Option (List RunEvent)) (server : Counting) (m : ℕ) (counts : ServeCounts) → IsServing configs sockets runs server m → IsServing configs sockets runs (record server { counts = counts }) m

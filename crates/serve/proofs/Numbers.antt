@@ -251,10 +251,6 @@ within_parts count (x ∷ before) after s all =
     let rest = within_parts count before after s all.1 in
     (rest.0, (all.0, rest.1))
 
-within_push : (count : ℕ) (sockets : List Socket) (s : Socket) → s.instance < count → AreWithin count sockets → AreWithin count (sockets ++ s ∷ [])
-within_push count [] s lt all = (lt, tt)
-within_push count (x ∷ sockets) s lt all = (all.0, within_push count sockets s lt all.1)
-
 pub within_at : (count : ℕ) (cs : List OpenSocket) (k : ℕ) (c : OpenSocket) → k < length cs → c ≡ get_or cs k c → AreWithin count (sockets_of cs) → c.socket.instance < count
 within_at count cs k c lt is all =
     (within_parts count (sockets_of (take k cs)) (sockets_of (drop (k + 1) cs)) c.socket (subst (λ (l : List Socket). AreWithin count l) (parted cs k c lt is) all)).0
@@ -266,12 +262,6 @@ within_less count cs left k c lt is rest all =
 
 pub within_same : (count : ℕ) (cs ds : List OpenSocket) → sockets_of ds ≡ sockets_of cs → AreWithin count (sockets_of cs) → AreWithin count (sockets_of ds)
 within_same count cs ds same all = subst (λ (l : List Socket). AreWithin count l) (sym same) all
-
-pub within_more : (count : ℕ) (cs held ds : List OpenSocket) (c : OpenSocket) (s : Socket) → held ≡ cs → ds ≡ held ++ c ∷ [] → c.socket ≡ s → s.instance < count → AreWithin count (sockets_of cs) → AreWithin count (sockets_of ds)
-within_more count cs held ds c s reserved is same lt all =
-    let f : OpenSocket → Socket = λ x. x.socket in
-    let whole : sockets_of ds ≡ sockets_of cs ++ s ∷ [] = ap sockets_of is ∙ map-append f held (c ∷ []) ∙ ap (λ (l : List OpenSocket). sockets_of l ++ c.socket ∷ []) reserved ∙ ap (λ (t : Socket). sockets_of cs ++ t ∷ []) same in
-    subst (λ (l : List Socket). AreWithin count l) (sym whole) (within_push count (sockets_of cs) s lt all)
 
 pub within_none : (count : ℕ) (cs : List OpenSocket) → cs ≡ [] → AreWithin count (sockets_of cs)
 within_none count cs none = subst (λ (l : List OpenSocket). AreWithin count (sockets_of l)) (sym none) tt

@@ -3,7 +3,7 @@
 /// Why a list of configurations is refused.
 ///
 /// A fault of one instance has its number, counted from 0.
-#[derive(Clone, Copy)]
+#[derive(Clone, Copy, Debug)]
 pub enum ConfigFault {
     /// The name may not be an instance's.
     BadName(usize),

@@ -10,7 +10,7 @@ use std::alloc::Global;
 use tree_messages::{GetActionResultRequest, GetTreeRequest, UpdateActionResultRequest};
 
 /// The tree that a request asks for, and its pages.
-#[derive(Clone, Copy)]
+#[derive(Clone, Copy, Debug)]
 pub struct TreeAsked<'a> {
     pub root: Digest,
     pub page_size: i32,

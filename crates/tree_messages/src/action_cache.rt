@@ -12,7 +12,7 @@ use std::alloc::{AllocError, Global};
 
 /// `build.bazel.remote.execution.v2.GetActionResultRequest`. The fields that ask for inlined
 /// outputs are skipped.
-#[derive(Clone, Copy)]
+#[derive(Clone, Copy, Debug)]
 pub struct GetActionResultRequest<'a> {
     pub instance_name: &'a str,
     pub action_digest: Option<Digest<'a>>,

@@ -10,7 +10,7 @@ use reapi_messages::Digest;
 use std::alloc::{AllocError, Global};
 
 /// `build.bazel.remote.execution.v2.FileNode`.
-#[derive(Clone, Copy)]
+#[derive(Clone, Copy, Debug)]
 pub struct FileNode<'a> {
     pub name: &'a str,
     pub digest: Option<Digest<'a>>,
@@ -46,7 +46,7 @@ impl<'a> Message<'a> for FileNode<'a> {
 }
 
 /// `build.bazel.remote.execution.v2.DirectoryNode`.
-#[derive(Clone, Copy)]
+#[derive(Clone, Copy, Debug)]
 pub struct DirectoryNode<'a> {
     pub name: &'a str,
     /// Of the text of a `Directory`.
@@ -80,7 +80,7 @@ impl<'a> Message<'a> for DirectoryNode<'a> {
 }
 
 /// `build.bazel.remote.execution.v2.SymlinkNode`.
-#[derive(Clone, Copy)]
+#[derive(Clone, Copy, Debug)]
 pub struct SymlinkNode<'a> {
     pub name: &'a str,
     pub target: &'a str,

@@ -10,7 +10,7 @@ use reapi_messages::Digest;
 use std::alloc::{AllocError, Global};
 
 /// `build.bazel.remote.execution.v2.GetTreeRequest`.
-#[derive(Clone, Copy)]
+#[derive(Clone, Copy, Debug)]
 pub struct GetTreeRequest<'a> {
     pub instance_name: &'a str,
     pub root_digest: Option<Digest<'a>>,

@@ -10,7 +10,7 @@ use reapi_messages::Digest;
 use std::alloc::{AllocError, Global};
 
 /// `build.bazel.remote.execution.v2.OutputFile`.
-#[derive(Clone, Copy)]
+#[derive(Clone, Copy, Debug)]
 pub struct OutputFile<'a> {
     pub path: &'a str,
     pub digest: Option<Digest<'a>>,
@@ -46,7 +46,7 @@ impl<'a> Message<'a> for OutputFile<'a> {
 }
 
 /// `build.bazel.remote.execution.v2.OutputDirectory`.
-#[derive(Clone, Copy)]
+#[derive(Clone, Copy, Debug)]
 pub struct OutputDirectory<'a> {
     pub path: &'a str,
     /// Of the text of a `Tree`.

@@ -10,7 +10,7 @@ use Rattle.script.specs.UnaryShown.{command_value, instance_value}
 use Rattle.script.specs.Instance.{quota_limit}
 use Rattle.script.specs.UnaryScript.{InstanceValue}
 use Rattle.script.specs.UnaryLines.{instance_place}
-use Rattle.unary.specs.Session.{StoreValue, new_store, line_of, store_of, stores_after, lines_of_commands, text_of_lines}
+use Rattle.unary.specs.Session.{StoreValue, line_of, store_of, stores_after, lines_of_commands, text_of_lines}
 
 pub text_of_lines-append : (xs ys : List (List ℕ)) → text_of_lines (xs ++ ys) ≡ text_of_lines xs ++ text_of_lines ys
 text_of_lines-append [] ys = refl
@@ -34,18 +34,6 @@ pub record Told (commands : List Command) (at : ℕ) (first now : List StoreValu
   pub lines : done ++ lines_of_commands (map command_value (drop at commands)) now ≡ lines_of_commands (map command_value commands) first
   pub out : Appends before after (text_of_lines done)
   pub stores : length now ≡ length first
-
-pub told_none : (commands : List Command) (first : List StoreValue) (before : Option (List ℕ)) → Told commands 0 first first before before
-told_none commands first before = record {
-  done = [];
-  lines = refl;
-  out = same before;
-  stores = refl;
-}
-  where
-    same : (o : Option (List ℕ)) → Appends o o []
-    same None = tt
-    same (Some xs) = sym (append-nil xs)
 
 pub told_more : (commands : List Command) (at : ℕ) (c : Command) (first now next : List StoreValue) (before between after : Option (List ℕ)) → at < length commands → c ≡ get_or commands at c
     → next ≡ stores_after (command_value c) now → Appends between after (line_of (command_value c) (store_of (command_value c) now) ++ 10 ∷ [])
@@ -90,10 +78,6 @@ told_some commands at first now before between after t kept =
 length-instances : (xs : List Instance) → length (map instance_value xs) ≡ length xs
 length-instances [] = refl
 length-instances (x ∷ xs) = let ih = length-instances xs in omega (arith, ih)
-
-pub length-new_store : (xs : List InstanceValue) → length (map new_store xs) ≡ length xs
-length-new_store [] = refl
-length-new_store (x ∷ xs) = let ih = length-new_store xs in omega (arith, ih)
 
 pub quotas_small : (xs : List Instance) → All (λ (i : InstanceValue). i.quota ≤ quota_limit) (map instance_value xs) → All (λ (i : Instance). i.quota ≤ 2 ^ 40) xs
 quotas_small xs h = λ k d lt. subst (λ (i : InstanceValue). i.quota ≤ 2 ^ 40) (get_or-map instance_value xs k d (instance_value d) lt) (h k (instance_value d) (omega (arith, length-instances xs, lt)))

@@ -176,10 +176,6 @@ within_after quota moment k piece us (Err TooMany) h room = h
 within_after quota moment k piece us (Err OverQuota) h room = h
 within_after quota moment k piece us (Err NoMemory) h room = h
 
-answer_ok : (r m : Result Unit UploadError) → Answers r m → r ≡ Ok tt → m ≡ Ok tt
-answer_ok (Ok u) m a e = sym a
-answer_ok (Err x) m a e = cc
-
 if_ok_both : (a b : Result Unit UploadError) → if_ok a b ≡ Ok tt → (a ≡ Ok tt) × (b ≡ Ok tt)
 if_ok_both (Ok u) b h = (refl, h)
 if_ok_both (Err e) b h = cc

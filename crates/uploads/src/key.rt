@@ -9,7 +9,7 @@ use digest::Digest;
 use resource_names::MOST_UUID;
 
 /// What names an upload.
-#[derive(Clone, Copy, PartialEq, Eq, Hash)]
+#[derive(Clone, Copy, Debug, PartialEq, Eq, Hash)]
 pub struct UploadKey {
     uuid: ArrayString<MOST_UUID>,
     digest: Digest,

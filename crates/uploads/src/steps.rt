@@ -26,7 +26,7 @@ use std::alloc::{AllocError, Global};
 pub const MOST_UPLOADS: usize = 64;
 
 /// Bytes of an upload, and where they go (bytestream.proto, `write_offset` and `data`).
-#[derive(Clone, Copy)]
+#[derive(Clone, Copy, Debug)]
 pub struct Piece<'a> {
     pub offset: i64,
     pub bytes: &'a [u8],

@@ -2,7 +2,7 @@
 ghost use Rattle.std.specs.Prelude.{◌≡◌};
 
 /// A method of the service ContentAddressableStorage (remote_execution.proto).
-#[derive(Clone, Copy)]
+#[derive(Clone, Copy, Debug)]
 pub enum Method {
     /// Which of some blobs are not stored.
     FindMissingBlobs,

@@ -31,7 +31,7 @@ class Site:
         """The launcher with its settings: this cluster, and what starts the program on the node."""
         with open(SLURM) as file:
             text = file.read()
-        settings = {"SLURM_CONF": self.cluster.configuration, "log": f"{self.folder}/launcher.log", "next": following}
+        settings = {"SLURM_CONF": self.cluster.configuration, "next": following}
         for name, value in settings.items():
             text, count = re.subn(rf"^{name}=.*$", f"{name}={value}", text, count=1, flags=re.MULTILINE)
             if count != 1:

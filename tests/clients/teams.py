@@ -149,7 +149,8 @@ class Stage:
         return done.result
 
     def fails(self, server, peer, word, words, **more):
-        """An action whose run has to fail, with this word on standard error."""
+        """An action whose run has to fail, with this word on standard error, where ten lines a second are told."""
+        time.sleep(0.11)
         done = peer.execute(self.action(words, **more))
         expect((done.status.code, done.status.text, done.result), (13, "run failed", None), "a run that fails")
         line = f"remoted: run red {done.name.rpartition('/')[2]} failed: {word}"

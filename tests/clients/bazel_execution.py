@@ -1,5 +1,5 @@
 #!/usr/bin/env python3
-"""bazel_execution.py PROGRAM [--slots N] [--jobs N] [--seconds N] [--launcher L] [--keep]:
+"""bazel_execution.py PROGRAM [--slots N] [--jobs N] [--seconds N] [--launcher L | --slurm] [--keep]:
 Bazel has a server build its actions.
 
 PROGRAM is the built `remoted`. A workspace of some 200 actions is made: C++ libraries and programs that are compiled,
@@ -10,11 +10,13 @@ output is a directory, and tests that pass, fail, time out and leave programs be
   2. with `--remote_executor`, all by the server, and what it makes is the same, byte for byte;
   3. again from another output base: each action that ended well comes from the cache;
   4. against another instance, broken off in its midst: no program goes on, and then to its end.
-Then no process and no folder of the server's is left. A line for each; it ends with status 1 at the first that is not
+With --slurm actions run on a cluster of two nodes that is made for it (slurm_cluster.py says what that needs). Then no
+process and no folder of the server's is left. A line for each; it ends with status 1 at the first that is not
 as said, and after N seconds (600).
 """
 
 import argparse
+import contextlib
 import os
 import shutil
 import signal
@@ -25,6 +27,7 @@ import time
 import programs
 from bazel import DIRECTORY_RULE, Bazel, Counts, contents, make_files
 from server import Server
+from slurm_cluster import Cluster, launcher
 
 LIBRARIES, PROGRAMS, RULES, TREES = 24, 8, 56, 10
 PASSING, FAILING, SLOW, LEAVING = 5, 3, 2, 3
@@ -170,7 +173,14 @@ def broken_off(folder, bazel, given, server):
     expect(not left, f"programs go on: {left}")
 
 
-def build_all(folder, options):
+@contextlib.contextmanager
+def cluster_launcher(folder):
+    """What starts actions on a cluster of two nodes, which is there meanwhile."""
+    with Cluster(folder) as cluster:
+        yield launcher(cluster, folder)
+
+
+def build_all(folder, options, started_by):
     make_files(os.path.join(folder, "stubs"), STUBS)
     for copy in ("here", "one", "two", "three"):
         make_files(os.path.join(folder, copy), workspace())
@@ -181,7 +191,7 @@ def build_all(folder, options):
         [("main", 2 * 10**9, options.slots), ("other", 2 * 10**9, options.slots)],
         2**62,
         heard=True,
-        launcher=options.launcher,
+        launcher=started_by,
     ) as server:
         main, other = server.ports
         with Bazel(folder, os.path.join(folder, "here"), "base-here") as bazel:
@@ -231,11 +241,14 @@ def main():
     parser.add_argument("--jobs", type=int, default=20)
     parser.add_argument("--seconds", type=int, default=600)
     parser.add_argument("--launcher")
+    parser.add_argument("--slurm", action="store_true")
     parser.add_argument("--keep", action="store_true")
     options = parser.parse_args()
     folder = tempfile.mkdtemp(prefix="bazel-execution-")
+    by_slurm = cluster_launcher(tempfile.mkdtemp(dir=folder)) if options.slurm else None
     try:
-        build_all(folder, options)
+        with by_slurm or contextlib.nullcontext(options.launcher) as started_by:
+            build_all(folder, options, started_by)
     except subprocess.TimeoutExpired:
         raise SystemExit(f"FAULT it takes longer than {options.seconds} seconds")
     finally:

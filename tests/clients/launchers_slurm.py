@@ -12,11 +12,9 @@ import time
 import messages as m
 import programs
 from executing import PATH, Action, Peer
-from launchers_sandbox import HERE, ODD, SANDBOX, Told
+from launchers_sandbox import ODD, SANDBOX, Told
 from server import Server
-from slurm_cluster import LOST_AFTER, NODES, Cluster
-
-SLURM = os.path.realpath(os.path.join(HERE, "..", "..", "launchers", "slurm"))
+from slurm_cluster import LOST_AFTER, NODES, Cluster, launcher
 
 
 class Site:
@@ -25,22 +23,7 @@ class Site:
     def __init__(self, report, program, folder, cluster, following):
         self.report, self.program, self.folder, self.cluster = report, program, folder, cluster
         self.work = os.path.join(folder, "work")
-        self.launcher = self.configured(following)
-
-    def configured(self, following):
-        """The launcher with its settings: this cluster, and what starts the program on the node."""
-        with open(SLURM) as file:
-            text = file.read()
-        settings = {"SLURM_CONF": self.cluster.configuration, "next": following}
-        for name, value in settings.items():
-            text, count = re.subn(rf"^{name}=.*$", f"{name}={value}", text, count=1, flags=re.MULTILINE)
-            if count != 1:
-                raise SystemExit(f"launchers/slurm has no setting {name}")
-        path = os.path.join(self.folder, "slurm")
-        with open(path, "w") as file:
-            file.write(text)
-        os.chmod(path, 0o755)
-        return path
+        self.launcher = launcher(cluster, folder, following)
 
     @contextlib.contextmanager
     def serve(self, slots=8):

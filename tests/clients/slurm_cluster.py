@@ -4,6 +4,7 @@ It needs Debian's slurm-wlm and munge, and root. All of it listens on free ports
 """
 
 import os
+import re
 import shutil
 import socket
 import subprocess
@@ -46,6 +47,25 @@ NodeName=one NodeHostname={host} NodeAddr=127.0.0.1 Port={ports[1]} CPUs={cpus} 
 NodeName=two NodeHostname={host} NodeAddr=127.0.0.1 Port={ports[2]} CPUs={cpus} State=UNKNOWN
 PartitionName=main Nodes=ALL Default=YES MaxTime=INFINITE State=UP
 """
+
+
+# The launcher of this repository.
+LAUNCHER = os.path.join(os.path.dirname(os.path.abspath(__file__)), "../../launchers/slurm")
+
+
+def launcher(cluster, folder, following=""):
+    """`launchers/slurm` with its settings, in this folder: the cluster, and what starts the program on the node."""
+    with open(LAUNCHER) as file:
+        text = file.read()
+    for name, value in {"SLURM_CONF": cluster.configuration, "next": following}.items():
+        text, count = re.subn(rf"^{name}=.*$", f"{name}={value}", text, count=1, flags=re.MULTILINE)
+        if count != 1:
+            raise SystemExit(f"launchers/slurm has no setting {name}")
+    path = os.path.join(folder, "slurm")
+    with open(path, "w") as file:
+        file.write(text)
+    os.chmod(path, 0o755)
+    return path
 
 
 def lacking():

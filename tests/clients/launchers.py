@@ -48,8 +48,16 @@ def seconds_each(program, launcher, count):
 
 def cost(report, program, count):
     for name, launcher in (("no launcher", None), ("sandbox", sandbox.SANDBOX)):
-        least, median = seconds_each(program, launcher, count)
-        report.told(f"an action by {name}", f"{1000 * least:.1f} ms at least, {1000 * median:.1f} ms the median")
+        tell_cost(report, name, *seconds_each(program, launcher, count))
+    if slurm_cluster.lacking():
+        return
+    with tempfile.TemporaryDirectory(prefix="launchers-cost-") as folder, slurm_cluster.Cluster(folder) as cluster:
+        launcher = slurm_cluster.launcher(cluster, folder)
+        tell_cost(report, "slurm", *seconds_each(program, launcher, max(1, count // 4)))
+
+
+def tell_cost(report, name, least, median):
+    report.told(f"an action by {name}", f"{1000 * least:.1f} ms at least, {1000 * median:.1f} ms the median")
 
 
 class Report:

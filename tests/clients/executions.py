@@ -5,7 +5,8 @@ at each answer.
 PROGRAM is the built `remoted`. A server with some instances runs small shell scripts, whose input trees, outputs,
 streams, codes, timeouts and leftovers are looked at one after another, a line for each thing: `ok`, or `FAULT` with
 what was found. In the end no process, no folder and no descriptor may be left. --large has outputs of 1,073,741,824
-bytes gathered, which takes as much memory. Run as root it starts a second server as a plain user. It ends with status
+bytes gathered, which takes as much memory. With --launcher programs are started by L, and what looks at the host from
+within a program is left out. Run as root it starts a second server as a plain user. It ends with status
 1 where there was a fault.
 """
 
@@ -91,7 +92,15 @@ def nothing_left(context):
     return f"no process, no folder and no descriptor is left; {len(said)} lines on standard error, each as it has to be"
 
 
+# Under a launcher what these look at is another thing: the launcher looks a program up, and it may take fewer words than
+# the system; the paths, sessions and processes that a program sees are its own; it cannot write beside its folder.
+OF_THE_HOST = ["not_there", "found", "working_directory", "streams_in", "odd_trees"]
+OF_THE_HOST += ["cached", "not_cached", "cut", "side_by_side"]
+
+
 def is_wanted(name, options):
+    if options.launcher and name in OF_THE_HOST:
+        return False
     return name not in options.skip and (not options.only or name in options.only)
 
 

@@ -278,8 +278,8 @@ def deep_chain(stage):
         took = time.monotonic() - begun
         number = red.start(stage.action(["/bin/sh", "-c", f'{PYTHON} -c "$1" 20000; sleep 600', "sh", CHAIN]))
         red.next(number), red.next(number)
-        running = lambda: str(programs.running(stage.folder, server.process.pid))
-        stage.waits(lambda: "sleep 600" in running() and "python" not in running(), 60, "the chain is made")
+        running = lambda: programs.running(stage.folder, server.process.pid).values()
+        stage.waits(lambda: "sleep 600" in running(), 60, "the chain is made")
         first = server.start()
         stage.stop(server, signal.SIGKILL)
     stage.end_programs()
@@ -321,7 +321,9 @@ def names_of_removal(stage):
             stage.runs(red, inside)
         stage.nothing_left(server, 60)
         for _ in range(2):
+            # the names of the run that follows are taken then
             stage.runs(red, beside)
+            stage.fails(server, red, "folder", beside)
         is_told = lambda name: any(name in line for line in server.said())
         left = lambda: [name for name in server.entries() if name[2:].isdigit() and not is_told(name)]
         programs.settled(left, 60 * stage.slow)

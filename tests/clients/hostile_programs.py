@@ -49,9 +49,13 @@ def lines_unread(stage):
     fcntl.fcntl(writer, fcntl.F_SETPIPE_SZ, SMALLEST_PIPE)
     with open(reader, "rb") as told, open(writer, "wb") as pipe:
         with stage.serve(heard=False, stderr=pipe) as (server, red):
-            for _ in range(300):
+            # ten lines a second are told, so the pipe is full after some seconds
+            runs, end = 0, time.monotonic() + 15
+            while time.monotonic() < end:
                 done = red.execute(stage.action(["/no/such"]))
                 expect((done.status.code, done.status.text), (13, "run failed"), "a run that fails")
+                runs += 1
+                time.sleep(0.02)
             stage.blue_runs(server)
             first = os.read(reader, SMALLEST_PIPE)
             expect(len(first) > SMALLEST_PIPE / 2, True, f"{len(first)} bytes were told")
@@ -60,7 +64,7 @@ def lines_unread(stage):
             pipe.close()
         whole = (first + told.read()).splitlines()
     expect([line for line in whole if not LINE.fullmatch(line)], [], "lines that are not whole")
-    return f"310 runs fail as they should, {len(whole)} lines were told, each of them whole"
+    return f"{runs + 10} runs fail as they should, {len(whole)} lines were told, each of them whole"
 
 
 def lines_unheard(stage):

@@ -41,7 +41,7 @@ def two_servers(stage):
     """A second server has the same folder."""
     with stage.serve() as (server, red), stage.blue_running(server, 4):
         number = red.start(stage.action("printf abc > out; sleep 3; cat out", files=["out"]))
-        stage.waits(lambda: len(server.entries()) >= 2, 20, "two folders")
+        stage.waits(lambda: len(server.entries()) >= 4, 20, "the folders of two runs")
         before = server.entries()
         line = refused(stage, ["--work", stage.work, instance()], [stage.work])
         expect(server.entries(), before, "the first one's folders")

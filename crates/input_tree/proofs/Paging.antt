@@ -28,13 +28,13 @@ taken true n = refl
 taken false n = refl
 
 -- the loop's step, where the list of the directories that come is as the code takes its first
-pub pages_next : {X : Type 0} (f : X → List ℕ) (size place : ℕ) (done page whole done_next page_next : List (List ℕ)) (left : List X) (first default : X) → 0 < length left → first ≡ slice_index_or left 0 default
+pub pages_next : {X : Type 0} (f : X → List ℕ) (size place : ℕ) (done page whole done_next page_next : List (List ℕ)) (left : List X) (first default : X) (t : List ℕ) → 0 < length left → t ≡ f first → first ≡ slice_index_or left 0 default
     → done ++ pages_along size place page (map f left) ≡ whole
-    → done_next ≡ done ++ page_before (takes size page (f first)) place page
-    → page_next ≡ page_from (takes size page (f first)) page ++ f first ∷ []
+    → done_next ≡ done ++ page_before (takes size page t) place page
+    → page_next ≡ page_from (takes size page t) page ++ t ∷ []
     → done_next ++ pages_along size (place + 1) page_next (map f (take (length left - 1) (drop 1 left))) ≡ whole
 unfolding pages_along
-pages_next f size place done page whole done_next page_next [] first default some is h closed kept = absurd (omega arith)
-pages_next f size place done page whole done_next page_next (x ∷ xs) first default some is h closed kept =
+pages_next f size place done page whole done_next page_next [] first default t some seen is h closed kept = absurd (omega arith)
+pages_next f size place done page whole done_next page_next (x ∷ xs) first default t some seen is h closed kept =
     let count : length (x ∷ xs) - 1 ≡ length xs = omega arith in
-    rw (count, take-length, closed, kept, is) (append_assoc done (page_before (takes size page (f x)) place page) (pages_along size (place + 1) (page_from (takes size page (f x)) page ++ f x ∷ []) (map f xs)) ∙ h)
+    rw (count, take-length, closed, kept, seen, is) (append_assoc done (page_before (takes size page (f x)) place page) (pages_along size (place + 1) (page_from (takes size page (f x)) page ++ f x ∷ []) (map f xs)) ∙ h)

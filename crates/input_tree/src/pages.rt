@@ -3,9 +3,14 @@
 ghost use Rattle.std.specs.Prelude.{◌≡◌, ◌+◌, ◌<◌, ◌^◌, [], map, length, ◌++◌, Some, None, IfOk, OnOk, if◌then◌else◌};
 ghost use Rattle.std.specs.Fmt as fmt;
 ghost use Rattle.message_fields.specs.Writing.{records_text, message_field};
-ghost use Rattle.input_tree.specs.Pages.{page_before, page_bytes, page_from, page_text, pages_along, place_asked, size_asked, takes_more};
+ghost use Rattle.input_tree.specs.Pages.{page_before, page_bytes, page_from, page_text, pages_along, place_asked, size_asked, takes_more, texts};
+ghost use Rattle.input_tree.specs.Texts.{texts_of};
 
+use crate::directory::text_or_none;
+use blob_pool::Pool;
 use decimals::decimal;
+use digest::Digest;
+use instance_view::Sight;
 use message_fields::{Message, Writer};
 use std::alloc::{AllocError, Global};
 use tree_messages::GetTreeResponse;
@@ -54,21 +59,35 @@ fn record_length(directory: &[u8]) -> Result<usize, AllocError>
     measure.measured()
 }
 
+/// Where texts lie.
+fn slices<'a>(alloc: Global, texts: &'a [Vec<u8>]) -> Result<Vec<&'a [u8]>, AllocError>
+    ensures { IfOk result (λ slices. map (λ b. b.now) slices.items
+        ≡ map (λ t. t.items) texts.now) }
+{
+    let mut slices = Vec::with_capacity(alloc, texts.len())?;
+    let mut left = texts;
+    'texts: while let [first, rest @ ..] = left {
+        slices.push(first.as_slice())?;
+        left = rest;
+    }
+    Ok(slices)
+}
+
 /// The response that has the directories of a page.
 fn response(
     alloc: Global,
-    directories: Vec<&[u8]>,
+    directories: &[Vec<u8>],
     next_page_token: &str,
 ) -> Result<Vec<u8>, AllocError>
     ensures { IfOk result (λ message. message.items
         ≡ page_text (record {
           directories = map
-              (λ b. b.now) directories.entry.items;
+              (λ t. t.items) directories.now;
           next_page_token = next_page_token.now;
         })) }
 {
     let response = GetTreeResponse {
-        directories,
+        directories: slices(alloc, directories)?,
         next_page_token,
     };
     response.encode(alloc)
@@ -77,13 +96,13 @@ fn response(
 /// The response that has the directories of a page, behind which others begin at a place.
 fn response_before(
     alloc: Global,
-    directories: Vec<&[u8]>,
+    directories: &[Vec<u8>],
     place: usize,
 ) -> Result<Vec<u8>, AllocError>
     ensures { IfOk result (λ message. message.items
         ≡ page_text (record {
           directories = map
-              (λ b. b.now) directories.entry.items;
+              (λ t. t.items) directories.now;
           next_page_token = fmt.decimal place;
         })) }
 {
@@ -108,54 +127,58 @@ fn bytes_with(size: usize, count: usize, bytes: usize, more: usize) -> Option<us
 }
 
 /// The page to which the next directory goes: this one, or a new one once its response was added.
-fn page_for<'a>(
+fn page_for(
     alloc: Global,
     pages: &mut Vec<Vec<u8>>,
-    page: Vec<&'a [u8]>,
+    page: Vec<Vec<u8>>,
     goes_on: bool,
     place: usize,
-) -> Result<Vec<&'a [u8]>, AllocError>
+) -> Result<Vec<Vec<u8>>, AllocError>
     ensures pages { OnOk result (map (λ p. p.items) pages.new.items
         ≡ map (λ p. p.items) pages.old.items
-        ++ page_before goes_on place (map (λ b. b.now) page.entry.items)) }
-    ensures page { IfOk result (λ next. map (λ b. b.now) next.items
-        ≡ page_from goes_on (map (λ b. b.now) page.entry.items)) }
+        ++ page_before goes_on place (map (λ t. t.items) page.items)) }
+    ensures page { IfOk result (λ next. map (λ t. t.items) next.items
+        ≡ page_from goes_on (map (λ t. t.items) page.items)) }
 {
     if goes_on {
         return Ok(page);
     }
-    pages.push(response_before(alloc, page, place)?)?;
+    pages.push(response_before(alloc, &page, place)?)?;
     Ok(Vec::new(alloc))
 }
 
-/// The responses that give directories page by page, the first of which has a place in the list.
+/// The responses that give the texts of digests page by page, the first of which has a place in the
+/// list. No more than a page's texts are copied at a time.
 #[tactic(auto, unfolding(crate::specs::Pages::pages_along), using(crate::proofs::Paging::bytes_kept))]
 pub fn pages(
     alloc: Global,
-    directories: &[Vec<u8>],
+    view: &Sight<'_>,
+    pool: &Pool,
+    digests: &[Digest],
     size: usize,
     place: usize,
 ) -> Result<Vec<Vec<u8>>, AllocError>
-    requires { place + length directories.now < 2 ^ 64 }
+    requires { place + length digests.now < 2 ^ 64 }
     ensures { IfOk result (λ pages. map (λ page. page.items) pages.items
-        ≡ pages_along size place [] (map (λ t. t.items) directories.now)) }
+        ≡ pages_along size place [] (texts (texts_of pool.now view.now) digests.now)) }
 {
     let mut pages = Vec::new(alloc);
     let mut page = Vec::new(alloc);
     let mut bytes = 0;
     let mut place = place;
-    let mut left = directories;
-    'directories: while let [first, rest @ ..] = left {
-        let more = record_length(first)?;
+    let mut left = digests;
+    'digests: while let [first, rest @ ..] = left {
+        let text = text_or_none(alloc, view, pool, first)?;
+        let more = record_length(&text)?;
         let total = bytes_with(size, page.len(), bytes, more);
         page = page_for(alloc, &mut pages, page, total.is_some(), place)?;
-        page.push(first.as_slice())?;
+        page.push(text)?;
         bytes = total.unwrap_or(more);
         place += 1;
         left = rest;
     }
     if !page.is_empty() {
-        pages.push(response(alloc, page, "")?)?;
+        pages.push(response(alloc, &page, "")?)?;
     }
     Ok(pages)
 }

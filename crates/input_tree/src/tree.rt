@@ -1,16 +1,15 @@
 //! GetTree.
 
-ghost use Rattle.std.specs.Prelude.{◌≡◌, ◌<◌, ◌^◌, ℕ, length, map, IfOk, OnOk, OnErr};
+ghost use Rattle.std.specs.Prelude.{◌≡◌, ◌<◌, ◌^◌, ℕ, length, map, OnOk, OnErr};
 ghost use Rattle.blob_pool.specs.Slots.{Slots};
 ghost use Rattle.instance_view.specs.Shown.{visible_in, holders};
 ghost use Rattle.instance_view.specs.Sight.{sight_of};
 ghost use Rattle.input_tree.specs.Answers.{Answers};
 ghost use Rattle.input_tree.specs.Listing.{tree_list};
-ghost use Rattle.input_tree.specs.Pages.{digests_of, texts, pages_of, get_tree_reply};
+ghost use Rattle.input_tree.specs.Pages.{digests_of, pages_of, get_tree_reply};
 ghost use Rattle.input_tree.specs.Texts.{texts_of};
 ghost use Rattle.input_tree.specs.Uses.{visible_after_uses};
 
-use crate::directory::text_or_none;
 use crate::error::{GetTreeError, TreeRefusal};
 use crate::listing::list_tree;
 use crate::pages::{pages, place_asked, size_asked};
@@ -19,25 +18,6 @@ use blob_pool::Pool;
 use digest::Digest;
 use instance_view::{Sight, View};
 use std::alloc::{AllocError, Global};
-
-/// Copies of the texts of digests, empty where there is none.
-fn copies(
-    alloc: Global,
-    view: &Sight<'_>,
-    pool: &Pool,
-    digests: &[Digest],
-) -> Result<Vec<Vec<u8>>, AllocError>
-    ensures { IfOk result (λ copies. map (λ t. t.items) copies.items
-        ≡ texts (texts_of pool.now view.now) digests.now) }
-{
-    let mut copies = Vec::new(alloc);
-    let mut left = digests;
-    'digests: while let [first, rest @ ..] = left {
-        copies.push(text_or_none(alloc, view, pool, first)?)?;
-        left = rest;
-    }
-    Ok(copies)
-}
 
 /// The responses that give the directories of a list, from the place that a request asks for.
 fn responses(
@@ -56,8 +36,7 @@ fn responses(
     else {
         return Err(GetTreeError::Refused(TreeRefusal::BadPage));
     };
-    let directories = copies(alloc, view, pool, &listed[place..])?;
-    let pages = pages(alloc, &directories, size, place)?;
+    let pages = pages(alloc, view, pool, &listed[place..], size, place)?;
     Ok(pages)
 }
 

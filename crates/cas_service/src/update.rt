@@ -2,8 +2,9 @@
 
 ghost use Rattle.std.specs.Prelude.{◌≡◌, ◌≤◌, ◌^◌, ℕ, List, map, length, OnOk, OnErr, IfOk, IsErrOf};
 ghost use Rattle.std.specs.List.{AllByRecursion};
-ghost use Rattle.reapi_messages.specs.Batches.{update_blob_request_shown};
-ghost use Rattle.reapi_messages.specs.Statuses.{status_shown};
+ghost use Rattle.reapi_messages.specs.Writing.{followed_by_records};
+ghost use Rattle.reapi_messages.specs.Parts.{text_for, embedded_field};
+ghost use Rattle.reapi_messages.specs.Batches.{update_blob_request_shown, update_blob_response_records};
 ghost use Rattle.rpc.specs.declared.refusal.Refusal.{Refusal};
 ghost use Rattle.digest.specs.Naming.{Names};
 ghost use Rattle.quota_evict.specs.Admission.{visible_after_admission};
@@ -13,22 +14,23 @@ ghost use Rattle.quota_evict.specs.InPool.{IsViewInPool};
 ghost use Rattle.cas_service.specs.declared.error.CallError.TheVariants.{Refused};
 ghost use Rattle.cas_service.specs.Answers.{Answers};
 ghost use Rattle.cas_service.specs.Changes.{MadeInPart, visible_after_changes};
-ghost use Rattle.cas_service.specs.Statuses.{status_of_result};
+ghost use Rattle.cas_service.specs.Statuses.{status_of_refusal, status_of_result};
 ghost use Rattle.cas_service.specs.BatchUpdate.{compressor_check, naming_check, quota_check, storage_digest, update_response, batch_update_reply, stores, batch_update_changes};
-ghost use Rattle.cas_service.specs.Shown.{IsStorable, store_of_accepted, answered_shown, with_blob, answers_in, answer_in};
+ghost use Rattle.cas_service.specs.Shown.{IsStorable, response_shown, store_of_accepted, answered_shown, with_blob, answers_in, answer_in};
 ghost use Rattle.quota_evict.specs.Within.{most_stored_bytes};
 
 use crate::entries::{admit_head, next_entry, read_head, refused_before};
 use crate::error::CallError;
 use crate::requests::{MOST_BATCH_BYTES, read_digest};
-use crate::statuses::{ok_status, refused_status};
+use crate::statuses::StatusField;
 use blob_pool::Pool;
 use digest::{Digest, HashFunction};
 use instance_view::View;
 use message_fields::put_embedded;
 use protobuf_wire::Reader;
 use quota_evict::{AdmitError, admit};
-use reapi_messages::{Status, UpdateBlobRequest, UpdateBlobResponse, Writer};
+use reapi_messages as messages;
+use reapi_messages::{UpdateBlobRequest, Writer};
 use rpc::Refusal;
 use std::alloc::{AllocError, Global};
 
@@ -39,10 +41,12 @@ pub struct Accepted<'a> {
     pub content: &'a [u8],
 }
 
-/// What is answered to the blobs so far: the reply's text, and the blobs that are stored.
+/// What is answered to the blobs so far: the reply's text, the status of the last of them, and the
+/// blobs that are stored.
 #[derive(Drop)]
 pub struct Answered<'a> {
     pub reply: Writer,
+    pub status: StatusField,
     pub accepted: Vec<Accepted<'a>>,
 }
 
@@ -95,14 +99,56 @@ fn judge(
     Ok(digest)
 }
 
-/// What became of a blob.
-fn status<'a>(alloc: Global, verdict: Result<Digest, Refusal>) -> Status<'a>
-    ensures { status_shown result ≡ status_of_result verdict }
+/// Why a blob is refused, where it is.
+fn reason(verdict: Result<Digest, Refusal>) -> Option<Refusal>
+    ensures { status_of_refusal result ≡ status_of_result verdict }
 {
     match verdict {
-        Ok(_) => ok_status(alloc),
-        Err(refusal) => refused_status(alloc, refusal),
+        Ok(_) => None,
+        Err(refusal) => Some(refusal),
     }
+}
+
+/// Adds the fields of a response: the digest as it was sent, and the status.
+#[tactic(auto, using(reapi_messages::proofs::Texts::written_more))]
+fn write_response(
+    writer: &mut Writer,
+    sent: &Option<messages::Digest<'_>>,
+    status: &StatusField,
+) -> Result<(), AllocError>
+    ensures { OnOk result (writer.new ≡ followed_by_records writer.old
+        (update_blob_response_records (response_shown sent.now status.now))) }
+{
+    put_embedded(writer, 1, sent)?;
+    writer.payload_part(status.as_bytes())
+}
+
+/// The length of a response in bytes.
+fn response_len(
+    sent: &Option<messages::Digest<'_>>,
+    status: &StatusField,
+) -> Result<usize, AllocError>
+    ensures { IfOk result (λ n. n ≡ length
+        (text_for update_blob_response_records (response_shown sent.now status.now))) }
+{
+    let mut measure = Writer::measuring();
+    write_response(&mut measure, sent, status)?;
+    measure.measured()
+}
+
+/// Adds a response to a reply.
+fn put_response(
+    reply: &mut Writer,
+    sent: &Option<messages::Digest<'_>>,
+    status: &StatusField,
+) -> Result<(), AllocError>
+    ensures { OnOk result (reply.new ≡ followed_by_records reply.old
+        (embedded_field update_blob_response_records 1
+        (Some (response_shown sent.now status.now)))) }
+{
+    let length = response_len(sent, status)?;
+    reply.payload_head(1, length)?;
+    write_response(reply, sent, status)
 }
 
 /// Adds what becomes of a blob to the reply, and the blob to those that are stored, where it is not
@@ -119,11 +165,8 @@ fn add_blob<'a>(
         (update_blob_request_shown sent.now)) }
 {
     let verdict = judge(function, quota, sent);
-    let response = UpdateBlobResponse {
-        digest: sent.digest,
-        status: Some(status(alloc, verdict)),
-    };
-    put_embedded(&mut answered.reply, 1, &Some(response))?;
+    answered.status.set(alloc, reason(verdict))?;
+    put_response(&mut answered.reply, &sent.digest, &answered.status)?;
     if let Ok(digest) = verdict {
         answered.accepted.push(Accepted {
             digest,
@@ -146,6 +189,7 @@ fn answer_all<'a>(
 {
     let mut answered = Answered {
         reply: Writer::new(alloc),
+        status: StatusField::new(alloc, None)?,
         accepted: Vec::new(alloc),
     };
     let mut bytes = 0;

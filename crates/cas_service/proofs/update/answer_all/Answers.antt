@@ -9,7 +9,7 @@ use Rattle.cas_service.proofs.update.answer_all.Goals as goal
 
 pub blobs-init : goal.blobs-init
 blobs-init c = (
-  rw (c.new.ensures, c.new-2.ensures.items, c.new-reader.ensures) (blobs_first c.args.function c.args.quota (entries_in update_blob_request_of c.args.message.now)),
+  rw (c.new.ensures, c.new-3.ensures.items, c.new-reader.ensures) (blobs_first c.args.function c.args.quota (entries_in update_blob_request_of c.args.message.now)),
   omega arith,
 )
 

@@ -3,16 +3,16 @@ use Rattle.std.proofs.Common.{inl, inr, ◌≡◌, List, [], ◌∷◌, ◌++◌
 use Rattle.std.specs.Prelude.{⊤, if◌then◌else◌, true, false, Option, Some, None, Result, Ok, Err, is_ok}
 use Rattle.std.specs.declared.alloc.Global.{Global}
 use Rattle.std.specs.declared.vec.Vec.{Vec}
-use Rattle.outcomes.specs.declared.outcome.Outcome.{Outcome}
+use Rattle.outcomes.specs.Outcome.{Outcome}
 use Rattle.executor.specs.Job.{TaskValue}
 use Rattle.runner.specs.declared.fault.RunFault.{RunFault}
 use Rattle.runner.specs.declared.task.RunKey.{RunKey}
 use Rattle.runner.specs.declared.stage.Run.{Run}
 use Rattle.runner.specs.Calls.{FolderCall, ProgramCall}
-use Rattle.runner.specs.Runs.{IsKilled}
+use Rattle.runner.specs.Runs.{IsAsked, IsKilled}
 use Rattle.run_tasks.specs.Texts.{numbered_text}
 use Rattle.job_runs.specs.Keys.{AreOnce, all_keys, has_key, without_key}
-use Rattle.job_runs.specs.Runs.{IsAnswered, IsBegunIf}
+use Rattle.job_runs.specs.Runs.{IsBegunIf}
 use Rattle.job_runs.proofs.Keys.{asked-once, first-once, killed-once, noted-once, same-once, taken-once}
 
 abbrev StayOnce : List Run → List Run → Vec RunKey Global → Vec RunKey Global → Type 0
@@ -36,7 +36,7 @@ pub after_killed : (key : RunKey) (told : Result ⊤ RunFault) (old new : List R
 after_killed key told old new f g p q before now is killed h =
     taken-once key new before.items now.items is (killed-once key told old new f g p q before.items killed h)
 
-pub after_asked : (task : TaskValue) (key : RunKey) (told : Result (Option Outcome) RunFault) (old new : List Run) (f g : Option (List FolderCall)) (p q : Option (List ProgramCall)) (before mid now : Vec RunKey Global) → mid.items ≡ without_key key before.items → now ≡ mid → IsAnswered task key told old new f g p q → StayOnce old new before now
+pub after_asked : (task : TaskValue) (key : RunKey) (told : Result (Option Outcome) RunFault) (old new : List Run) (f g : Option (List FolderCall)) (p q : Option (List ProgramCall)) (before mid now : Vec RunKey Global) → mid.items ≡ without_key key before.items → now ≡ mid → IsAsked (numbered_text task.texts) key told old new f g p q → StayOnce old new before now
 after_asked task key told old new f g p q before mid now is same a h =
     subst (λ (v : Vec RunKey Global). AreOnce (all_keys new v.items)) (sym same)
-    (taken-once key new before.items mid.items is (asked-once (numbered_text task.texts) key a.answer old new f g p q before.items a.asked h))
+    (taken-once key new before.items mid.items is (asked-once (numbered_text task.texts) key told old new f g p q before.items a h))

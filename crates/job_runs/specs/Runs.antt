@@ -2,12 +2,10 @@
 use Rattle.std.specs.Prelude.{◌≡◌, ◌≤◌, ◌⊎◌, ⊤, ℕ, zero, suc, List, [], ◌∷◌, ◌++◌, slice_get, vec_capacity, vec_len, Option, Some, None, Result, Ok, Err}
 use Rattle.std.specs.declared.alloc.Global.{Global}
 use Rattle.std.specs.declared.vec.Vec.{Vec}
-use Rattle.outcomes.specs.declared.outcome.Outcome.{Outcome}
-use Rattle.outcomes.specs.Shown.{outcome_shown}
+use Rattle.outcomes.specs.Outcome.{Outcome}
 use Rattle.executor.specs.Job.{TaskValue}
 use Rattle.runner.specs.declared.fault.RunFault.{RunFault}
 use Rattle.runner.specs.declared.fault.RunFault.TheVariants.{NoMemory}
-use Rattle.runner.specs.declared.outcome.Outcome as given
 use Rattle.runner.specs.declared.task.RunKey.{RunKey}
 use Rattle.runner.specs.declared.task.Task.{Task}
 use Rattle.runner.specs.declared.stage.Run.{Run}
@@ -16,7 +14,6 @@ use Rattle.runner.specs.Runs.{IsAsked, IsKilled, IsOver, IsStarted}
 use Rattle.server_events.specs.Configs.{ConfigValue}
 use Rattle.serve.specs.declared.error_lines.Backlog.{Backlog}
 use Rattle.serve.specs.FaultLines.{TellsAnswer}
-use Rattle.run_tasks.specs.Given.{outcome_given}
 use Rattle.run_tasks.specs.Tasks.{IsTaskOf}
 use Rattle.run_tasks.specs.Texts.{numbered_text}
 
@@ -43,23 +40,6 @@ IsBegunIf None run told old new = (told ≡ Ok None) × (new ≡ old)
 IsBegunIf (Some task) run told old new =
     ((told ≡ Ok None) × IsBegun run task old new) ⊎ ((told ≡ Err NoMemory) × (new ≡ old))
 
--- the server is told what the run gave; or that memory was refused, where it gave an outcome and no
--- room was there for what is told of it
-abbrev pub IsTold : Result (Option given.Outcome) RunFault → Result (Option Outcome) RunFault → Type 0
-IsTold (Ok None) told = told ≡ Ok None
-IsTold (Err fault) told = told ≡ Err fault
-IsTold (Ok (Some o)) (Ok (Some t)) = outcome_shown t ≡ outcome_given o
-IsTold (Ok (Some o)) (Ok None) = ⊥
-IsTold (Ok (Some o)) (Err fault) = fault ≡ NoMemory
-
--- the runner was asked, with the texts of this task, and what it answered is told
-pub record IsAnswered (task : TaskValue) (run : RunKey) (told : Result (Option Outcome) RunFault)
-    (old new : List Run) (f_before f_now : Option (List FolderCall))
-    (p_before p_now : Option (List ProgramCall)) : Type 0 where
-  pub answer : Result (Option given.Outcome) RunFault
-  pub asked : IsAsked (numbered_text task.texts) run answer old new f_before f_now p_before p_now
-  pub is_told : IsTold answer told
-
 -- a run was to be ended, whatever came of that
 abbrev pub IsEnded : RunKey → List Run → List Run →
     Option (List FolderCall) → Option (List FolderCall) →
@@ -72,7 +52,8 @@ abbrev pub end_answer : Result ⊤ RunFault → Result (Option Outcome) RunFault
 end_answer (Ok x) = Ok None
 end_answer (Err fault) = Err fault
 
--- .. or it was told to end the run, where no task is lent: the job that it was run for does not run
+-- the runner was asked, with the texts of the task that is lent, and what it answered is told; or it
+-- was told to end the run, where no task is lent: the job that it was run for does not run
 abbrev pub IsAnsweredFor : Option TaskValue → RunKey → Result (Option Outcome) RunFault →
     List Run → List Run → Option (List FolderCall) → Option (List FolderCall) →
     Option (List ProgramCall) → Option (List ProgramCall) → Type 0
@@ -80,7 +61,7 @@ IsAnsweredFor None run told old new f_before f_now p_before p_now =
     (ended : Result ⊤ RunFault) × IsKilled run ended old new f_before f_now p_before p_now
     × (told ≡ end_answer ended)
 IsAnsweredFor (Some task) run told old new f_before f_now p_before p_now =
-    IsAnswered task run told old new f_before f_now p_before p_now
+    IsAsked (numbered_text task.texts) run told old new f_before f_now p_before p_now
 
 -- the run is over, or is to be
 abbrev pub IsOnlyEnded : Option TaskValue → RunKey → List Run → Type 0

@@ -4,14 +4,15 @@ ghost use Rattle.std.specs.Prelude.{◌≡◌, ◌≤◌, ◌⊎◌, ◌+◌, �
 ghost use Rattle.std.specs.List.{list_any};
 ghost use Rattle.std.specs.Option.{option_map};
 ghost use Rattle.runner.specs.Faults.{Counted};
-ghost use Rattle.runner.specs.Runs.{IsOver, can_go_on};
+ghost use Rattle.runner.specs.Runs.{IsAsked, IsOver, can_go_on};
 ghost use Rattle.runner.specs.declared.stage.Run.{Run};
+ghost use Rattle.run_tasks.specs.Texts.{numbered_text};
 ghost use Rattle.server_core.specs.Lent.{lent_shown};
 ghost use Rattle.job_runs.specs.Keys.{AreOnce, all_keys, count_of, has_key, is_key, turn_in, without_key};
-ghost use Rattle.job_runs.specs.Runs.{AreKilled, IsAnswered, IsAnsweredFor, IsBegun, IsBegunIf, IsEnded, IsKilledAt, IsNoted, IsOnlyEnded, IsTold};
+ghost use Rattle.job_runs.specs.Runs.{AreKilled, IsAnsweredFor, IsBegun, IsBegunIf, IsEnded, IsKilledAt, IsNoted, IsOnlyEnded};
 
 use outcomes::Outcome;
-use run_tasks::{LentTexts, outcome_told, run_task};
+use run_tasks::{LentTexts, run_task};
 use runner::{Folder, Programs, RunFault, RunKey, Runner};
 use serve::{ErrorLines, Runs};
 use server_core::LentTask;
@@ -127,7 +128,7 @@ impl<F: Folder + Drop, P: Programs + Drop> JobRunner<F, P> {
 
     /// Asks a run to which this task is lent.
     fn ask_run(&mut self, run: RunKey, task: LentTask<'_>) -> Result<Option<Outcome>, RunFault>
-        ensures answered { IsAnswered (lent_shown task.entry) run result
+        ensures answered { IsAsked (numbered_text (lent_shown task.entry).texts) run result
             self.old.runner.runs.items self.new.runner.runs.items
             (F.asked self.old.runner.folder) (F.asked self.new.runner.folder)
             (P.asked self.old.runner.programs) (P.asked self.new.runner.programs) }
@@ -138,8 +139,7 @@ impl<F: Folder + Drop, P: Programs + Drop> JobRunner<F, P> {
         ensures to_begin { self.new.to_begin ≡ self.old.to_begin }
         ensures next { self.new.next ≡ self.old.next }
     {
-        let answer = self.runner.ask(run.instance, run.job, &texts_of(task));
-        told(self.alloc, answer)
+        self.runner.ask(run.instance, run.job, &texts_of(task))
     }
 }
 
@@ -226,23 +226,6 @@ fn texts_of<'a>(task: LentTask<'a>) -> LentTexts<'a>
     ensures { result ≡ (lent_shown task.entry).texts }
 {
     LentTexts::new(task.pool, &task.task.texts)
-}
-
-/// What the server is told of what a runner answered.
-fn told(
-    alloc: Global,
-    answer: Result<Option<runner::Outcome>, RunFault>,
-) -> Result<Option<Outcome>, RunFault>
-    ensures { IsTold answer result }
-{
-    match answer {
-        Err(fault) => Err(fault),
-        Ok(None) => Ok(None),
-        Ok(Some(outcome)) => match outcome_told(alloc, outcome) {
-            Ok(told) => Ok(Some(told)),
-            Err(_) => Err(RunFault::NoMemory),
-        },
-    }
 }
 
 impl<F: Folder + Drop, P: Programs + Drop> Runs for JobRunner<F, P> {

@@ -7,4 +7,3 @@ mod Freshness
 mod Once
 mod Root
 mod Completed
-mod Hashes

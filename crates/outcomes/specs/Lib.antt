@@ -1,9 +1,10 @@
-pub mod Outcomes
 pub mod Asked
 pub mod Naming
 pub mod Trees
 pub mod Results
-pub mod Shown
 pub mod Gathering
 pub mod Completing
 pub mod Fresh
+pub use Rattle.run_outcomes.specs.Outcomes
+pub use Rattle.run_outcomes.specs.Shown
+pub use Rattle.run_outcomes.specs.declared.outcome.Outcome

@@ -1,16 +1,12 @@
 -- What names the texts that a run leaves: they are named by the function of the action's digest.
 use Rattle.std.specs.Prelude.{ℕ, List}
 use Rattle.digest.specs.declared.Digest.{Digest}
-use Rattle.digest.specs.Naming.{digest_by, function_of}
 use Rattle.instance_view.specs.Visible.{Blob}
 use Rattle.reapi_messages.specs.Digests.{DigestValue}
 use Rattle.operations.specs.Written.{digest_value}
+pub use Rattle.run_outcomes.specs.Naming.{digest_like}
 
--- the digest of a text, by the function of another digest
-abbrev pub digest_like : Digest → List ℕ → Digest
-digest_like like text = digest_by (function_of like.hash) text
-
--- as messages write it
+-- the digest of a text, by the function of another digest, as messages write it
 abbrev pub written_like : Digest → List ℕ → DigestValue
 written_like like text = digest_value (digest_like like text)
 

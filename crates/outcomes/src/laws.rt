@@ -4,7 +4,7 @@ ghost use Rattle.std.specs.Prelude.{◌≡◌, ◌≢◌, ◌==◌, ◌&&◌, Li
 ghost use Rattle.std.specs.List.{AllPairs, Contains, flat_map};
 ghost use Rattle.digest.specs.declared.Digest.{Digest};
 ghost use Rattle.tree_messages.specs.Directories.{DirectoryValue};
-ghost use Rattle.outcomes.specs.Outcomes.{OutputNodeValue};
+ghost use Rattle.run_outcomes.specs.Outcomes.{OutputNodeValue};
 ghost use Rattle.outcomes.specs.Trees.{are_walked, below_root, children_of, directory_text, file_node, is_directory_node, root_of};
 
 /// The root of a Tree has the nodes of level 1, and no others.

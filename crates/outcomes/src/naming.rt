@@ -4,9 +4,9 @@ ghost use Rattle.std.specs.Prelude.{◌≡◌, IfOk};
 ghost use Rattle.operations.specs.Written.{written_shown};
 ghost use Rattle.outcomes.specs.Naming.{digest_like, written_like};
 
-use crate::content::Content;
 use digest::Digest;
 use operations::{WrittenDigest, write_digest};
+use run_outcomes::Content;
 use std::alloc::{AllocError, Global};
 
 /// The digest of a text, by the function of another digest.

@@ -5,15 +5,15 @@ ghost use Rattle.std.specs.List.{list_all};
 ghost use Rattle.message_fields.specs.Parts.{text_for};
 ghost use Rattle.tree_messages.specs.Directories.{directory_shown, tree_records};
 ghost use Rattle.outcomes.specs.Gathering.{HaveTexts, folder_shown};
-ghost use Rattle.outcomes.specs.Shown.{node_shown, nodes_shown};
+ghost use Rattle.run_outcomes.specs.Shown.{node_shown, nodes_shown};
 ghost use Rattle.outcomes.specs.Trees.{are_walked, has_place, is_shallow, keeps_walk, level_behind, tree_of, with_child, with_children};
 
 use crate::folder::{Folder, directory_message, folder_text, is_taken};
 use crate::gathering::{gather_nodes, take_open};
-use crate::outcome::{NodeKind, OutputNode};
 use digest::Digest;
 use indexmap::IndexSet;
 use message_fields::Message;
+use run_outcomes::{NodeKind, OutputNode};
 use std::alloc::{AllocError, Global};
 use std::collections::VecDeque;
 use tree_messages::{Directory, Tree};

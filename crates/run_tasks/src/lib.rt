@@ -1,15 +1,13 @@
-//! What the server orders and what the runner carries out: tasks of jobs as tasks of runs, the texts
-//! of their files, and what runs gave as outcomes.
+//! What the server orders and what the runner carries out: tasks of jobs as tasks of runs, and the
+//! texts of their files.
 #![tactic(auto)]
 
 mod commands;
-mod given;
 mod laws;
 mod lent;
 mod nodes;
 mod tasks;
 
-pub use given::outcome_told;
 pub use laws::a_number_finds_the_text_of_its_digest;
 pub use lent::LentTexts;
 pub use tasks::run_task;

@@ -6,8 +6,8 @@ use Rattle.runner.specs.declared.task.NodeKind.{NodeKind}
 use Rattle.runner.specs.declared.task.NodeKind.TheVariants as node_kinds
 use Rattle.runner.specs.declared.task.TaskNode.{TaskNode}
 use Rattle.runner.specs.declared.programs.Stream.{Stream}
-use Rattle.runner.specs.declared.outcome.OutputNode.{OutputNode}
-use Rattle.runner.specs.declared.outcome.Output.{Output}
+use Rattle.run_outcomes.specs.declared.outcome.OutputNode.{OutputNode}
+use Rattle.run_outcomes.specs.declared.outcome.Output.{Output}
 use Rattle.runner.specs.Values.{PlaceValue}
 use Rattle.runner.specs.Made.{names_at, above_then}
 use Rattle.runner.specs.Gathered.{ItemValue, byte_at, numbered, node_items, nodes_items, above_after, above_all, kind_items, output_items}

@@ -3,13 +3,13 @@ use Rattle.std.proofs.Common.{◌≡◌, ◌≤◌, ℕ, ◌+◌, true, false, L
 use Rattle.std.specs.Prelude.{Some, None, Result, Ok, Err, zero, suc, string_bytes}
 use Rattle.runner.specs.declared.task.RunKey.{RunKey}
 use Rattle.runner.specs.declared.folder.Found.TheVariants as founds
-use Rattle.runner.specs.declared.outcome.Exited.{Exited}
-use Rattle.runner.specs.declared.outcome.Output.{Output}
-use Rattle.runner.specs.declared.outcome.OutputKind.{OutputKind}
-use Rattle.runner.specs.declared.outcome.OutputKind.TheVariants as kinds
-use Rattle.runner.specs.declared.outcome.OutputNode.{OutputNode}
-use Rattle.runner.specs.declared.outcome.OutputNodeKind.{OutputNodeKind}
-use Rattle.runner.specs.declared.outcome.OutputNodeKind.TheVariants as node_kinds
+use Rattle.run_outcomes.specs.declared.outcome.Exited.{Exited}
+use Rattle.run_outcomes.specs.declared.outcome.Output.{Output}
+use Rattle.run_outcomes.specs.declared.outcome.OutputKind.{OutputKind}
+use Rattle.run_outcomes.specs.declared.outcome.OutputKind.TheVariants as kinds
+use Rattle.run_outcomes.specs.declared.outcome.OutputNode.{OutputNode}
+use Rattle.run_outcomes.specs.declared.outcome.NodeKind.{NodeKind}
+use Rattle.run_outcomes.specs.declared.outcome.NodeKind.TheVariants as node_kinds
 use Rattle.runner.specs.declared.programs.Stream.{Stream}
 use Rattle.runner.specs.declared.programs.Stream.TheVariants as streams
 use Rattle.runner.specs.declared.stage.Stage.{Stage}
@@ -76,8 +76,8 @@ whole_stream_count run s bs =
     let one = stream_count run s 0 bs in
     omega (arith, split, one)
 
-node_count : (place : PlaceValue) (path : List ℕ) (names : List (List ℕ)) (k : OutputNodeKind) → items_count (node_items place path names k) ≡ node_length k
-node_count place path names (node_kinds.File content is_executable) = let e = whole_count place path names content.text in omega (arith, e)
+node_count : (place : PlaceValue) (path : List ℕ) (names : List (List ℕ)) (k : NodeKind) → items_count (node_items place path names k) ≡ node_length k
+node_count place path names (node_kinds.File content is_executable) = let e = whole_count place path names content in omega (arith, e)
 node_count place path names node_kinds.Directory = omega arith
 
 nodes_count : (place : PlaceValue) (path : List ℕ) (above : List (List ℕ)) (ns : List OutputNode) → items_count (nodes_items place path above ns) ≡ nodes_length ns
@@ -91,7 +91,7 @@ nodes_count place path above (n ∷ ns) =
     omega (arith, split, one, more)
 
 kind_count : (place : PlaceValue) (path : List ℕ) (k : OutputKind) → items_count (kind_items place path k) ≡ output_length k
-kind_count place path (kinds.File content is_executable) = let e = whole_count place path [] content.text in omega (arith, e)
+kind_count place path (kinds.File content is_executable) = let e = whole_count place path [] content in omega (arith, e)
 kind_count place path (kinds.Tree nodes) = let e = nodes_count place path [] nodes.items in omega (arith, e)
 
 outputs_count : (place : PlaceValue) (os : List Output) → items_count (output_items place os) ≡ outputs_length os
@@ -105,13 +105,13 @@ outputs_count place (o ∷ os) =
 
 -- ---- what is held
 
-streams_count : (place : PlaceValue) (e : Exited) → tolds_count (exited_told place e) ≡ length e.stdout.text + length e.stderr.text
+streams_count : (place : PlaceValue) (e : Exited) → tolds_count (exited_told place e) ≡ length e.streams.value.stdout + length e.streams.value.stderr
 streams_count place e =
-    let out = whole_stream place.run streams.Output e.stdout.text in
-    let err = whole_stream place.run streams.Error e.stderr.text in
+    let out = whole_stream place.run streams.Output e.streams.value.stdout in
+    let err = whole_stream place.run streams.Error e.streams.value.stderr in
     let split = tolds_append out err in
-    let one = whole_stream_count place.run streams.Output e.stdout.text in
-    let other = whole_stream_count place.run streams.Error e.stderr.text in
+    let one = whole_stream_count place.run streams.Output e.streams.value.stdout in
+    let other = whole_stream_count place.run streams.Error e.streams.value.stderr in
     omega (arith, split, one, other)
 
 exited_count : (place : PlaceValue) (e : Exited) → tolds_count (exited_told place e) + items_count (output_items place e.outputs.items) ≡ exited_length e
@@ -129,8 +129,8 @@ held_count place (stages.Output e out) =
     let one = stream_count place.run streams.Output 0 out in
     omega (arith, one)
 held_count place (stages.Error e out err) =
-    let split = tolds_append (whole_stream place.run streams.Output out.text) (stream_bytes place.run streams.Error 0 err) in
-    let one = whole_stream_count place.run streams.Output out.text in
+    let split = tolds_append (whole_stream place.run streams.Output out) (stream_bytes place.run streams.Error 0 err) in
+    let one = whole_stream_count place.run streams.Output out in
     let other = stream_count place.run streams.Error 0 err in
     omega (arith, split, one, other)
 held_count place (stages.Outputs g) = exited_count place g.exited

@@ -2,9 +2,8 @@
 use Rattle.std.proofs.Common.{◌≡◌, ◌≤◌, ℕ, ◌+◌, ◌-◌, Bool, List, [], ◌∷◌, ◌++◌, subst, take, length, length-append, refl, ap, sym, ◌∙◌, arith}
 use Rattle.std.specs.Prelude.{min, string_bytes}
 use Rattle.std.proofs.lemmas.List.{length-take}
-use Rattle.blob_pool.specs.Drafts.{DraftValue}
-use Rattle.runner.specs.declared.outcome.OutputNode.{OutputNode}
-use Rattle.runner.specs.declared.outcome.OutputNodeKind.TheVariants.{File, Directory}
+use Rattle.run_outcomes.specs.declared.outcome.OutputNode.{OutputNode}
+use Rattle.run_outcomes.specs.declared.outcome.NodeKind.TheVariants.{File, Directory}
 use Rattle.std.specs.Prelude.{Option, Result, Ok, Err, IfOk}
 use Rattle.runner.specs.declared.tree.Tree.{Tree}
 use Rattle.runner.specs.declared.stage.Gathering.{Gathering}
@@ -21,17 +20,17 @@ use Rattle.runner.specs.Made.{names_at}
 use Rattle.runner.specs.Gathered.{file_item, found_item, directory_item, whole_file, node_items, nodes_items, output_items, above_after, above_all}
 use Rattle.runner.proofs.Items.{nodes_items_append, above_all_append}
 
-pub file_added : (place : PlaceValue) (path : List ℕ) (above : List (List ℕ)) (old new : List OutputNode) (n : OutputNode) (content : DraftValue) (is_executable : Bool)
+pub file_added : (place : PlaceValue) (path : List ℕ) (above : List (List ℕ)) (old new : List OutputNode) (n : OutputNode) (content : List ℕ) (is_executable : Bool)
     → above ≡ above_all [] old → new ≡ old ++ n ∷ [] → n.level ≡ length above + 1 → n.kind ≡ File content is_executable
     → nodes_items place path [] new ≡ nodes_items place path [] old
-    ++ (file_item place path (above ++ string_bytes n.name ∷ []) is_executable ∷ whole_file place path (above ++ string_bytes n.name ∷ []) content.text)
+    ++ (file_item place path (above ++ string_bytes n.name ∷ []) is_executable ∷ whole_file place path (above ++ string_bytes n.name ∷ []) content)
 file_added place path above old new n content is_executable so pushed level kind =
     ap (nodes_items place path []) pushed ∙ nodes_items_append place path [] old n
     ∙ ap (λ zs. nodes_items place path [] old ++ node_items place path (names_at zs n.level (string_bytes n.name)) n.kind) (sym so)
     ∙ ap (λ zs. nodes_items place path [] old ++ node_items place path (zs ++ string_bytes n.name ∷ []) n.kind) (all_taken above n.level level)
     ∙ ap (λ k. nodes_items place path [] old ++ node_items place path (above ++ string_bytes n.name ∷ []) k) kind
 
-pub file_above : (above : List (List ℕ)) (old new : List OutputNode) (n : OutputNode) (content : DraftValue) (is_executable : Bool)
+pub file_above : (above : List (List ℕ)) (old new : List OutputNode) (n : OutputNode) (content : List ℕ) (is_executable : Bool)
     → above ≡ above_all [] old → new ≡ old ++ n ∷ [] → n.level ≡ length above + 1 → n.kind ≡ File content is_executable → above ≡ above_all [] new
 file_above above old new n content is_executable so pushed level kind =
     sym (ap (above_all []) pushed ∙ above_all_append [] old n ∙ ap (λ k. above_after (above_all [] old) n k) kind

@@ -5,7 +5,7 @@ use Rattle.std.specs.Prelude.{⊤, Option, Some, None, Result, Err}
 use Rattle.runner.specs.declared.task.RunKey.{RunKey}
 use Rattle.runner.specs.declared.folder.Place.{Place}
 use Rattle.runner.specs.declared.fault.RunFault.{RunFault}
-use Rattle.runner.specs.declared.outcome.Outcome.{Outcome}
+use Rattle.run_outcomes.specs.declared.outcome.Outcome.{Outcome}
 use Rattle.runner.specs.declared.stage.Stage.{Stage}
 use Rattle.runner.specs.declared.stage.Ending.{Ending}
 use Rattle.runner.specs.declared.stage.State.{State}

@@ -2,7 +2,7 @@
 use Rattle.std.proofs.Common.{◌≡◌, ℕ, List, [], ◌∷◌, ◌++◌, map, refl, sym, ap, subst, ◌∙◌, append-nil, inl, inr}
 use Rattle.std.specs.Prelude.{Option, Some, None, string_bytes}
 use Rattle.runner.specs.declared.folder.Place.{Place}
-use Rattle.runner.specs.declared.outcome.Exited.{Exited}
+use Rattle.run_outcomes.specs.declared.outcome.Exited.{Exited}
 use Rattle.runner.specs.declared.task.Task.{Task}
 use Rattle.runner.specs.declared.stage.Making.TheVariants as makings
 use Rattle.runner.specs.declared.stage.Stage.{Stage}

@@ -1,13 +1,13 @@
 -- How many bytes a run holds, how many more an answer tells of, and the most that are taken.
 use Rattle.std.specs.Prelude.{◌≡◌, ◌≤◌, ◌<◌, ◌+◌, ℕ, List, [], ◌∷◌, length, Some, Result, Ok}
 use Rattle.runner.specs.declared.folder.Found.TheVariants as founds
-use Rattle.runner.specs.declared.outcome.Exited.{Exited}
-use Rattle.runner.specs.declared.outcome.Output.{Output}
-use Rattle.runner.specs.declared.outcome.OutputKind.{OutputKind}
-use Rattle.runner.specs.declared.outcome.OutputKind.TheVariants as kinds
-use Rattle.runner.specs.declared.outcome.OutputNode.{OutputNode}
-use Rattle.runner.specs.declared.outcome.OutputNodeKind.{OutputNodeKind}
-use Rattle.runner.specs.declared.outcome.OutputNodeKind.TheVariants as node_kinds
+use Rattle.run_outcomes.specs.declared.outcome.Exited.{Exited}
+use Rattle.run_outcomes.specs.declared.outcome.Output.{Output}
+use Rattle.run_outcomes.specs.declared.outcome.OutputKind.{OutputKind}
+use Rattle.run_outcomes.specs.declared.outcome.OutputKind.TheVariants as kinds
+use Rattle.run_outcomes.specs.declared.outcome.OutputNode.{OutputNode}
+use Rattle.run_outcomes.specs.declared.outcome.NodeKind.{NodeKind}
+use Rattle.run_outcomes.specs.declared.outcome.NodeKind.TheVariants as node_kinds
 use Rattle.runner.specs.declared.stage.Stage.{Stage}
 use Rattle.runner.specs.declared.stage.Stage.TheVariants as stages
 use Rattle.runner.specs.declared.stage.Step.{Step}
@@ -22,8 +22,8 @@ most_bytes = 1073741824
 
 -- ---- what a run holds
 
-abbrev pub node_length : OutputNodeKind → ℕ
-node_length (node_kinds.File content is_executable) = length content.text
+abbrev pub node_length : NodeKind → ℕ
+node_length (node_kinds.File content is_executable) = length content
 node_length node_kinds.Directory = 0
 
 abbrev pub nodes_length : List OutputNode → ℕ
@@ -31,7 +31,7 @@ nodes_length [] = 0
 nodes_length (n ∷ ns) = node_length n.kind + nodes_length ns
 
 abbrev pub output_length : OutputKind → ℕ
-output_length (kinds.File content is_executable) = length content.text
+output_length (kinds.File content is_executable) = length content
 output_length (kinds.Tree nodes) = nodes_length nodes.items
 
 abbrev pub outputs_length : List Output → ℕ
@@ -40,7 +40,7 @@ outputs_length (o ∷ os) = output_length o.kind + outputs_length os
 
 -- of its streams and of its files
 abbrev pub exited_length : Exited → ℕ
-exited_length e = length e.stdout.text + (length e.stderr.text + outputs_length e.outputs.items)
+exited_length e = length e.streams.value.stdout + (length e.streams.value.stderr + outputs_length e.outputs.items)
 
 abbrev pub held : Stage → ℕ
 held (stages.Making m) = 0
@@ -48,7 +48,7 @@ held (stages.Running outputs) = 0
 held (stages.Stopping e) = 0
 held (stages.Measuring e) = 0
 held (stages.Output e out) = length out
-held (stages.Error e out err) = length out.text + length err
+held (stages.Error e out err) = length out + length err
 held (stages.Outputs g) = exited_length g.exited
 held (stages.File g f) = exited_length g.exited + length f.content
 held (stages.Listing g path) = exited_length g.exited

@@ -1,6 +1,6 @@
 -- A run that is not over: what is still to be done of it, what it has gathered, and what a call adds.
 use Rattle.std.specs.Prelude.{◌≡◌, ℕ, ◌-◌, List, [], ◌∷◌, ◌++◌, map, take, drop, length, string_bytes, Option}
-use Rattle.runner.specs.declared.outcome.Exited.{Exited}
+use Rattle.run_outcomes.specs.declared.outcome.Exited.{Exited}
 use Rattle.runner.specs.declared.programs.Stream.TheVariants as streams
 use Rattle.runner.specs.declared.stage.Prepared.{Prepared}
 use Rattle.runner.specs.declared.stage.Nodes.{Nodes}
@@ -127,8 +127,8 @@ has_gathered place (stages.TreeFile g t f) =
 abbrev pub exited_told : PlaceValue → Exited → List ToldItem
 exited_told place e =
     code_item place.run e.code ∷ killed_item place.run
-    ∷ (whole_stream place.run streams.Output e.stdout.text
-    ++ whole_stream place.run streams.Error e.stderr.text)
+    ∷ (whole_stream place.run streams.Output e.streams.value.stdout
+    ++ whole_stream place.run streams.Error e.streams.value.stderr)
 
 abbrev pub has_told : PlaceValue → Stage → List ToldItem
 has_told place (stages.Making m) = []
@@ -139,7 +139,7 @@ has_told place (stages.Output e out) =
     code_item place.run e.code ∷ killed_item place.run ∷ stream_bytes place.run streams.Output 0 out
 has_told place (stages.Error e out err) =
     code_item place.run e.code ∷ killed_item place.run
-    ∷ (whole_stream place.run streams.Output out.text ++ stream_bytes place.run streams.Error 0 err)
+    ∷ (whole_stream place.run streams.Output out ++ stream_bytes place.run streams.Error 0 err)
 has_told place (stages.Outputs g) = exited_told place g.exited
 has_told place (stages.File g f) = exited_told place g.exited
 has_told place (stages.Listing g path) = exited_told place g.exited

@@ -11,10 +11,10 @@ ghost use Rattle.runner.specs.Sizes.{IsCounted, IsCountedThen, exited_length, no
 ghost use Rattle.runner.specs.Stops.{FolderStops, FolderStopsWith};
 ghost use Rattle.runner.specs.declared.stage.Stage.TheVariants as Stages;
 
-use crate::content::{Content, is_too_large};
 use crate::fault::{RunFault, of_folder};
 use crate::folder::{Entry, Folder, Found, Place};
 use crate::making::{PIECE, cost_of};
+use crate::reading::{Reading, is_too_large};
 use crate::stage::{Gathering, OutputFile, Stage, Step, TreeFile};
 use crate::tree::{Inner, Tree, TreeNodes};
 use std::alloc::{AllocError, Global};
@@ -54,7 +54,7 @@ pub(crate) fn next_output<F: Folder>(
             let file = OutputFile {
                 path,
                 is_executable: facts.is_executable,
-                content: Content::new(alloc, place.function),
+                content: Reading::new(alloc, place.function),
             };
             Ok(Step::Goes(Stage::File(gathering, file), 1))
         }
@@ -270,7 +270,7 @@ fn look_in_tree<F: Folder>(
     let file = TreeFile {
         name,
         is_executable: facts.is_executable,
-        content: Content::new(alloc, place.function),
+        content: Reading::new(alloc, place.function),
     };
     Ok(Step::Goes(Stage::TreeFile(gathering, tree, file), 1))
 }

@@ -1,7 +1,6 @@
 //! Runs programs in folders of their own, piece by piece, and gathers what they leave there.
 #![tactic(auto)]
 
-mod content;
 mod copies;
 mod fault;
 mod folder;
@@ -11,8 +10,8 @@ mod laws;
 mod logged_folder;
 mod logged_programs;
 mod making;
-mod outcome;
 mod programs;
+mod reading;
 mod running;
 mod runs;
 mod stage;
@@ -20,13 +19,13 @@ mod task;
 mod texts;
 mod tree;
 mod turn;
+mod wanted;
 
 pub use fault::RunFault;
 pub use folder::{Entry, FileFacts, Folder, Found, Place};
 pub use laws::a_run_is_whole;
 pub use logged_folder::{FolderAnswered, FolderAsked, FolderRecord, LoggedFolder};
 pub use logged_programs::{LoggedPrograms, ProgramAnswered, ProgramAsked, ProgramRecord};
-pub use outcome::{Exited, Outcome, Output, OutputKind, OutputNode, OutputNodeKind};
 pub use programs::{Programs, Stream};
 pub use runs::Runner;
 pub use task::{Command, NodeKind, RunKey, Task, TaskNode, Variable};

@@ -7,26 +7,25 @@ ghost use Rattle.runner.specs.Faults.{ProgramsCounts, StaysOrRises};
 ghost use Rattle.runner.specs.Sizes.{IsCounted, IsCountedThen};
 ghost use Rattle.runner.specs.Stops.{ProgramStops};
 ghost use Rattle.runner.specs.Told.{code_item, killed_item, whole_stream};
-ghost use Rattle.runner.specs.declared.programs.Stream.TheVariants as Streams;
+ghost use Rattle.runner.specs.declared.programs.Stream.TheVariants as StreamKinds;
 ghost use Rattle.runner.specs.declared.stage.Stage.TheVariants as Stages;
 ghost use Rattle.runner.specs.declared.stage.Step.TheVariants.{Goes};
 
-use crate::content::{Content, MOST_BYTES, is_too_large};
 use crate::fault::{RunFault, of_programs};
 use crate::folder::Place;
 use crate::making::{PIECE, cost_of};
-use crate::outcome::Exited;
 use crate::programs::{Programs, Stream};
+use crate::reading::{MOST_BYTES, Reading, is_too_large};
 use crate::stage::{Ended, Gathering, Stage, Step};
-use blob_pool::Draft;
+use crate::wanted::Wanted;
+use run_outcomes::{Content, Exited, Streams};
 use std::alloc::Global;
-use std::collections::VecDeque;
 
 /// Asks whether the program has ended.
 pub(crate) fn ask<P: Programs>(
     programs: &mut P,
     place: &Place,
-    outputs: VecDeque<String>,
+    outputs: Wanted,
 ) -> Result<Step, RunFault>
     ensures goes { IfOk result (λ step. ProgramGoes (place_shown place.now)
         (Stages.Running outputs) step (P.asked programs.old) (P.asked programs.new)) }
@@ -41,7 +40,7 @@ pub(crate) fn ask<P: Programs>(
     }
 }
 
-fn ended(code: i32, outputs: VecDeque<String>) -> Step
+fn ended(code: i32, outputs: Wanted) -> Step
     ensures { result ≡ Goes (Stages.Stopping (record { code = code; outputs = outputs })) 1 }
 {
     Step::Goes(Stage::Stopping(Ended { code, outputs }), 1)
@@ -79,7 +78,7 @@ pub(crate) fn measure<P: Programs>(
     if length > MOST_BYTES {
         return Err(RunFault::TooLarge);
     }
-    Ok(Step::Goes(Stage::Output(ended, Content::new(alloc, place.function)), 1))
+    Ok(Step::Goes(Stage::Output(ended, Reading::new(alloc, place.function)), 1))
 }
 
 /// Reads the next piece of standard output.
@@ -88,7 +87,7 @@ pub(crate) fn read_output<P: Programs>(
     programs: &mut P,
     place: &Place,
     ended: Ended,
-    content: Content,
+    content: Reading,
 ) -> Result<Step, RunFault>
     requires counted { IsCounted (Stages.Output ended content) }
     ensures goes { IfOk result (λ step. ProgramGoes (place_shown place.now)
@@ -102,7 +101,7 @@ pub(crate) fn read_output<P: Programs>(
     let from = content.length();
     let piece = of_programs(programs.read(place.run, Stream::Output, from, PIECE))?;
     if piece.is_empty() {
-        let stage = Stage::Error(ended, content.whole(), Content::new(alloc, place.function));
+        let stage = Stage::Error(ended, content.whole(), Reading::new(alloc, place.function));
         return Ok(Step::Goes(stage, 1));
     }
     if is_too_large(from, piece.len() as u64) {
@@ -118,8 +117,8 @@ pub(crate) fn read_error<P: Programs>(
     programs: &mut P,
     place: &Place,
     ended: Ended,
-    stdout: Draft,
-    content: Content,
+    stdout: Content,
+    content: Reading,
 ) -> Result<Step, RunFault>
     requires counted { IsCounted (Stages.Error ended stdout content) }
     ensures goes { IfOk result (λ step. ProgramGoes (place_shown place.now)
@@ -144,27 +143,28 @@ pub(crate) fn read_error<P: Programs>(
 }
 
 /// Nothing gathered yet.
-fn both_read(alloc: Global, ended: Ended, stdout: Draft, stderr: Content) -> Gathering
+fn both_read(alloc: Global, ended: Ended, stdout: Content, stderr: Reading) -> Gathering
     requires counted { IsCounted (Stages.Error ended stdout stderr) }
     ensures told { (place : PlaceValue) →
         exited_told place result.exited ≡ code_item place.run ended.code ∷ killed_item place.run
-        ∷ (whole_stream place.run Streams.Output stdout.text
-        ++ whole_stream place.run Streams.Error stderr) }
+        ∷ (whole_stream place.run StreamKinds.Output stdout
+        ++ whole_stream place.run StreamKinds.Error stderr) }
     ensures outputs { result.exited.outputs.items ≡ [] }
     ensures left { result.left ≡ ended.outputs }
     ensures counted { IsCounted (Stages.Outputs result) }
 {
     let taken = stdout.length() + stderr.length();
     let Ended { code, outputs } = ended;
+    let stderr = stderr.whole();
+    let (left, streams) = outputs.written(Streams { stdout, stderr });
     let exited = Exited {
         code,
-        stdout,
-        stderr: stderr.whole(),
+        streams,
         outputs: Vec::new(alloc),
     };
     Gathering {
         exited,
-        left: outputs,
+        left,
         taken,
     }
 }

@@ -10,12 +10,13 @@ ghost use Rattle.runner.specs.declared.stage.Run.{Run};
 use crate::fault::RunFault;
 use crate::folder::{Folder, Place};
 use crate::going::Going;
-use crate::outcome::Outcome;
 use crate::programs::Programs;
 use crate::stage::{Ending, Making, Nodes, Prepared, Run, Stage, State, Step, Stopped};
 use crate::task::{RunKey, Task};
 use crate::texts::Texts;
 use crate::turn::turn;
+use crate::wanted::Wanted;
+use run_outcomes::{Outcome, Streams};
 use std::alloc::{AllocError, Global};
 
 fn is_run_of(key: RunKey, run: &Run) -> bool
@@ -76,10 +77,12 @@ fn put_back(runs: &mut Vec<Run>, at: usize, run: Run)
     runs.insert(at, run).unwrap();
 }
 
-/// A run of which nothing is done yet.
-fn started(alloc: Global, key: RunKey, task: Task) -> Run
-    ensures { IsStarted key task result }
+/// A run of which nothing is done yet. It has room for what its program writes, so that none is asked
+/// for once that has ended.
+fn started(alloc: Global, key: RunKey, task: Task) -> Result<Run, AllocError>
+    ensures { IfOk result (IsStarted key task) }
 {
+    let streams = Box::new(alloc, Streams::empty(alloc, task.function))?;
     let Task {
         nodes,
         command,
@@ -90,16 +93,19 @@ fn started(alloc: Global, key: RunKey, task: Task) -> Run
     let nodes = Nodes {
         above: Vec::new(alloc),
         left: nodes,
-        next: Prepared { command, outputs },
+        next: Prepared {
+            command,
+            outputs: Wanted::new(outputs, streams),
+        },
     };
-    Run {
+    Ok(Run {
         place: Place {
             run: key,
             directory: working_directory,
             function,
         },
         state: State::Live(Going::new(Stage::Making(Making::Root(nodes)))),
-    }
+    })
 }
 
 /// Runs, each in a folder of its own.
@@ -148,7 +154,7 @@ impl<F: Folder + Drop, P: Programs + Drop> Runner<F, P> {
         ensures programs { self.new.programs ≡ self.old.programs }
     {
         let alloc = *self.runs.allocator();
-        let run = started(alloc, RunKey { instance, job }, task);
+        let run = started(alloc, RunKey { instance, job }, task)?;
         self.runs.push(run)?;
         Ok(())
     }

@@ -7,20 +7,20 @@ ghost use Rattle.runner.specs.Steps.{file_items};
 ghost use Rattle.runner.specs.Runs.{ending_at};
 ghost use Rattle.runner.specs.Sizes.{output_length};
 
-use crate::content::Content;
 use crate::fault::RunFault;
 use crate::folder::Place;
 use crate::going::Going;
-use crate::outcome::{Exited, Output, OutputKind};
+use crate::reading::Reading;
 use crate::task::{Command, TaskNode};
 use crate::tree::Tree;
-use blob_pool::Draft;
+use crate::wanted::Wanted;
+use run_outcomes::{Content, Exited, Output, OutputKind};
 use std::collections::VecDeque;
 
 /// What is to be done once a tree is made.
 pub(crate) struct Prepared {
     pub(crate) command: Command,
-    pub(crate) outputs: VecDeque<String>,
+    pub(crate) outputs: Wanted,
 }
 
 // The drops of what many functions own are written out, so that each of their exits has one call
@@ -41,15 +41,16 @@ impl Prepared {
         ensures left { result.left ≡ self.outputs }
     {
         let Prepared { command, outputs } = self;
+        let (left, made) = outputs.parted();
         Parents {
             command,
-            made: VecDeque::new(*outputs.allocator()),
-            left: outputs,
+            made,
+            left,
         }
     }
 
     /// The outputs, once the command was started.
-    pub(crate) fn outputs(self) -> VecDeque<String>
+    pub(crate) fn outputs(self) -> Wanted
         ensures { result ≡ self.outputs }
     {
         let Prepared { command, outputs } = self;
@@ -100,7 +101,7 @@ pub(crate) struct Writing {
 pub(crate) struct Parents {
     pub(crate) command: Command,
     /// Those outputs for which they are made.
-    pub(crate) made: VecDeque<String>,
+    pub(crate) made: Wanted,
     pub(crate) left: VecDeque<String>,
 }
 
@@ -151,7 +152,7 @@ pub(crate) enum Making {
 #[derive(Drop)]
 pub(crate) struct Ended {
     pub(crate) code: i32,
-    pub(crate) outputs: VecDeque<String>,
+    pub(crate) outputs: Wanted,
 }
 
 /// What was gathered.
@@ -194,7 +195,7 @@ impl Gathering {
 pub(crate) struct OutputFile {
     pub(crate) path: String,
     pub(crate) is_executable: bool,
-    pub(crate) content: Content,
+    pub(crate) content: Reading,
 }
 
 impl Drop for OutputFile {
@@ -236,7 +237,7 @@ impl OutputFile {
 pub(crate) struct TreeFile {
     pub(crate) name: String,
     pub(crate) is_executable: bool,
-    pub(crate) content: Content,
+    pub(crate) content: Reading,
 }
 
 impl Drop for TreeFile {
@@ -253,9 +254,9 @@ impl Drop for TreeFile {
 
 impl TreeFile {
     /// Its name, its text, and whether it is executable, once it was read to its end.
-    pub(crate) fn whole(self) -> (String, Draft, bool)
+    pub(crate) fn whole(self) -> (String, Content, bool)
         ensures name { result.0 ≡ self.name }
-        ensures text { result.1.text ≡ self.content }
+        ensures text { result.1 ≡ self.content }
         ensures is_executable { result.2 ≡ self.is_executable }
     {
         let TreeFile {
@@ -271,15 +272,15 @@ impl TreeFile {
 #[derive(Drop)]
 pub(crate) enum Stage {
     Making(Making),
-    Running(VecDeque<String>),
+    Running(Wanted),
     /// Its session is being ended.
     Stopping(Ended),
     /// It is to be said how much it wrote.
     Measuring(Ended),
     /// Its standard output is being read.
-    Output(Ended, Content),
+    Output(Ended, Reading),
     /// Its standard error is being read.
-    Error(Ended, Draft, Content),
+    Error(Ended, Content, Reading),
     Outputs(Gathering),
     File(Gathering, OutputFile),
     /// An output directory is to be listed.

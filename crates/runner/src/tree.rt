@@ -8,9 +8,8 @@ ghost use Rattle.runner.specs.Made.{names_at};
 ghost use Rattle.runner.specs.Sizes.{nodes_length, output_length};
 ghost use Rattle.runner.specs.Steps.{tree_file_items, tree_items};
 
-use crate::outcome::{Output, OutputKind, OutputNode, OutputNodeKind};
 use crate::stage::TreeFile;
-use blob_pool::Draft;
+use run_outcomes::{Content, NodeKind, Output, OutputKind, OutputNode};
 use std::alloc::{AllocError, Global};
 use std::collections::VecDeque;
 use std::marker::Model;
@@ -97,22 +96,22 @@ impl TreeNodes {
     pub(crate) fn with_file(
         self,
         name: String,
-        content: Draft,
+        content: Content,
         is_executable: bool,
     ) -> Result<TreeNodes, AllocError>
         requires few { length self.nodes < most_nodes }
         ensures items { IfOk result (λ tree. (place : PlaceValue) → (path : List ℕ) →
             nodes_items place path [] tree.nodes ≡ nodes_items place path [] self.nodes
             ++ file_item place path (self.above ++ string_bytes name ∷ []) is_executable
-            ∷ whole_file place path (self.above ++ string_bytes name ∷ []) content.text) }
+            ∷ whole_file place path (self.above ++ string_bytes name ∷ []) content) }
         ensures length { IfOk result (λ tree. nodes_length tree.nodes
-            ≡ nodes_length self.nodes + length content.text) }
+            ≡ nodes_length self.nodes + length content) }
         ensures above { IfOk result (λ tree. tree.above ≡ self.above) }
         ensures count { IfOk result (λ tree. length tree.nodes ≡ length self.nodes + 1) }
     {
         let TreeNodes { above, mut nodes } = self;
         let level = above.len() as u32 + 1;
-        let kind = OutputNodeKind::File {
+        let kind = NodeKind::File {
             content,
             is_executable,
         };
@@ -137,7 +136,7 @@ impl TreeNodes {
         let alloc = *nodes.allocator();
         above.truncate((level as usize).saturating_sub(1));
         above.push(String::from_str(alloc, name.as_str())?)?;
-        let kind = OutputNodeKind::Directory;
+        let kind = NodeKind::Directory;
         nodes.push(OutputNode { name, level, kind })?;
         Ok(TreeNodes { above, nodes })
     }

@@ -1,7 +1,7 @@
 -- What happens at the runs of jobs.
 use Rattle.std.specs.Prelude.{◌≡◌, ◌⊎◌, ℕ, List, [], ◌∷◌, ◌++◌, Option, Some, None, IfSome, Result, Ok, Err}
 use Rattle.std.specs.Option.{option_map}
-use Rattle.outcomes.specs.declared.outcome.Outcome.{Outcome}
+use Rattle.outcomes.specs.Outcome.{Outcome}
 use Rattle.outcomes.specs.Outcomes.{OutcomeValue, failed}
 use Rattle.outcomes.specs.Shown.{outcome_shown}
 use Rattle.runner.specs.declared.fault.RunFault.{RunFault}

@@ -1,6 +1,6 @@
 use Rattle.std.proofs.Common.{◌≡◌, IfOk, sym, subst}
 use Rattle.instance_view.specs.Shown.{visible_in}
-use Rattle.outcomes.specs.declared.outcome.Outcome.{Outcome}
+use Rattle.outcomes.specs.Outcome.{Outcome}
 use Rattle.outcomes.specs.Outcomes.{exited}
 use Rattle.outcomes.specs.Shown.{exited_shown, outcome_shown}
 use Rattle.executor.specs.InPool.{job_in}

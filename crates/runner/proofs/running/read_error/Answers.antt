@@ -24,8 +24,8 @@ returns-then-is_empty-clause-goes g c = λ text f.
     (ap (λ l. map (look_asked (place_shown c.args.place.now)) (map string_bytes l.items)) (sym c.both_read-gathering.ensures.left))
     (ap (output_items (place_shown c.args.place.now)) c.both_read-gathering.ensures.outputs)
     (c.both_read-gathering.ensures.told (place_shown c.args.place.now)
-    ∙ ap (λ zs. code_item run c.args.ended.code ∷ killed_item run ∷ zs) (sym (append_assoc (whole_stream run streams.Output c.args.stdout.text) (stream_bytes run streams.Error 0 c.args.content) (stream_end run streams.Error (length c.args.content) ∷ [])))
-    ∙ ap (λ is. (code_item run c.args.ended.code ∷ killed_item run ∷ (whole_stream run streams.Output c.args.stdout.text ++ stream_bytes run streams.Error 0 c.args.content)) ++ is) (sym items))
+    ∙ ap (λ zs. code_item run c.args.ended.code ∷ killed_item run ∷ zs) (sym (append_assoc (whole_stream run streams.Output c.args.stdout) (stream_bytes run streams.Error 0 c.args.content) (stream_end run streams.Error (length c.args.content) ∷ [])))
+    ∙ ap (λ is. (code_item run c.args.ended.code ∷ killed_item run ∷ (whole_stream run streams.Output c.args.stdout ++ stream_bytes run streams.Error 0 c.args.content)) ++ is) (sym items))
     (fits_still _ _ c.requires.counted (stream_says run streams.Error from 65536 c.read.result c.in_ok-piece.piece is ∙ ap length none))
     refl refl
 
@@ -39,8 +39,8 @@ returns-clause-goes g c = λ text f.
     let more = more_read run streams.Error c.args.content c.push.new.self c.deref.result.now from _ c.in_ok-push.ensures c.length-from.ensures items in
     goes_program text (place_shown c.args.place.now) _ _ f _ _ (read_asked run streams.Error from 65536) _ c.read.ensures.adds refl refl refl refl
     (ap (λ zs. code_item run c.args.ended.code ∷ killed_item run ∷ zs)
-    (ap (λ zs. whole_stream run streams.Output c.args.stdout.text ++ zs) more
-    ∙ sym (append_assoc (whole_stream run streams.Output c.args.stdout.text) (stream_bytes run streams.Error 0 c.args.content) _)))
+    (ap (λ zs. whole_stream run streams.Output c.args.stdout ++ zs) more
+    ∙ sym (append_assoc (whole_stream run streams.Output c.args.stdout) (stream_bytes run streams.Error 0 c.args.content) _)))
     (fits_told _ _ _ (stream_says run streams.Error from 65536 c.read.result c.in_ok-piece.piece is)
     (at_most _ _ _ _ _ c.is_too_large.ensures c.if-is_too_large.false (omega (arith, c.length.ensures.length, c.length-from.ensures)) (omega (arith, c.len.ensures, c.in_ok-piece.piece.ok))))
     refl refl

@@ -19,7 +19,7 @@ returns-then-is_empty-clause-goes g c = λ text f.
     let is = programs_ok _ _ _ c.of_programs.ensures c.in_ok-piece.was in
     let items = read_says run streams.Output from 65536 c.read.result c.in_ok-piece.piece [] is none ∙ ap (λ n. stream_end run streams.Output n ∷ []) c.length-from.ensures in
     goes_program text (place_shown c.args.place.now) _ _ f _ _ (read_asked run streams.Output from 65536) _ c.read.ensures.adds refl refl refl refl
-    (output_whole run c.args.ended.code c.args.content c.whole.result.text c.new.result _ c.whole.ensures c.new.ensures items)
+    (output_whole run c.args.ended.code c.args.content c.whole.result c.new.result _ c.whole.ensures c.new.ensures items)
     (fits_still _ _ c.requires.counted (stream_says run streams.Output from 65536 c.read.result c.in_ok-piece.piece is ∙ ap length none))
     refl refl
 

@@ -10,7 +10,7 @@ returns-clause-items c = λ place.
     let path = string_bytes c.args.self.path in
     let above = c.args.self.nodes.above in
     let is_executable = c.whole-name.result.2 in
-    let text = c.whole-name.result.1.text in
+    let text = c.whole-name.result.1 in
     let names = c.args.self.nodes.above ++ string_bytes c.args.file.name ∷ [] in
     ap (λ zs. found_item place path ∷ directory_item place path [] ∷ zs) (c.in_ok-nodes.ensures.items place path)
     ∙ ap (λ s. tree_items place c.args.self ++ (file_item place path (above ++ string_bytes s ∷ []) is_executable ∷ whole_file place path (above ++ string_bytes s ∷ []) text)) c.whole-name.ensures.name

@@ -1,16 +1,15 @@
 -- What the values of the code stand for.
 use Rattle.std.specs.Prelude.{ℕ, List, map, string_bytes}
-use Rattle.instance_view.specs.Visible.{Blob}
-use Rattle.outcomes.specs.declared.outcome.NodeKind.{NodeKind}
-use Rattle.outcomes.specs.declared.outcome.NodeKind.TheVariants as kinds
-use Rattle.outcomes.specs.declared.outcome.OutputNode.{OutputNode}
-use Rattle.outcomes.specs.declared.outcome.OutputKind.{OutputKind}
-use Rattle.outcomes.specs.declared.outcome.OutputKind.TheVariants as outputs
-use Rattle.outcomes.specs.declared.outcome.Output.{Output}
-use Rattle.outcomes.specs.declared.outcome.Exited.{Exited}
-use Rattle.outcomes.specs.declared.outcome.Outcome.{Outcome}
-use Rattle.outcomes.specs.declared.outcome.Outcome.TheVariants as ends
-use Rattle.outcomes.specs.Outcomes.{ExitedValue, NodeKindValue, OutcomeValue, OutputNodeValue, OutputValue, as_directory, as_file, exited, failed, output_file, output_tree}
+use Rattle.run_outcomes.specs.declared.outcome.NodeKind.{NodeKind}
+use Rattle.run_outcomes.specs.declared.outcome.NodeKind.TheVariants as kinds
+use Rattle.run_outcomes.specs.declared.outcome.OutputNode.{OutputNode}
+use Rattle.run_outcomes.specs.declared.outcome.OutputKind.{OutputKind}
+use Rattle.run_outcomes.specs.declared.outcome.OutputKind.TheVariants as outputs
+use Rattle.run_outcomes.specs.declared.outcome.Output.{Output}
+use Rattle.run_outcomes.specs.declared.outcome.Exited.{Exited}
+use Rattle.run_outcomes.specs.declared.outcome.Outcome.{Outcome}
+use Rattle.run_outcomes.specs.declared.outcome.Outcome.TheVariants as ends
+use Rattle.run_outcomes.specs.Outcomes.{ExitedValue, NodeKindValue, OutcomeValue, OutputNodeValue, OutputValue, as_directory, as_file, exited, failed, output_file, output_tree}
 
 abbrev pub kind_shown : NodeKind → NodeKindValue
 kind_shown (kinds.File text is_executable) = as_file text is_executable

@@ -5,6 +5,7 @@ ghost use Rattle.runner.specs.Sizes.{most_bytes};
 
 use blob_pool::Draft;
 use digest::HashFunction;
+use run_outcomes::Content;
 use std::alloc::{AllocError, Global};
 use std::marker::Model;
 
@@ -21,26 +22,26 @@ pub(crate) fn is_too_large(taken: u64, more: u64) -> bool
 
 /// What was read of a file or a stream so far, hashed as it came.
 #[derive(Drop)]
-pub(crate) struct Content {
+pub(crate) struct Reading {
     draft: Draft,
 }
 
-impl Model for Content {
+impl Model for Reading {
     ghost use Rattle.std.specs.Prelude.{ℕ, List, ◌≡◌, true};
 
     ghost Value = { List ℕ };
 
-    ghost view = { λ c. c.draft.text };
+    ghost view = { λ r. r.draft.text };
 
-    ghost invariant = { λ c. c.draft.is_open ≡ true };
+    ghost invariant = { λ r. r.draft.is_open ≡ true };
 }
 
-impl Content {
+impl Reading {
     /// Nothing yet of what is to be named by a function. It takes no memory.
-    pub(crate) fn new(alloc: Global, function: HashFunction) -> Content
+    pub(crate) fn new(alloc: Global, function: HashFunction) -> Reading
         ensures { result ≡ [] }
     {
-        Content {
+        Reading {
             draft: Draft::new(alloc, function),
         }
     }
@@ -59,11 +60,11 @@ impl Content {
         self.draft.push(bytes)
     }
 
-    /// The whole of it.
-    pub(crate) fn whole(self) -> Draft
-        ensures { result.text ≡ self }
+    /// The whole of it. It takes no memory.
+    pub(crate) fn whole(self) -> Content
+        ensures { result ≡ self }
     {
-        let Content { draft } = self;
-        draft
+        let Reading { draft } = self;
+        Content::new(draft)
     }
 }

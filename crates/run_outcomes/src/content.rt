@@ -3,7 +3,7 @@
 ghost use Rattle.std.specs.Prelude.{◌≡◌, ◌≤◌, ◌==◌, length};
 ghost use Rattle.blob_pool.specs.TextConstants.{MOST_BYTES};
 ghost use Rattle.digest.specs.Naming.{hash_by};
-ghost use Rattle.outcomes.specs.Naming.{digest_like};
+ghost use Rattle.run_outcomes.specs.Naming.{digest_like};
 
 use blob_pool::Draft;
 use digest::{Digest, Hash, HashFunction};

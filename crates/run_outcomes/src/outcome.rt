@@ -1,9 +1,11 @@
 //! What the run of an action gives.
 
-ghost use Rattle.std.specs.Prelude.{◌≡◌, IfOk, map};
-ghost use Rattle.outcomes.specs.Shown.{exited_shown, output_shown};
+ghost use Rattle.std.specs.Prelude.{◌≡◌, [], IfOk, map};
+ghost use Rattle.run_outcomes.specs.Shown.{exited_shown, output_shown};
 
 use crate::content::Content;
+use blob_pool::Draft;
+use digest::HashFunction;
 use std::alloc::{AllocError, Global};
 
 /// What a node of an output directory is.
@@ -109,6 +111,19 @@ pub struct Exited {
 pub struct Streams {
     pub stdout: Content,
     pub stderr: Content,
+}
+
+impl Streams {
+    /// Nothing that was written, hashed by a function. It takes no memory.
+    pub fn empty(alloc: Global, function: HashFunction) -> Streams
+        ensures stdout { result.stdout ≡ [] }
+        ensures stderr { result.stderr ≡ [] }
+    {
+        Streams {
+            stdout: Content::new(Draft::new(alloc, function)),
+            stderr: Content::new(Draft::new(alloc, function)),
+        }
+    }
 }
 
 // Written out, so that no crate above proves again that each part of it may be dropped.

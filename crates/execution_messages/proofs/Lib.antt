@@ -2,3 +2,4 @@ pub mod Texts
 pub mod RequestsAgain
 pub mod ActionsAgain
 pub mod OperationsAgain
+pub mod EachOnce

@@ -12,12 +12,10 @@ use Rattle.message_fields.proofs.Lengths.{IsNumbered, bytes_numbered, each_numbe
 use Rattle.message_fields.proofs.Fitting.{embedded_fits, repeated_fits}
 use Rattle.execution_messages.specs.Operations.{ExecuteOperationMetadataValue, execute_operation_metadata_of, execute_operation_metadata_records, FitsExecuteOperationMetadata, ExecuteResponseValue, execute_response_of, execute_response_records, FitsExecuteResponse, OperationValue, operation_of, operation_records, FitsOperation, ViolationValue, violation_of, violation_records, FitsViolation, PreconditionFailureValue, precondition_failure_of, precondition_failure_records, FitsPreconditionFailure}
 use Rattle.tree_messages.specs.Results.{action_result_of}
-use Rattle.reapi_messages.specs.Statuses.{any_of, any_records, FitsAny}
-use Rattle.reapi_messages.proofs.StatusesAgain.{any_again}
+use Rattle.reapi_messages.specs.Statuses.{any_of, any_records, FitsAny, status_of, status_records, FitsStatus}
+use Rattle.reapi_messages.proofs.StatusesAgain.{any_again, status_again}
 use Rattle.reapi_messages.specs.Digests.{digest_of, digest_records, FitsDigest}
 use Rattle.reapi_messages.proofs.DigestsAgain.{digest_again}
-use Rattle.reapi_messages.specs.Statuses.{status_of, status_records, FitsStatus}
-use Rattle.reapi_messages.proofs.StatusesAgain.{status_again}
 
 execute_operation_metadata_numbered : (v : ExecuteOperationMetadataValue) → FitsExecuteOperationMetadata v → AllByRecursion IsNumbered (execute_operation_metadata_records v)
 execute_operation_metadata_numbered v h = numbered_both (int32_field 1 v.stage) (embedded_field digest_records 2 v.action_digest) (int32_numbered 1 (omega arith) (omega arith) v.stage h.stage) (embedded_numbered 2 (omega arith) (omega arith) digest_records v.action_digest)

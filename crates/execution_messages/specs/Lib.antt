@@ -1,3 +1,9 @@
 pub mod Requests
 pub mod Actions
 pub mod Operations
+pub mod Faults
+pub mod Written
+pub mod Statuses
+pub mod Once
+pub mod Progress
+pub mod Shown

@@ -14,9 +14,8 @@ use Rattle.execution_messages.specs.declared.operations.Operation.{Operation}
 use Rattle.execution_messages.specs.declared.operations.Violation.{Violation}
 use Rattle.execution_messages.specs.declared.operations.PreconditionFailure.{PreconditionFailure}
 use Rattle.tree_messages.specs.Results.{action_result_of}
-use Rattle.reapi_messages.specs.Statuses.{AnyValue, FitsAny, any_shown, any_of, any_records}
+use Rattle.reapi_messages.specs.Statuses.{AnyValue, FitsAny, any_shown, any_of, any_records, StatusValue, FitsStatus, status_shown, status_of, status_records}
 use Rattle.reapi_messages.specs.Digests.{DigestValue, FitsDigest, digest_shown, digest_of, digest_records}
-use Rattle.reapi_messages.specs.Statuses.{StatusValue, FitsStatus, status_shown, status_of, status_records}
 
 -- stage 1, action_digest 2
 pub record ExecuteOperationMetadataValue : Type 0 where

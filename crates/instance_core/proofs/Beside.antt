@@ -6,7 +6,7 @@ use Rattle.blob_pool.specs.Moves.{Moves, Holders}
 use Rattle.instance_view.specs.Visible.{Blob}
 use Rattle.instance_view.specs.Shown.{ViewValue, visible_in, holders}
 use Rattle.instance_core.specs.declared.event.CallId.{CallId}
-use Rattle.executor.specs.InPool.{jobs_in}
+use Rattle.execution.specs.InPool.{jobs_in}
 use Rattle.instance_core.specs.declared.contents.Settings.{Settings}
 use Rattle.instance_core.specs.declared.contents.Contents.{Contents}
 use Rattle.instance_core.specs.Calls.{Calls, message, end, call_at}

@@ -5,8 +5,8 @@ use Rattle.std.specs.List.{AllByRecursion, IsDistinct}
 use Rattle.std.specs.Map.{keys_of}
 use Rattle.std.proofs.lemmas.Bool.Decides.{nat_tests}
 use Rattle.std.proofs.lemmas.Map.Keys.{IsDistinct-head, IsDistinct-tail, IsDistinct-cons}
-use Rattle.executor.specs.Orders.{ToldValue, told}
-use Rattle.executor.specs.Steps.{StepValue}
+use Rattle.execution.specs.Orders.{ToldValue, told}
+use Rattle.execution.specs.Steps.{StepValue}
 use Rattle.instance_core.specs.declared.event.CallId.{CallId}
 use Rattle.instance_core.specs.Calls.{Calls, CallValue, same_call, with_call, without_call}
 use Rattle.instance_core.specs.Watching.{is_watcher, calls_told, calls_after_steps}

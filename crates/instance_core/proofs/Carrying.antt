@@ -27,10 +27,10 @@ use Rattle.bytestream.specs.declared.reading.ReadAsked.{ReadAsked}
 use Rattle.bytestream.specs.Reading.{SourceValue, read_asked, read_answer, after_asking, after_read}
 use Rattle.tree_calls.specs.Complete.{AreResultsWithin}
 use Rattle.job_queue.specs.Jobs.{Jobs}
-use Rattle.executor.specs.Job.{JobValue}
-use Rattle.executor.specs.InPool.{jobs_in, jobs_holders}
-use Rattle.executor.specs.declared.job.Executions.{Executions}
-use Rattle.executor.proofs.Calling.{jobs_same}
+use Rattle.execution.specs.Job.{JobValue}
+use Rattle.execution.specs.InPool.{jobs_in, jobs_holders}
+use Rattle.execution.specs.declared.job.Executions.{Executions}
+use Rattle.execution.proofs.Calling.{jobs_same}
 use Rattle.blob_pool.proofs.Moves.{moves_more}
 use Rattle.bytestream.specs.Shown.{source_shown}
 use Rattle.instance_core.specs.declared.answer.Answer.{Answer}

@@ -7,8 +7,8 @@ use Rattle.uploads.proofs.ListLemmas.{within_unexpired}
 use Rattle.tree_calls.specs.Complete.{AreResultsWithin}
 use Rattle.job_queue.specs.Jobs.{Jobs}
 use Rattle.job_queue.specs.declared.queue.TheConstants.{LAST_NUMBER, MOST_WAITING}
-use Rattle.executor.specs.Job.{JobValue}
-use Rattle.executor.specs.Steps.{StepValue, jobs_after_steps}
+use Rattle.execution.specs.Job.{JobValue}
+use Rattle.execution.specs.Steps.{StepValue, jobs_after_steps}
 use Rattle.instance_core.specs.declared.event.CallId.{CallId}
 use Rattle.instance_core.specs.Calls.{Calls, CallValue, IsProgressOf, KeepShort, same_call}
 use Rattle.instance_core.specs.Jobs.{IsWholeJob}

@@ -16,7 +16,7 @@ use Rattle.tree_calls.specs.GetTree.{get_tree_changes}
 use Rattle.cas_service.specs.FindMissing.{find_missing_changes}
 use Rattle.cas_service.specs.BatchUpdate.{batch_update_changes}
 use Rattle.cas_service.specs.BatchRead.{batch_read_changes}
-use Rattle.execution_calls.specs.Asking.{execute_asked}
+use Rattle.execution.specs.Asking.{execute_asked}
 use Rattle.instance_core.specs.declared.event.CallId.{CallId}
 use Rattle.instance_core.specs.Calls.{ProgressValue, waits, has, writes, watches, CallValue, CallEventValue, head, message, fault, end, cancel, tick, start_jobs, end_late_jobs, end_job, call_at}
 use Rattle.instance_core.specs.Replies.{AnswerValue, one_message, messages, range, watching}

@@ -10,14 +10,14 @@ use Rattle.instance_view.specs.Visible.{Blob}
 use Rattle.tree_calls.specs.Complete.{AreResultsWithin}
 use Rattle.cas_service.specs.Changes as Texts
 use Rattle.job_queue.specs.Jobs.{running_job}
-use Rattle.outcomes.specs.Outcomes.{OutcomeValue}
-use Rattle.operations.specs.Operations.{EndValue}
-use Rattle.executor.specs.Job.{JobValue}
-use Rattle.executor.specs.Ordered.{order_meant, orders_by}
-use Rattle.executor.specs.Steps.{StepValue, end_steps, jobs_after_steps}
-use Rattle.executor.specs.Taking.{steps_shown}
-use Rattle.executor.specs.declared.steps.Step.{Step}
-use Rattle.execution_calls.specs.Ending.{EndingValue, admissions, results_with}
+use Rattle.run_outcomes.specs.Outcomes.{OutcomeValue}
+use Rattle.execution_messages.specs.Progress.{EndValue}
+use Rattle.execution.specs.Job.{JobValue}
+use Rattle.execution.specs.Ordered.{order_meant, orders_by}
+use Rattle.execution.specs.Steps.{StepValue, end_steps, jobs_after_steps}
+use Rattle.execution.specs.Taking.{steps_shown}
+use Rattle.execution.specs.declared.steps.Step.{Step}
+use Rattle.outcomes.specs.Ending.{EndingValue, admissions, results_with}
 use Rattle.instance_core.specs.declared.turns.Turn.{Turn}
 use Rattle.instance_core.specs.Answer.{changes_kept, ending_at, ending_changes, ending_steps, steps_at}
 use Rattle.instance_core.specs.Apart.{replies_to}

@@ -1,8 +1,8 @@
 -- What the run of a job leaves is admitted and stored, and the jobs stay as they were.
 use Rattle.std.proofs.Common.{◌≡◌, List, [], ◌∷◌, ◌++◌, map, Option, Some, None, refl, ◌∙◌}
-use Rattle.executor.specs.Job.{JobValue}
-use Rattle.execution_calls.specs.Ending.{admissions, results_with}
-use Rattle.outcomes.specs.Outcomes.{OutcomeValue}
+use Rattle.execution.specs.Job.{JobValue}
+use Rattle.outcomes.specs.Ending.{admissions, results_with}
+use Rattle.run_outcomes.specs.Outcomes.{OutcomeValue}
 use Rattle.instance_core.specs.Answer.{ending_at, ending_changes}
 use Rattle.instance_core.specs.Changes.{InstanceChange, Text, Keeps, state_after_change, state_after_changes}
 use Rattle.instance_core.specs.State.{InstanceState}

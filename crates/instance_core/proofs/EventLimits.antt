@@ -16,15 +16,15 @@ use Rattle.tree_calls.proofs.Short.{front_is_within, get_stays_within, update_st
 use Rattle.job_queue.specs.Jobs.{same_number, running_job}
 use Rattle.job_queue.specs.declared.queue.TheConstants.{LAST_NUMBER}
 use Rattle.job_queue.proofs.Orders.{found-among}
-use Rattle.operations.specs.Operations.{completed_text}
-use Rattle.executor.specs.Job.{JobValue}
-use Rattle.executor.specs.Execute as Executor
-use Rattle.executor.specs.Execute.{ExecuteChange, Uses, Does, Pushes}
-use Rattle.executor.specs.Orders.{told}
-use Rattle.executor.specs.Steps.{StepValue, start_steps, tick_steps, end_steps}
-use Rattle.outcomes.specs.Outcomes.{OutcomeValue}
-use Rattle.execution_calls.specs.Asking.{ExecuteAskedValue, execute_asked}
-use Rattle.execution_calls.specs.Ending.{admissions, results_with}
+use Rattle.execution_messages.specs.Progress.{completed_text}
+use Rattle.execution.specs.Job.{JobValue}
+use Rattle.execution.specs.Execute as Executor
+use Rattle.execution.specs.Execute.{ExecuteChange, Uses, Does, Pushes}
+use Rattle.execution.specs.Orders.{told}
+use Rattle.execution.specs.Steps.{StepValue, start_steps, tick_steps, end_steps}
+use Rattle.run_outcomes.specs.Outcomes.{OutcomeValue}
+use Rattle.execution.specs.Asking.{ExecuteAskedValue, execute_asked}
+use Rattle.outcomes.specs.Ending.{admissions, results_with}
 use Rattle.instance_core.specs.declared.event.CallId.{CallId}
 use Rattle.instance_core.specs.Calls.{ProgressValue, waits, has, writes, watches, CallValue, CallEventValue, head, message, fault, end, cancel, tick, start_jobs, end_late_jobs, end_job, call_at, IsShortEvent, IsNarrowOutcome}
 use Rattle.instance_core.specs.Jobs.{IsWholeJob}

@@ -13,11 +13,11 @@ use Rattle.tree_calls.specs.Complete.{AreResultsWithin}
 use Rattle.tree_calls.proofs.Short.{fronted_within}
 use Rattle.job_queue.specs.Jobs.{Jobs}
 use Rattle.job_queue.specs.declared.queue.TheConstants.{LAST_NUMBER, MOST_WAITING}
-use Rattle.operations.specs.Operations.{completed_text, finds, fails, queued_text}
-use Rattle.executor.specs.Job.{JobValue}
-use Rattle.executor.specs.Preparing.{FaultValue, PreparedValue, prepared, met, job_of}
-use Rattle.executor.specs.Execute.{ExecuteChange, ExecuteDone, Uses, Does, Pushes, queued, by_job, by_looking, by_preparing, execute, look_in, looked_up, refused}
-use Rattle.execution_calls.specs.Asking.{ExecuteAskedValue, execute_asked}
+use Rattle.execution_messages.specs.Progress.{completed_text, finds, fails, queued_text}
+use Rattle.execution.specs.Job.{JobValue}
+use Rattle.execution.specs.Preparing.{FaultValue, PreparedValue, prepared, met, job_of}
+use Rattle.execution.specs.Execute.{ExecuteChange, ExecuteDone, Uses, Does, Pushes, queued, by_job, by_looking, by_preparing, execute, look_in, looked_up, refused}
+use Rattle.execution.specs.Asking.{ExecuteAskedValue, execute_asked}
 use Rattle.instance_core.specs.Changes.{Text, Keeps, state_after_change}
 use Rattle.instance_core.specs.Methods.{execution_state, execution_change, execution_changes}
 use Rattle.instance_core.specs.State.{InstanceState, IsInstanceWithin, seen}

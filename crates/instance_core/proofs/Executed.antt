@@ -22,21 +22,21 @@ use Rattle.cas_service.specs.declared.error.CallError.TheVariants.{Refused, NoMe
 use Rattle.cas_service.specs.Answers.{Fails}
 use Rattle.action_cache.specs.Answering.{blobs_used}
 use Rattle.job_queue.specs.Jobs.{Jobs}
-use Rattle.operations.specs.Operations.{completed_text, finds, queued_text}
+use Rattle.execution_messages.specs.Progress.{completed_text, finds, queued_text}
 use Rattle.job_queue.specs.declared.queue.TheConstants.{LAST_NUMBER, MOST_WAITING}
-use Rattle.executor.specs.declared.job.Executions.{Executions}
-use Rattle.executor.specs.declared.job.Job.{Job}
-use Rattle.executor.specs.declared.answer.ExecuteAnswer as CodeExecute
-use Rattle.executor.specs.declared.answer.ExecuteAnswer.TheVariants.{Done, Queued}
-use Rattle.executor.specs.Answers as Shown
-use Rattle.executor.specs.Changes.{after_changes}
-use Rattle.executor.specs.Execute as Executor
-use Rattle.executor.specs.Execute.{ExecuteAnswer, ExecuteChange, ExecuteDone, ExecutionState, Uses, Keeps, Does, Pushes, queued, by_job, by_looking, by_preparing, execute, look_in, looked_up}
-use Rattle.executor.specs.InPool.{execution_in, jobs_holders, jobs_in}
-use Rattle.executor.specs.Job.{JobValue}
-use Rattle.executor.specs.Preparing.{FaultValue, PreparedValue, job_of, met, prepared}
-use Rattle.executor.proofs.Calling.{jobs_same}
-use Rattle.execution_calls.specs.Asking.{ExecuteAskedValue, execute_asked}
+use Rattle.execution.specs.declared.job.Executions.{Executions}
+use Rattle.execution.specs.declared.job.Job.{Job}
+use Rattle.execution.specs.declared.answer.ExecuteAnswer as CodeExecute
+use Rattle.execution.specs.declared.answer.ExecuteAnswer.TheVariants.{Done, Queued}
+use Rattle.execution.specs.Answers as Shown
+use Rattle.execution.specs.Changes.{after_changes}
+use Rattle.execution.specs.Execute as Executor
+use Rattle.execution.specs.Execute.{ExecuteAnswer, ExecuteChange, ExecuteDone, ExecutionState, Uses, Keeps, Does, Pushes, queued, by_job, by_looking, by_preparing, execute, look_in, looked_up}
+use Rattle.execution.specs.InPool.{execution_in, jobs_holders, jobs_in}
+use Rattle.execution.specs.Job.{JobValue}
+use Rattle.execution.specs.Preparing.{FaultValue, PreparedValue, job_of, met, prepared}
+use Rattle.execution.proofs.Calling.{jobs_same}
+use Rattle.execution.specs.Asking.{ExecuteAskedValue, execute_asked}
 use Rattle.instance_core.specs.declared.contents.Settings.{Settings}
 use Rattle.instance_core.specs.declared.contents.Contents.{Contents}
 use Rattle.instance_core.specs.Calls.{Calls}

@@ -10,12 +10,12 @@ use Rattle.job_queue.specs.declared.queue.Running.{Running}
 use Rattle.job_queue.specs.declared.queue.TheConstants.{LAST_NUMBER, MOST_WAITING, MOST_RUNNING}
 use Rattle.job_queue.proofs.Orders.{all-append, all-drop}
 use Rattle.job_queue.proofs.Keeping.{after-push, after-done}
-use Rattle.operations.specs.Operations.{EndValue}
-use Rattle.executor.specs.Job.{JobValue}
-use Rattle.executor.specs.Orders.{told}
-use Rattle.executor.specs.Steps.{StepValue, times_out, ends, starts, change_of, jobs_after_steps, timings_out, ending_of, tick_steps, start_steps, end_steps}
-use Rattle.executor.proofs.Timings.{tick-ends, outcome-ends, nothing-ends}
-use Rattle.executor.proofs.Turns.{turn-keeps, turn-few}
+use Rattle.execution_messages.specs.Progress.{EndValue}
+use Rattle.execution.specs.Job.{JobValue}
+use Rattle.execution.specs.Orders.{told}
+use Rattle.execution.specs.Steps.{StepValue, times_out, ends, starts, change_of, jobs_after_steps, timings_out, ending_of, tick_steps, start_steps, end_steps}
+use Rattle.execution.proofs.Timings.{tick-ends, outcome-ends, nothing-ends}
+use Rattle.execution.proofs.Turns.{turn-keeps, turn-few}
 use Rattle.instance_core.specs.Jobs.{IsWholeJob, AreWhole, AreToldShortly}
 use Rattle.instance_core.proofs.OperationSizes.{IsShort, AreShortSteps, AreTold}
 

@@ -7,14 +7,14 @@ use Rattle.rpc.specs.declared.refusal.Refusal.{Refusal}
 use Rattle.rpc.specs.declared.method.Method.TheVariants.{Execute, WaitExecution}
 use Rattle.bytestream.specs.Reading.{SourceValue}
 use Rattle.job_queue.specs.Jobs.{running_job}
-use Rattle.outcomes.specs.Outcomes.{OutcomeValue}
-use Rattle.executor.specs.Job.{JobValue}
-use Rattle.executor.specs.Orders.{ToldValue, told}
-use Rattle.executor.specs.Steps.{StepValue, start_steps, tick_steps, end_steps}
-use Rattle.executor.specs.Execute.{ExecuteAnswer, done, queued}
-use Rattle.executor.specs.Waiting as Waiting
-use Rattle.executor.specs.Waiting.{WaitAnswer, has_told, wait}
-use Rattle.execution_calls.specs.Asking.{ExecuteAskedValue, execute_asked, name_asked}
+use Rattle.run_outcomes.specs.Outcomes.{OutcomeValue}
+use Rattle.execution.specs.Job.{JobValue}
+use Rattle.execution.specs.Orders.{ToldValue, told}
+use Rattle.execution.specs.Steps.{StepValue, start_steps, tick_steps, end_steps}
+use Rattle.execution.specs.Execute.{ExecuteAnswer, done, queued}
+use Rattle.execution.specs.Waiting as Waiting
+use Rattle.execution.specs.Waiting.{WaitAnswer, has_told, wait}
+use Rattle.execution.specs.Asking.{ExecuteAskedValue, execute_asked, name_asked}
 use Rattle.instance_core.specs.declared.event.CallId.{CallId}
 use Rattle.instance_core.specs.Calls.{Calls, IsNarrowOutcome}
 use Rattle.instance_core.specs.State.{InstanceState, IsInstanceWithin}

@@ -7,13 +7,13 @@ use Rattle.rpc.specs.declared.method.Method.{Method}
 use Rattle.rpc.specs.declared.method.Method.TheVariants as Called
 use Rattle.rpc.specs.declared.refusal.Refusal.{Refusal}
 use Rattle.job_queue.specs.Jobs.{running_job}
-use Rattle.executor.specs.Job.{JobValue}
-use Rattle.executor.specs.Execute as Executor
-use Rattle.executor.specs.Execute.{ExecuteChange}
-use Rattle.executor.specs.Steps.{StepValue}
-use Rattle.outcomes.specs.Outcomes.{OutcomeValue}
-use Rattle.execution_calls.specs.Asking.{ExecuteAskedValue, execute_asked}
-use Rattle.execution_calls.specs.Ending.{admissions, results_with}
+use Rattle.execution.specs.Job.{JobValue}
+use Rattle.execution.specs.Execute as Executor
+use Rattle.execution.specs.Execute.{ExecuteChange}
+use Rattle.execution.specs.Steps.{StepValue}
+use Rattle.run_outcomes.specs.Outcomes.{OutcomeValue}
+use Rattle.execution.specs.Asking.{ExecuteAskedValue, execute_asked}
+use Rattle.outcomes.specs.Ending.{admissions, results_with}
 use Rattle.instance_core.specs.declared.event.CallId.{CallId}
 use Rattle.instance_core.specs.Calls.{Calls, ProgressValue, waits, has, writes, watches, CallValue, CallEventValue, head, message, fault, end, cancel, tick, start_jobs, end_late_jobs, end_job, call_at, same_call, with_call, without_call}
 use Rattle.instance_core.specs.State.{InstanceState}

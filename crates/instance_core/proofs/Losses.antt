@@ -21,14 +21,14 @@ use Rattle.uploads.specs.Writing.{PieceValue, is_place, if_ok, piece_answer, fin
 use Rattle.action_cache.specs.Answering.{blobs_for, blobs_used, results_after}
 use Rattle.job_queue.specs.Jobs.{running_job}
 use Rattle.job_queue.specs.declared.queue.TheConstants.{LAST_NUMBER, MOST_WAITING}
-use Rattle.operations.specs.Operations.{completed_text, finds, queued_text}
-use Rattle.executor.specs.Job.{JobValue}
-use Rattle.executor.specs.Preparing.{FaultValue, PreparedValue, prepared, met, job_of}
-use Rattle.executor.specs.Execute as Executor
-use Rattle.executor.specs.Execute.{ExecuteChange, ExecuteDone, queued, by_fault, by_job, by_looking, by_preparing, execute, look_in, looked_up, refused as refused_with}
-use Rattle.outcomes.specs.Outcomes.{OutcomeValue}
-use Rattle.execution_calls.specs.Asking.{ExecuteAskedValue, execute_asked}
-use Rattle.execution_calls.specs.Ending.{admissions, results_with}
+use Rattle.execution_messages.specs.Progress.{completed_text, finds, queued_text}
+use Rattle.execution.specs.Job.{JobValue}
+use Rattle.execution.specs.Preparing.{FaultValue, PreparedValue, prepared, met, job_of}
+use Rattle.execution.specs.Execute as Executor
+use Rattle.execution.specs.Execute.{ExecuteChange, ExecuteDone, queued, by_fault, by_job, by_looking, by_preparing, execute, look_in, looked_up, refused as refused_with}
+use Rattle.run_outcomes.specs.Outcomes.{OutcomeValue}
+use Rattle.execution.specs.Asking.{ExecuteAskedValue, execute_asked}
+use Rattle.outcomes.specs.Ending.{admissions, results_with}
 use Rattle.tree_calls.specs.Asking.{ResultSentValue, action_asked, result_sent}
 use Rattle.tree_calls.specs.GetTree.{texts_seen, get_tree_changes}
 use Rattle.tree_calls.specs.Results.{get_action_result_changes, after_asking, after_sending}

@@ -33,16 +33,16 @@ use Rattle.tree_calls.specs.Listing.{tree_list}
 use Rattle.instance_core.specs.Replies.{ReplyItemValue, says, gives, ends, ReplyValue, one_message, messages, range, answering, items_of}
 use Rattle.instance_core.specs.Changes.{InstanceChange}
 use Rattle.instance_core.specs.Methods.{answer_to, executed, execution_state, execute_answered, wait_answered}
-use Rattle.executor.specs.Execute as Executor
-use Rattle.executor.specs.Execute.{ExecuteAnswer, ExecuteDone, done, queued, by_job, by_looking, by_preparing, execute, look_in, looked_up, refused as refused_with}
-use Rattle.executor.specs.Preparing.{FaultValue, PreparedValue, prepared, met, job_of}
+use Rattle.execution.specs.Execute as Executor
+use Rattle.execution.specs.Execute.{ExecuteAnswer, ExecuteDone, done, queued, by_job, by_looking, by_preparing, execute, look_in, looked_up, refused as refused_with}
+use Rattle.execution.specs.Preparing.{FaultValue, PreparedValue, prepared, met, job_of}
 use Rattle.job_queue.specs.declared.queue.TheConstants.{LAST_NUMBER, MOST_WAITING}
-use Rattle.operations.specs.Operations.{queued_text}
-use Rattle.executor.specs.Orders.{ToldValue, told}
-use Rattle.executor.specs.Steps.{StepValue}
-use Rattle.executor.specs.Waiting as Waiting
-use Rattle.executor.specs.Waiting.{WaitAnswer, has_told, wait}
-use Rattle.execution_calls.specs.Asking.{ExecuteAskedValue, execute_asked, name_asked}
+use Rattle.execution_messages.specs.Progress.{queued_text}
+use Rattle.execution.specs.Orders.{ToldValue, told}
+use Rattle.execution.specs.Steps.{StepValue}
+use Rattle.execution.specs.Waiting as Waiting
+use Rattle.execution.specs.Waiting.{WaitAnswer, has_told, wait}
+use Rattle.execution.specs.Asking.{ExecuteAskedValue, execute_asked, name_asked}
 use Rattle.instance_core.specs.Watching.{watchers, told_items, told_reply, replies_told, replies_to_watchers}
 use Rattle.instance_core.proofs.NamedTexts.{all_append}
 use Rattle.instance_core.specs.Writes.{write_state, first_changes, next_changes, first_outcome, next_outcome}

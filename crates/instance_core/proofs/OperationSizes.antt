@@ -15,20 +15,20 @@ use Rattle.job_queue.specs.Order.{AreJobs}
 use Rattle.job_queue.specs.declared.queue.Running.{Running}
 use Rattle.job_queue.specs.declared.queue.TheConstants.{LAST_NUMBER}
 use Rattle.job_queue.proofs.Orders.{all-weaker}
-use Rattle.action_reading.specs.Commands.{asked_outputs, command_in}
+use Rattle.actions.specs.Commands.{asked_outputs, command_in}
 use Rattle.execution_messages.specs.Requests.{execute_request_of}
 use Rattle.execution_messages.specs.Actions.{CommandValue}
-use Rattle.operations.specs.declared.fault.Fault.{Fault}
-use Rattle.operations.specs.Operations.{EndValue, gives, fails, completed_text}
-use Rattle.outcomes.specs.Outcomes.{ExitedValue, OutputValue}
+use Rattle.execution_messages.specs.declared.fault.Fault.{Fault}
+use Rattle.execution_messages.specs.Progress.{EndValue, gives, fails, completed_text}
+use Rattle.run_outcomes.specs.Outcomes.{ExitedValue, OutputValue}
 use Rattle.outcomes.specs.Asked.{are_asked}
 use Rattle.outcomes.specs.Results.{blobs_given, result_text}
-use Rattle.executor.specs.Job.{JobValue}
-use Rattle.executor.specs.Execute.{ExecutionState, execute}
-use Rattle.executor.specs.Steps.{StepValue, tick_steps, end_steps, start_steps}
-use Rattle.executor.specs.Waiting.{wait}
-use Rattle.execution_calls.specs.Asking.{ExecuteAskedValue, execute_asked}
-use Rattle.execution_calls.specs.Ending.{outputs_asked}
+use Rattle.execution.specs.Job.{JobValue}
+use Rattle.execution.specs.Execute.{ExecutionState, execute}
+use Rattle.execution.specs.Steps.{StepValue, tick_steps, end_steps, start_steps}
+use Rattle.execution.specs.Waiting.{wait}
+use Rattle.execution.specs.Asking.{ExecuteAskedValue, execute_asked}
+use Rattle.outcomes.specs.Ending.{outputs_asked}
 use Rattle.operation_sizes.specs.Told as Sizes
 use Rattle.operation_sizes.specs.Told.{IsShortExecuteAnswer, IsShortWaitAnswer}
 use Rattle.operation_sizes.proofs.Executing as Lemmas

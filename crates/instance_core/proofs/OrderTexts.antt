@@ -5,9 +5,9 @@ use Rattle.std.specs.List.{AllByRecursion, filter_map}
 use Rattle.std.specs.Map.{lookup}
 use Rattle.job_queue.specs.Jobs.{Jobs, same_number}
 use Rattle.job_queue.specs.declared.queue.Running.{Running}
-use Rattle.executor.specs.Job.{JobValue}
-use Rattle.executor.specs.Orders.{OrderValue, start, order_of}
-use Rattle.executor.specs.Steps.{StepValue, times_out, ends, starts, jobs_after_steps}
+use Rattle.execution.specs.Job.{JobValue}
+use Rattle.execution.specs.Orders.{OrderValue, start, order_of}
+use Rattle.execution.specs.Steps.{StepValue, times_out, ends, starts, jobs_after_steps}
 use Rattle.instance_core.specs.Answer.{orders_at, steps_at}
 use Rattle.instance_core.specs.Calls.{CallEventValue}
 use Rattle.instance_core.specs.Jobs.{AreWhole, IsWholeOrder}

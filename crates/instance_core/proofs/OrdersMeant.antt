@@ -2,13 +2,13 @@
 use Rattle.std.proofs.Common.{◌≡◌, ℕ, List, [], ◌∷◌, map, Option, Some, None, refl, ap, ◌∙◌}
 use Rattle.std.specs.List.{cons_option, filter_map}
 use Rattle.job_queue.specs.Jobs.{Jobs, running_job}
-use Rattle.outcomes.specs.Outcomes.{OutcomeValue}
-use Rattle.executor.specs.declared.orders.Order.{Order}
-use Rattle.executor.specs.Job.{JobValue}
-use Rattle.executor.specs.Ordered.{order_meant, orders_by}
-use Rattle.executor.specs.Orders.{OrderValue, orders_of}
-use Rattle.executor.specs.Steps.{StepValue, ending_of, jobs_after_steps, timings_out}
-use Rattle.executor.proofs.StartedJobs.{ending-is, timings-are, turn-meant}
+use Rattle.run_outcomes.specs.Outcomes.{OutcomeValue}
+use Rattle.execution.specs.declared.orders.Order.{Order}
+use Rattle.execution.specs.Job.{JobValue}
+use Rattle.execution.specs.Ordered.{order_meant, orders_by}
+use Rattle.execution.specs.Orders.{OrderValue, orders_of}
+use Rattle.execution.specs.Steps.{StepValue, ending_of, jobs_after_steps, timings_out}
+use Rattle.execution.proofs.StartedJobs.{ending-is, timings-are, turn-meant}
 use Rattle.instance_core.specs.Answer.{ending_at, ending_steps, steps_at}
 use Rattle.instance_core.specs.Calls.{CallEventValue, start_jobs, end_late_jobs, end_job}
 use Rattle.instance_core.specs.State.{InstanceState}

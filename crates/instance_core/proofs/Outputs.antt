@@ -13,17 +13,17 @@ use Rattle.quota_evict.specs.Within.{AreBlobsWithin, most_stored_bytes, most_blo
 use Rattle.quota_evict.proofs.Seen.{seen_named}
 use Rattle.job_queue.proofs.Orders.{all-weaker}
 use Rattle.job_queue.specs.declared.queue.TheConstants.{LAST_NUMBER}
-use Rattle.operations.specs.Statuses.{distinct}
-use Rattle.operations.specs.Operations.{gives, completed_text}
-use Rattle.operations.specs.declared.fault.Fault.TheVariants.{QuotaExceeded, RunFailed}
-use Rattle.operations.proofs.EachOnce.{among, same-ones}
+use Rattle.execution_messages.specs.Statuses.{distinct}
+use Rattle.execution_messages.specs.Progress.{gives, completed_text}
+use Rattle.execution_messages.specs.declared.fault.Fault.TheVariants.{QuotaExceeded, RunFailed}
+use Rattle.execution_messages.proofs.EachOnce.{among, same-ones}
 use Rattle.outcomes.specs.Asked.{are_asked}
 use Rattle.outcomes.specs.Naming.{blob_like}
-use Rattle.outcomes.specs.Outcomes.{ExitedValue, NodeKindValue, OutputNodeValue, OutputValue, OutcomeValue, as_directory, as_file, output_file, output_tree, failed, exited}
+use Rattle.run_outcomes.specs.Outcomes.{ExitedValue, NodeKindValue, OutputNodeValue, OutputValue, OutcomeValue, as_directory, as_file, output_file, output_tree, failed, exited}
 use Rattle.outcomes.specs.Results.{CompletionValue, blobs_given, file_blobs, node_blob, node_blobs, tree_blobs, stream_blobs, are_outputs, is_output, fresh_bytes, result_text, sizes_of}
 use Rattle.outcomes.specs.Trees.{tree_text}
-use Rattle.executor.specs.Job.{JobValue}
-use Rattle.execution_calls.specs.Ending.{EndingValue, admissions, completed_if, ending, failure, outputs_asked, stored_of, too_much}
+use Rattle.execution.specs.Job.{JobValue}
+use Rattle.outcomes.specs.Ending.{EndingValue, admissions, completed_if, ending, failure, outputs_asked, stored_of, too_much}
 use Rattle.instance_core.specs.Calls.{IsNarrowOutcome}
 use Rattle.instance_core.specs.Named.{StoresNamedText}
 use Rattle.instance_core.proofs.NamedTexts.{all_append}

@@ -12,11 +12,11 @@ use Rattle.job_queue.specs.Jobs.{Jobs, no_jobs, running_job, same_number}
 use Rattle.job_queue.specs.Order.{AreJobs, AreRising, IsNone, open_numbers}
 use Rattle.job_queue.specs.declared.queue.Running.{Running}
 use Rattle.job_queue.specs.declared.queue.TheConstants.{MOST_WAITING, MOST_RUNNING}
-use Rattle.executor.specs.declared.job.Job.{Job}
-use Rattle.executor.specs.InPool.{jobs_in, waiting_in, running_in}
-use Rattle.executor.specs.Steps.{StepValue}
-use Rattle.executor.proofs.Calling.{running_found, running_job_in}
-use Rattle.executor.proofs.Taken.{numbers-shown}
+use Rattle.execution.specs.declared.job.Job.{Job}
+use Rattle.execution.specs.InPool.{jobs_in, waiting_in, running_in}
+use Rattle.execution.specs.Steps.{StepValue}
+use Rattle.execution.proofs.Calling.{running_found, running_job_in}
+use Rattle.execution.proofs.Taken.{numbers-shown}
 use Rattle.instance_core.specs.declared.event.Reply.{Reply}
 use Rattle.instance_core.specs.declared.turns.Turn.{Turn}
 use Rattle.instance_core.specs.Apart.{AreRepliesTo, replies_on}

@@ -18,13 +18,13 @@ use Rattle.uploads.specs.Uploads.{KeyValue, text_so_far}
 use Rattle.uploads.specs.Writing.{finish_answer, after_piece}
 use Rattle.bytestream.specs.Writing.{PartValue, WriteState, part_outcome, after_last_part, after_end, after_taking, after_part}
 use Rattle.job_queue.specs.Jobs.{running_job}
-use Rattle.executor.specs.Job.{JobValue}
-use Rattle.executor.specs.Execute as Executor
-use Rattle.executor.specs.Execute.{ExecuteChange}
-use Rattle.executor.specs.Steps.{StepValue}
-use Rattle.outcomes.specs.Outcomes.{OutcomeValue}
-use Rattle.execution_calls.specs.Asking.{ExecuteAskedValue, execute_asked}
-use Rattle.execution_calls.specs.Ending.{admissions, results_with}
+use Rattle.execution.specs.Job.{JobValue}
+use Rattle.execution.specs.Execute as Executor
+use Rattle.execution.specs.Execute.{ExecuteChange}
+use Rattle.execution.specs.Steps.{StepValue}
+use Rattle.run_outcomes.specs.Outcomes.{OutcomeValue}
+use Rattle.execution.specs.Asking.{ExecuteAskedValue, execute_asked}
+use Rattle.outcomes.specs.Ending.{admissions, results_with}
 use Rattle.instance_core.specs.declared.event.CallId.{CallId}
 use Rattle.instance_core.specs.Calls.{ProgressValue, waits, has, writes, watches, CallEventValue, head, message, fault, end, cancel, tick, start_jobs, end_late_jobs, end_job}
 use Rattle.instance_core.specs.State.{InstanceState, most_blobs}

@@ -16,13 +16,13 @@ use Rattle.job_queue.specs.Sums.{waiting_sum, running_sum}
 use Rattle.job_queue.specs.declared.queue.Running.{Running}
 use Rattle.job_queue.proofs.Keeping.{after-forget}
 use Rattle.job_queue.proofs.Orders.{length-without}
-use Rattle.executor.specs.declared.job.Executions.{Executions}
-use Rattle.executor.specs.declared.job.Job.{Job}
-use Rattle.executor.specs.Job.{JobValue}
-use Rattle.executor.specs.InPool.{job_holders, jobs_holders, jobs_in}
-use Rattle.executor.specs.Keeping.{kept_entry, kept_entries}
-use Rattle.executor.proofs.Calling.{jobs_same}
-use Rattle.outcomes.specs.Outcomes.{OutcomeValue}
+use Rattle.execution.specs.declared.job.Executions.{Executions}
+use Rattle.execution.specs.declared.job.Job.{Job}
+use Rattle.execution.specs.Job.{JobValue}
+use Rattle.execution.specs.InPool.{job_holders, jobs_holders, jobs_in}
+use Rattle.execution.specs.Keeping.{kept_entry, kept_entries}
+use Rattle.execution.proofs.Calling.{jobs_same}
+use Rattle.run_outcomes.specs.Outcomes.{OutcomeValue}
 use Rattle.instance_core.specs.declared.contents.Contents.{Contents}
 use Rattle.instance_core.specs.declared.contents.Settings.{Settings}
 use Rattle.instance_core.specs.declared.turns.Turn.{Turn}

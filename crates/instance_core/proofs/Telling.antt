@@ -7,12 +7,12 @@ use Rattle.std.proofs.lemmas.List.Concat.{flat_map-cons}
 use Rattle.std.proofs.lemmas.List.Elements.{filter-append, filter_map-append}
 use Rattle.std.proofs.Math.Seq.{drop-cons}
 use Rattle.std.proofs.lemmas.Option.{get_or_from_slice_get, slice_get-get_or, slice_get_within}
-use Rattle.executor.specs.Orders.{ToldValue, told}
-use Rattle.executor.specs.Ordered.{order_by, orders_by}
-use Rattle.executor.specs.Steps.{StepValue}
-use Rattle.executor.specs.Taking.{step_shown, steps_shown}
-use Rattle.executor.specs.declared.orders.Order.{Order}
-use Rattle.executor.specs.declared.steps.Step.{Step}
+use Rattle.execution.specs.Orders.{ToldValue, told}
+use Rattle.execution.specs.Ordered.{order_by, orders_by}
+use Rattle.execution.specs.Steps.{StepValue}
+use Rattle.execution.specs.Taking.{step_shown, steps_shown}
+use Rattle.execution.specs.declared.orders.Order.{Order}
+use Rattle.execution.specs.declared.steps.Step.{Step}
 use Rattle.instance_core.specs.declared.event.CallId.{CallId}
 use Rattle.instance_core.specs.declared.event.Reply.{Reply}
 use Rattle.instance_core.specs.ReplyHolders.{items_holders, replies_holders}

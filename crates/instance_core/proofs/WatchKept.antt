@@ -19,13 +19,13 @@ use Rattle.job_queue.specs.declared.queue.Running.{Running}
 use Rattle.job_queue.specs.declared.queue.TheConstants.{LAST_NUMBER, MOST_WAITING}
 use Rattle.job_queue.specs.Order.{AreJobs}
 use Rattle.job_queue.proofs.Orders.{all-append, all-weaker}
-use Rattle.executor.specs.Job.{JobValue}
-use Rattle.executor.specs.Preparing.{FaultValue, PreparedValue, prepared, met, job_of}
-use Rattle.executor.specs.Execute as Executor
-use Rattle.executor.specs.Execute.{ExecutionState, ExecuteAnswer, done, queued, ExecuteChange, ExecuteDone, look_in, by_result, by_job, by_preparing, by_looking, looked_up, execute}
+use Rattle.execution.specs.Job.{JobValue}
+use Rattle.execution.specs.Preparing.{FaultValue, PreparedValue, prepared, met, job_of}
+use Rattle.execution.specs.Execute as Executor
+use Rattle.execution.specs.Execute.{ExecutionState, ExecuteAnswer, done, queued, ExecuteChange, ExecuteDone, look_in, by_result, by_job, by_preparing, by_looking, looked_up, execute}
 use Rattle.action_cache.specs.Answering.{blobs_used}
-use Rattle.executor.specs.Waiting.{number_named, wait_answer, wait_for, wait}
-use Rattle.execution_calls.specs.Asking.{ExecuteAskedValue, execute_asked, name_asked}
+use Rattle.execution.specs.Waiting.{number_named, wait_answer, wait_for, wait}
+use Rattle.execution.specs.Asking.{ExecuteAskedValue, execute_asked, name_asked}
 use Rattle.instance_core.specs.declared.event.CallId.{CallId}
 use Rattle.instance_core.specs.Calls.{Calls, CallValue, ProgressValue, waits, has, writes, watches, CallEventValue, head, message, fault, end, cancel, tick, start_jobs, end_late_jobs, end_job, same_call, call_at, with_call, without_call}
 use Rattle.instance_core.specs.Replies.{AnswerValue, one_message, messages, range, watching, answering}

@@ -9,12 +9,12 @@ use Rattle.instance_view.specs.Visible.{Blob}
 use Rattle.job_queue.specs.Jobs.{Jobs, same_number, running_job}
 use Rattle.job_queue.specs.Changes.{jobs_after}
 use Rattle.job_queue.proofs.Orders.{all-weaker}
-use Rattle.executor.specs.Job.{JobValue}
-use Rattle.executor.specs.Orders.{ToldValue, told}
-use Rattle.executor.specs.Steps.{StepValue, times_out, ends, starts, change_of, jobs_after_steps, start_of, starts_of, timings_out, ending_of, then_starts}
-use Rattle.executor.proofs.Turns.{turn-fills}
-use Rattle.outcomes.specs.Outcomes.{OutcomeValue}
-use Rattle.execution_calls.specs.Ending.{admissions, results_with}
+use Rattle.execution.specs.Job.{JobValue}
+use Rattle.execution.specs.Orders.{ToldValue, told}
+use Rattle.execution.specs.Steps.{StepValue, times_out, ends, starts, change_of, jobs_after_steps, start_of, starts_of, timings_out, ending_of, then_starts}
+use Rattle.execution.proofs.Turns.{turn-fills}
+use Rattle.run_outcomes.specs.Outcomes.{OutcomeValue}
+use Rattle.outcomes.specs.Ending.{admissions, results_with}
 use Rattle.instance_core.specs.declared.event.CallId.{CallId}
 use Rattle.instance_core.specs.Calls.{Calls, CallValue, ProgressValue, waits, has, writes, watches, cancel, tick, start_jobs, end_late_jobs, end_job}
 use Rattle.instance_core.specs.Replies.{ReplyValue}

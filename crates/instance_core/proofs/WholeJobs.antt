@@ -10,14 +10,14 @@ use Rattle.digest.proofs.Same.{same_equal, same_refl}
 use Rattle.instance_view.specs.Visible.{Blob, visible_text}
 use Rattle.quota_evict.proofs.Seen.{named_by}
 use Rattle.job_queue.proofs.Orders.{all-weaker}
-use Rattle.tree_plan.specs.Nodes.{NodeKindValue, PlanNodeValue, file, symlink, directory}
-use Rattle.tree_plan.specs.Walk.{Nodes, nodes_met, nodes_unless_missing, digest_of_node, digests_met, missing_among, plan_of, walk}
-use Rattle.operations.specs.Statuses.{distinct}
-use Rattle.operations.proofs.EachOnce.{among, same-ones}
-use Rattle.action_reading.specs.Actions.{ActionTaken}
-use Rattle.executor.proofs.Numbers.{texts-once}
-use Rattle.executor.specs.Job.{found_text, kept_text, kept_along, kept_texts}
-use Rattle.executor.specs.Preparing.{FaultValue, PreparedValue, action_found, command_found, prepared_with, prepared, met, job_of}
+use Rattle.actions.specs.Nodes.{NodeKindValue, PlanNodeValue, file, symlink, directory}
+use Rattle.actions.specs.Walk.{Nodes, nodes_met, nodes_unless_missing, digest_of_node, digests_met, missing_among, plan_of, walk}
+use Rattle.execution_messages.specs.Statuses.{distinct}
+use Rattle.execution_messages.proofs.EachOnce.{among, same-ones}
+use Rattle.actions.specs.Actions.{ActionTaken}
+use Rattle.execution.proofs.Numbers.{texts-once}
+use Rattle.execution.specs.Job.{found_text, kept_text, kept_along, kept_texts}
+use Rattle.execution.specs.Preparing.{FaultValue, PreparedValue, action_found, command_found, prepared_with, prepared, met, job_of}
 use Rattle.instance_core.specs.Jobs.{HasText, HasContent, IsWholeTask, IsWholeJob}
 use Rattle.instance_core.proofs.NamedTexts.{all_append}
 use Rattle.instance_core.proofs.OperationSizes.{HasForm}

@@ -9,8 +9,8 @@
 -- of a Write leaves, `Keeps`, the results that a call leaves, `Goes`, a call begins or goes on,
 -- `Ends`, a call ends, `Expires`, old uploads are forgotten, `Does` and `Pushes`, an execution is
 -- done or waits under a new number, or `Settles`, jobs end and start (Changes.antt). `ending`
--- (execution_calls, Ending.antt) is what becomes of a job whose run gave an outcome, and
--- `start_steps`, `tick_steps` and `end_steps` (executor, Steps.antt) which jobs end and start.
+-- (outcomes, Ending.antt) is what becomes of a job whose run gave an outcome, and
+-- `start_steps`, `tick_steps` and `end_steps` (execution, Steps.antt) which jobs end and start.
 use Rattle.std.specs.Prelude.{ℕ, List, [], ◌∷◌, ◌++◌, map, Option, Some, None, Result, Ok, Err}
 use Rattle.digest.specs.declared.Digest.{Digest}
 use Rattle.instance_view.specs.Visible.{Blob}
@@ -19,11 +19,11 @@ use Rattle.rpc.specs.declared.method.Method.TheVariants as Called
 use Rattle.rpc.specs.declared.refusal.Refusal.{Refusal}
 use Rattle.rpc.specs.declared.refusal.Refusal.TheVariants.{NoMessage, MoreThanOneMessage}
 use Rattle.job_queue.specs.Jobs.{running_job}
-use Rattle.executor.specs.Job.{JobValue}
-use Rattle.executor.specs.Orders.{OrderValue, orders_of}
-use Rattle.executor.specs.Steps.{StepValue, start_steps, tick_steps, end_steps}
-use Rattle.outcomes.specs.Outcomes.{OutcomeValue}
-use Rattle.execution_calls.specs.Ending.{EndingValue, admissions, ending, results_with}
+use Rattle.execution.specs.Job.{JobValue}
+use Rattle.execution.specs.Orders.{OrderValue, orders_of}
+use Rattle.execution.specs.Steps.{StepValue, start_steps, tick_steps, end_steps}
+use Rattle.run_outcomes.specs.Outcomes.{OutcomeValue}
+use Rattle.outcomes.specs.Ending.{EndingValue, admissions, ending, results_with}
 use Rattle.bytestream.specs.Writing as Writing
 use Rattle.bytestream.specs.Writing.{WrittenValue, unfinished_reply}
 use Rattle.instance_core.specs.declared.event.CallId.{CallId}

@@ -18,11 +18,11 @@ use Rattle.instance_core.specs.Replies.{AnswerValue, one_message, messages, rang
 use Rattle.instance_core.specs.Changes.{InstanceChange, state_after_changes, MadeInPart}
 use Rattle.instance_core.specs.Contents.{AreContentsWithin}
 use Rattle.instance_core.specs.Methods.{answer_to, request_changes}
-use Rattle.executor.specs.declared.answer.ExecuteAnswer as Code
-use Rattle.executor.specs.declared.answer.ExecuteAnswer.TheVariants.{Done, Queued}
-use Rattle.executor.specs.declared.answer.WaitAnswer as Wait
-use Rattle.executor.specs.declared.answer.WaitAnswer.TheVariants.{HasTold, Watches}
-use Rattle.executor.specs.InPool.{jobs_holders}
+use Rattle.execution.specs.declared.answer.ExecuteAnswer as Code
+use Rattle.execution.specs.declared.answer.ExecuteAnswer.TheVariants.{Done, Queued}
+use Rattle.execution.specs.declared.answer.WaitAnswer as Wait
+use Rattle.execution.specs.declared.answer.WaitAnswer.TheVariants.{HasTold, Watches}
+use Rattle.execution.specs.InPool.{jobs_holders}
 use Rattle.instance_core.specs.Shown.{Ongoing, ongoing_in, contents_seen}
 use Rattle.instance_core.specs.State.{InstanceState}
 

@@ -6,8 +6,8 @@ use Rattle.instance_view.specs.Visible.{Blob}
 use Rattle.uploads.specs.Uploads.{uploads_at}
 use Rattle.bytestream.specs.Writing.{WriteState}
 use Rattle.job_queue.specs.Jobs.{jobs_after_done, jobs_after_push}
-use Rattle.executor.specs.Job.{JobValue}
-use Rattle.executor.specs.Steps.{StepValue, jobs_after_steps}
+use Rattle.execution.specs.Job.{JobValue}
+use Rattle.execution.specs.Steps.{StepValue, jobs_after_steps}
 use Rattle.instance_core.specs.Calls.{CallValue, with_call, without_call}
 use Rattle.instance_core.specs.Watching.{calls_after_steps}
 use Rattle.instance_core.specs.State.{InstanceState, most_blobs}

@@ -6,11 +6,11 @@ use Rattle.digest.specs.Naming.{Names, is_empty_digest}
 use Rattle.digest.specs.Text.{hash_text}
 use Rattle.instance_view.specs.Visible.{Blob}
 use Rattle.rpc.specs.Messages.{message_length_limit}
-use Rattle.tree_plan.specs.Nodes.{NodeKindValue, PlanNodeValue, file, symlink, directory}
-use Rattle.operations.specs.Once.{IsEachOnce}
+use Rattle.actions.specs.Nodes.{NodeKindValue, PlanNodeValue, file, symlink, directory}
+use Rattle.execution_messages.specs.Once.{IsEachOnce}
 use Rattle.job_queue.specs.Jobs.{Jobs}
-use Rattle.executor.specs.Job.{JobValue, TaskValue}
-use Rattle.executor.specs.Orders.{OrderValue, start, kill}
+use Rattle.execution.specs.Job.{JobValue, TaskValue}
+use Rattle.execution.specs.Orders.{OrderValue, start, kill}
 
 -- a text stands under this digest
 pub record HasText (texts : List Blob) (d : Digest) : Type 0 where

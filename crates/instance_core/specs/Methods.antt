@@ -14,11 +14,11 @@ use Rattle.bytestream.specs.declared.reading.ReadAsked.{ReadAsked}
 use Rattle.bytestream.specs.Reading.{read_asked, read_answer}
 use Rattle.bytestream.specs.Querying.{query_reply}
 use Rattle.tree_calls.specs.GetTree.{get_tree_replies, get_tree_changes}
-use Rattle.executor.specs.Execute as Executor
-use Rattle.executor.specs.Execute.{ExecutionState, ExecuteAnswer, ExecuteChange, ExecuteDone, done, queued, execute}
-use Rattle.executor.specs.Waiting as Waiting
-use Rattle.executor.specs.Waiting.{WaitAnswer, has_told, wait}
-use Rattle.execution_calls.specs.Asking.{ExecuteAskedValue, execute_asked, name_asked}
+use Rattle.execution.specs.Execute as Executor
+use Rattle.execution.specs.Execute.{ExecutionState, ExecuteAnswer, ExecuteChange, ExecuteDone, done, queued, execute}
+use Rattle.execution.specs.Waiting as Waiting
+use Rattle.execution.specs.Waiting.{WaitAnswer, has_told, wait}
+use Rattle.execution.specs.Asking.{ExecuteAskedValue, execute_asked, name_asked}
 use Rattle.tree_calls.specs.Results.{get_action_result_reply, get_action_result_changes, after_get, update_action_result_reply, after_update}
 use Rattle.instance_core.specs.Changes.{InstanceChange, Text, Keeps, Does, Pushes}
 use Rattle.instance_core.specs.Replies.{AnswerValue, one_message, messages, range, watching, answering}

@@ -16,16 +16,16 @@ use Rattle.rpc.specs.declared.refusal.Refusal.TheVariants.{BlobNotFound}
 use Rattle.bytestream.specs.declared.reading.ReadAsked.{ReadAsked}
 use Rattle.bytestream.specs.Reading.{SourceValue, read_asked}
 use Rattle.bytestream.specs.Writing.{write_reply}
-use Rattle.executor.specs.Orders.{told}
-use Rattle.executor.specs.Steps.{StepValue}
+use Rattle.execution.specs.Orders.{told}
+use Rattle.execution.specs.Steps.{StepValue}
 use Rattle.rpc.specs.declared.method.Method.{Method}
 use Rattle.tree_calls.specs.Complete.{IsComplete, IsCompleteReply}
 use Rattle.tree_calls.specs.Pages.{IsNamedPage}
 use Rattle.tree_calls.specs.Asking.{TreeAskedValue, tree_asked}
 use Rattle.tree_calls.specs.GetTree.{texts_seen}
-use Rattle.operations.specs.declared.fault.Fault.{Fault}
-use Rattle.operations.specs.Operations.{completed_text, fails, finds, queued_text}
-use Rattle.execution_calls.specs.Asking.{ExecuteAskedValue, execute_asked}
+use Rattle.execution_messages.specs.declared.fault.Fault.{Fault}
+use Rattle.execution_messages.specs.Progress.{completed_text, fails, finds, queued_text}
+use Rattle.execution.specs.Asking.{ExecuteAskedValue, execute_asked}
 use Rattle.tree_calls.specs.Listing.{tree_list}
 use Rattle.rpc.specs.declared.method.Method.TheVariants.{BatchReadBlobs, Execute, GetTree, GetActionResult, Read}
 use Rattle.instance_core.specs.Calls.{ProgressValue, waits, has, writes, watches, CallEventValue, head, fault, end, cancel, tick, start_jobs, end_late_jobs, end_job, call_at}

@@ -17,8 +17,8 @@ use Rattle.instance_core.specs.declared.event.ReplyItem.TheVariants as Item
 use Rattle.instance_core.specs.declared.calls.Progress.{Progress}
 use Rattle.instance_core.specs.declared.calls.Progress.TheVariants as Part
 use Rattle.job_queue.specs.Jobs.{Jobs}
-use Rattle.executor.specs.Job.{JobValue}
-use Rattle.executor.specs.InPool.{jobs_in}
+use Rattle.execution.specs.Job.{JobValue}
+use Rattle.execution.specs.InPool.{jobs_in}
 use Rattle.instance_view.specs.Shown.{visible_in}
 use Rattle.instance_core.specs.Calls.{Calls, ProgressValue, waits, has, writes, watches, CallEventValue, head, message, fault, end, cancel, tick}
 use Rattle.instance_core.specs.Replies.{AnswerValue, one_message, ReplyItemValue, begins, says, gives, ends, refuses, ReplyValue, IsShortReply}

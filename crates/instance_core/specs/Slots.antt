@@ -8,8 +8,8 @@ use Rattle.instance_view.specs.Visible.{Blob}
 use Rattle.instance_view.specs.Shown.{ViewValue, visible_in, holders}
 use Rattle.uploads.specs.Uploads.{UploadList}
 use Rattle.job_queue.specs.Jobs.{Jobs}
-use Rattle.executor.specs.InPool.{jobs_in, jobs_holders}
-use Rattle.executor.specs.declared.job.Job.{Job}
+use Rattle.execution.specs.InPool.{jobs_in, jobs_holders}
+use Rattle.execution.specs.declared.job.Job.{Job}
 use Rattle.instance_core.specs.Calls.{Calls}
 use Rattle.instance_core.specs.State.{InstanceState, IsInstanceWithin, seeing}
 use Rattle.std.specs.List.{AllByRecursion}

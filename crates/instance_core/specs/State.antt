@@ -12,7 +12,7 @@ use Rattle.tree_calls.specs.Complete.{AreResultsWithin}
 use Rattle.job_queue.specs.Jobs.{Jobs, no_jobs}
 use Rattle.job_queue.specs.Order.{AreJobs}
 use Rattle.job_queue.specs.declared.queue.TheConstants.{MOST_RUNNING}
-use Rattle.executor.specs.Job.{JobValue}
+use Rattle.execution.specs.Job.{JobValue}
 use Rattle.instance_core.specs.Jobs.{AreWhole, AreToldShortly}
 use Rattle.instance_core.specs.Calls.{Calls, same_call, KeepShort}
 pub use Rattle.quota_evict.specs.Within.{most_blobs}

@@ -3,12 +3,12 @@ use Rattle.std.specs.Prelude.{◌≡◌, List, map, Some}
 use Rattle.std.specs.List.{filter_map}
 use Rattle.blob_pool.specs.Slots.{Slots}
 use Rattle.job_queue.specs.Jobs.{Jobs}
-use Rattle.executor.specs.declared.orders.Order.{Order}
-use Rattle.executor.specs.Job.{JobValue}
-use Rattle.executor.specs.Ordered.{order_meant}
-use Rattle.executor.specs.Orders.{OrderValue}
-use Rattle.executor.specs.Steps.{jobs_after_steps}
-use Rattle.executor.specs.Taking.{steps_shown}
+use Rattle.execution.specs.declared.orders.Order.{Order}
+use Rattle.execution.specs.Job.{JobValue}
+use Rattle.execution.specs.Ordered.{order_meant}
+use Rattle.execution.specs.Orders.{OrderValue}
+use Rattle.execution.specs.Steps.{jobs_after_steps}
+use Rattle.execution.specs.Taking.{steps_shown}
 use Rattle.instance_core.specs.declared.turns.Turn.{Turn}
 use Rattle.instance_core.specs.Answer.{orders_at, steps_at}
 use Rattle.instance_core.specs.Calls.{CallEventValue}

@@ -3,8 +3,8 @@ use Rattle.std.specs.Prelude.{◌≡◌, ◌⊎◌, ◌≤◌, ◌<◌, ◌==◌
 use Rattle.std.specs.List.{AllByRecursion, flat_map}
 use Rattle.std.specs.Map.{lookup}
 use Rattle.job_queue.specs.Jobs.{Jobs, same_number}
-use Rattle.executor.specs.Orders.{ToldValue, told}
-use Rattle.executor.specs.Steps.{StepValue}
+use Rattle.execution.specs.Orders.{ToldValue, told}
+use Rattle.execution.specs.Steps.{StepValue}
 use Rattle.instance_core.specs.declared.event.CallId.{CallId}
 use Rattle.instance_core.specs.Calls.{Calls, CallValue, ProgressValue, waits, has, writes, watches}
 use Rattle.instance_core.specs.Replies.{ReplyItemValue, ReplyValue, says, ends}

@@ -8,7 +8,7 @@ ghost use Rattle.instance_core.specs.Calls.{CallValue, call_at, IsShortRequest, 
 ghost use Rattle.instance_core.specs.Contents.{AreContentsInPool, AreContentsWithin};
 ghost use Rattle.instance_core.specs.Answer.{head_answer, message_answer, fault_answer, request_end_answer};
 ghost use Rattle.job_queue.specs.Jobs.{Jobs};
-ghost use Rattle.executor.specs.Job.{JobValue};
+ghost use Rattle.execution.specs.Job.{JobValue};
 ghost use Rattle.instance_core.specs.Carries.{contents_beside, contents_holders, number_watched, settled};
 ghost use Rattle.instance_core.specs.Shown.{Gives, ChangesCalls, Makes, contents_state};
 ghost use Rattle.instance_core.specs.ReplyHolders.{result_holders};

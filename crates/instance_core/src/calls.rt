@@ -6,15 +6,15 @@ ghost use Rattle.std.specs.Map.{keys_of};
 ghost use Rattle.std.specs.Option.{option_copied};
 ghost use Rattle.instance_core.specs.Calls.{CallValue, call_at, same_call, with_call, without_call, watches, IsProgressOf, AreInCourse};
 ghost use Rattle.instance_core.specs.Watching.{calls_after_steps, calls_told, is_watcher, is_watching};
-ghost use Rattle.executor.specs.Ordered.{told_shown};
-ghost use Rattle.executor.specs.Taking.{steps_shown};
+ghost use Rattle.execution.specs.Ordered.{told_shown};
+ghost use Rattle.execution.specs.Taking.{steps_shown};
 ghost use Rattle.instance_core.specs.Apart.{calls_apart};
 ghost use Rattle.instance_core.specs.Shown.{progress_shown};
 
 use crate::event::{CallId, Reply, ReplyItem};
 use bytestream::OpenWrite;
 use call_counts::CallCounts;
-use executor::{Step, Told};
+use execution::{Step, Told};
 use indexmap::IndexMap;
 use rpc::Method;
 use std::alloc::{AllocError, Global};

@@ -1,7 +1,7 @@
 //! What an instance is configured as, and what it keeps.
 
 use action_cache::Results;
-use executor::Executions;
+use execution::Executions;
 use instance_view::{Dropped, View};
 use uploads::Uploads;
 

@@ -12,8 +12,7 @@ use crate::answer::Answer;
 use crate::contents::{Contents, Settings};
 use blob_pool::Pool;
 use cas_service::CallError;
-use execution_calls::{execute_asked, name_asked};
-use executor::{ExecuteAnswer, WaitAnswer, execute, wait};
+use execution::{ExecuteAnswer, WaitAnswer, execute, execute_asked, name_asked, wait};
 use instance_view::View;
 use std::alloc::Global;
 

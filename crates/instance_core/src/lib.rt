@@ -25,7 +25,7 @@ mod writing;
 
 pub use contents::InstanceSizes;
 pub use event::{CallEvent, CallId, GivenRange, Reply, ReplyItem};
-pub use executor::{Order, Step, Task};
+pub use execution::{Order, Step, Task};
 pub use instance::Instance;
 pub use laws::{
     calls_lose_blobs_for_room, calls_lose_by_rules, calls_serve_named_blobs,

@@ -3,8 +3,8 @@
 
 ghost use Rattle.std.specs.Prelude.{◌≡◌, [], ◌∷◌, ◌++◌, ℕ, map, IfOk, OnOk};
 ghost use Rattle.blob_pool.specs.Slots.{Slots};
-ghost use Rattle.executor.specs.Ordered.{orders_by, told_shown};
-ghost use Rattle.executor.specs.Taking.{step_shown, steps_shown};
+ghost use Rattle.execution.specs.Ordered.{orders_by, told_shown};
+ghost use Rattle.execution.specs.Taking.{step_shown, steps_shown};
 ghost use Rattle.instance_core.specs.Apart.{hears, replies_to};
 ghost use Rattle.instance_core.specs.ReplyHolders.{items_holders, replies_holders};
 ghost use Rattle.instance_core.specs.Shown.{reply_shown};
@@ -12,7 +12,7 @@ ghost use Rattle.instance_core.specs.Watching.{replies_told, replies_to_watchers
 
 use crate::calls::{Call, Calls};
 use crate::event::{CallId, Reply, ReplyItem};
-use executor::{Order, Step, Told};
+use execution::{Order, Step, Told};
 use std::alloc::{AllocError, Global};
 
 /// What happens to jobs at an event.

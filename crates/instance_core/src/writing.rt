@@ -14,7 +14,7 @@ ghost use Rattle.instance_core.specs.Calls.{without_call, AreInCourse};
 ghost use Rattle.instance_core.specs.Contents.{AreContentsInPool, AreContentsWithin};
 ghost use Rattle.instance_core.specs.Answer.{final_answer, first_write_answer, next_write_answer, first_message_answer};
 ghost use Rattle.job_queue.specs.Jobs.{Jobs};
-ghost use Rattle.executor.specs.Job.{JobValue};
+ghost use Rattle.execution.specs.Job.{JobValue};
 ghost use Rattle.instance_core.specs.Shown.{Gives, ChangesCalls, Makes, contents_state, outcome_shown};
 ghost use Rattle.instance_core.specs.ReplyHolders.{result_holders};
 

@@ -1,12 +1,12 @@
 -- A run that a runner began is one of the task of its job.
 use Rattle.std.proofs.Common.{◌≡◌, List, [], ◌∷◌, ◌++◌}
 use Rattle.std.specs.Prelude.{Result, Ok, Err, OnOk}
-use Rattle.executor.specs.Job.{TaskValue}
+use Rattle.execution.specs.Job.{TaskValue}
 use Rattle.runner.specs.declared.task.RunKey.{RunKey}
 use Rattle.runner.specs.declared.task.Task.{Task}
 use Rattle.runner.specs.declared.stage.Run.{Run}
 use Rattle.runner.specs.Runs.{IsStarted}
-use Rattle.run_tasks.specs.Tasks.{IsTaskOf}
+use Rattle.job_runs.specs.Tasks.{IsTaskOf}
 use Rattle.job_runs.specs.Runs.{IsBegun}
 
 pub begun_of : {A E : Type 0} (r : Result A E) (run : RunKey) (task : TaskValue) (made : Task) (old new : List Run) → IsTaskOf task made → OnOk r ((b : Run) × IsStarted run made b × (new ≡ old ++ b ∷ [])) → OnOk r (IsBegun run task old new)

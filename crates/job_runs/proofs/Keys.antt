@@ -5,7 +5,7 @@ use Rattle.std.proofs.lemmas.Bool.{eqb-true, eq-eqb, true≢false}
 use Rattle.runner.specs.declared.task.RunKey.{RunKey}
 use Rattle.runner.specs.declared.folder.Place.{Place}
 use Rattle.runner.specs.declared.fault.RunFault.{RunFault}
-use Rattle.outcomes.specs.Outcome.{Outcome}
+use Rattle.run_outcomes.specs.declared.outcome.Outcome.{Outcome}
 use Rattle.runner.specs.declared.stage.State.{State}
 use Rattle.runner.specs.declared.stage.State.TheVariants.{Live, Over}
 use Rattle.runner.specs.declared.stage.Run.{Run}

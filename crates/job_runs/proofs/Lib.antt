@@ -2,3 +2,5 @@ pub mod Begun
 pub mod Keys
 pub mod Once
 pub mod Killed
+mod Numbering
+mod Parts

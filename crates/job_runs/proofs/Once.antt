@@ -3,14 +3,14 @@ use Rattle.std.proofs.Common.{inl, inr, ◌≡◌, List, [], ◌∷◌, ◌++◌
 use Rattle.std.specs.Prelude.{⊤, if◌then◌else◌, true, false, Option, Some, None, Result, Ok, Err, is_ok}
 use Rattle.std.specs.declared.alloc.Global.{Global}
 use Rattle.std.specs.declared.vec.Vec.{Vec}
-use Rattle.outcomes.specs.Outcome.{Outcome}
-use Rattle.executor.specs.Job.{TaskValue}
+use Rattle.run_outcomes.specs.declared.outcome.Outcome.{Outcome}
+use Rattle.execution.specs.Job.{TaskValue}
 use Rattle.runner.specs.declared.fault.RunFault.{RunFault}
 use Rattle.runner.specs.declared.task.RunKey.{RunKey}
 use Rattle.runner.specs.declared.stage.Run.{Run}
 use Rattle.runner.specs.Calls.{FolderCall, ProgramCall}
 use Rattle.runner.specs.Runs.{IsAsked, IsKilled}
-use Rattle.run_tasks.specs.Texts.{numbered_text}
+use Rattle.job_runs.specs.Texts.{numbered_text}
 use Rattle.job_runs.specs.Keys.{AreOnce, all_keys, has_key, without_key}
 use Rattle.job_runs.specs.Runs.{IsBegunIf}
 use Rattle.job_runs.proofs.Keys.{asked-once, first-once, killed-once, noted-once, same-once, taken-once}

@@ -2,8 +2,8 @@
 use Rattle.std.specs.Prelude.{◌≡◌, ◌≤◌, ◌⊎◌, ⊤, ℕ, zero, suc, List, [], ◌∷◌, ◌++◌, slice_get, vec_capacity, vec_len, Option, Some, None, Result, Ok, Err}
 use Rattle.std.specs.declared.alloc.Global.{Global}
 use Rattle.std.specs.declared.vec.Vec.{Vec}
-use Rattle.outcomes.specs.Outcome.{Outcome}
-use Rattle.executor.specs.Job.{TaskValue}
+use Rattle.run_outcomes.specs.declared.outcome.Outcome.{Outcome}
+use Rattle.execution.specs.Job.{TaskValue}
 use Rattle.runner.specs.declared.fault.RunFault.{RunFault}
 use Rattle.runner.specs.declared.fault.RunFault.TheVariants.{NoMemory}
 use Rattle.runner.specs.declared.task.RunKey.{RunKey}
@@ -14,8 +14,8 @@ use Rattle.runner.specs.Runs.{IsAsked, IsKilled, IsOver, IsStarted}
 use Rattle.server_events.specs.Configs.{ConfigValue}
 use Rattle.serve.specs.declared.error_lines.Backlog.{Backlog}
 use Rattle.serve.specs.FaultLines.{TellsAnswer}
-use Rattle.run_tasks.specs.Tasks.{IsTaskOf}
-use Rattle.run_tasks.specs.Texts.{numbered_text}
+use Rattle.job_runs.specs.Tasks.{IsTaskOf}
+use Rattle.job_runs.specs.Texts.{numbered_text}
 
 -- a run of this task was added
 pub record IsBegun (run : RunKey) (task : TaskValue) (old new : List Run) : Type 0 where

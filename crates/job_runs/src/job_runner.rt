@@ -6,13 +6,14 @@ ghost use Rattle.std.specs.Option.{option_map};
 ghost use Rattle.runner.specs.Faults.{Counted};
 ghost use Rattle.runner.specs.Runs.{IsAsked, IsOver, can_go_on};
 ghost use Rattle.runner.specs.declared.stage.Run.{Run};
-ghost use Rattle.run_tasks.specs.Texts.{numbered_text};
+ghost use Rattle.job_runs.specs.Texts.{numbered_text};
 ghost use Rattle.server_core.specs.Lent.{lent_shown};
 ghost use Rattle.job_runs.specs.Keys.{AreOnce, all_keys, count_of, has_key, is_key, turn_in, without_key};
 ghost use Rattle.job_runs.specs.Runs.{AreKilled, IsAnsweredFor, IsBegun, IsBegunIf, IsEnded, IsKilledAt, IsNoted, IsOnlyEnded};
 
-use outcomes::Outcome;
-use run_tasks::{LentTexts, run_task};
+use crate::lent::LentTexts;
+use crate::tasks::run_task;
+use run_outcomes::Outcome;
 use runner::{Folder, Programs, RunFault, RunKey, Runner};
 use serve::{ErrorLines, Runs};
 use server_core::LentTask;

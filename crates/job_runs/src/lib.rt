@@ -1,6 +1,15 @@
-//! The runs of the jobs that a server orders, carried out by a runner.
+//! The runs of the jobs that a server orders, carried out by a runner: tasks of jobs as tasks of runs,
+//! the texts of their files, and which run is asked when.
 #![tactic(auto)]
 
+mod commands;
 mod job_runner;
+mod laws;
+mod lent;
+mod nodes;
+mod tasks;
 
 pub use job_runner::JobRunner;
+pub use laws::a_number_finds_the_text_of_its_digest;
+pub use lent::LentTexts;
+pub use tasks::run_task;

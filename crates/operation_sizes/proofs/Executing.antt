@@ -10,17 +10,17 @@ use Rattle.instance_view.specs.Visible.{Blob, blobs_length}
 use Rattle.input_tree.specs.Listing.{Lookup}
 use Rattle.action_cache.specs.Answering.{blobs_for, blobs_used}
 use Rattle.action_cache.specs.Complete.{and_then}
-use Rattle.action_reading.specs.Actions.{ActionTaken, action_in}
-use Rattle.action_reading.specs.Commands.{command_in}
+use Rattle.actions.specs.Actions.{ActionTaken, action_in}
+use Rattle.actions.specs.Commands.{command_in}
 use Rattle.job_queue.specs.declared.queue.TheConstants.{LAST_NUMBER, MOST_WAITING}
-use Rattle.operations.specs.declared.fault.Fault.TheVariants.{BadCommand}
-use Rattle.operations.specs.Operations.{completed_text, finds}
+use Rattle.execution_messages.specs.declared.fault.Fault.TheVariants.{BadCommand}
+use Rattle.execution_messages.specs.Progress.{completed_text, finds}
 use Rattle.rpc.specs.declared.refusal.Refusal.{Refusal}
 use Rattle.rpc.specs.declared.refusal.Refusal.TheVariants.{ExecutionIsOff, QueueFull}
-use Rattle.tree_plan.specs.Walk.{Nodes, bad_directory, missing, too_deep, too_many, walk}
+use Rattle.actions.specs.Walk.{Nodes, bad_directory, missing, too_deep, too_many, walk}
 use Rattle.tree_calls.specs.Complete.{AreResultsWithin}
-use Rattle.executor.specs.Execute.{Does, ExecuteChange, ExecuteDone, ExecutionState, Pushes, Uses, by_job, by_looking, by_preparing, execute, look_in, looked_up, refused}
-use Rattle.executor.specs.Preparing.{FaultValue, PreparedValue, action_found, action_or_fault, command_found, fault_alone, job_of, met, prepared, prepared_with, with_command}
+use Rattle.execution.specs.Execute.{Does, ExecuteChange, ExecuteDone, ExecutionState, Pushes, Uses, by_job, by_looking, by_preparing, execute, look_in, looked_up, refused}
+use Rattle.execution.specs.Preparing.{FaultValue, PreparedValue, action_found, action_or_fault, command_found, fault_alone, job_of, met, prepared, prepared_with, with_command}
 use Rattle.operation_sizes.specs.Short.{HasForm}
 use Rattle.operation_sizes.specs.Told.{IsShortExecuteAnswer, IsToldChange}
 use Rattle.operation_sizes.proofs.Forms.{HasForms, action_forms}

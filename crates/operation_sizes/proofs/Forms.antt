@@ -19,7 +19,7 @@ use Rattle.cas_service.specs.Requests.{digest_or_refusal, form_check, is_hash_as
 use Rattle.execution_messages.specs.Requests.{ExecuteRequestValue, execute_request_of}
 use Rattle.execution_messages.specs.Actions.{ActionValue, action_of, duration_of}
 use Rattle.input_tree.specs.Directories.{written_digest}
-use Rattle.action_reading.specs.Actions.{ActionTaken, action_in, action_taken, and_then, taken_or_none, timeout_of}
+use Rattle.actions.specs.Actions.{ActionTaken, action_in, action_taken, and_then, taken_or_none, timeout_of}
 use Rattle.tree_calls.proofs.Sizes.{read_from}
 use Rattle.operation_sizes.specs.Short.{HasForm}
 

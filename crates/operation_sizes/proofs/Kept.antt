@@ -9,11 +9,11 @@ use Rattle.job_queue.specs.declared.queue.TheConstants.{LAST_NUMBER, MOST_ENDED}
 use Rattle.job_queue.specs.Changes.{JobChange, pushes, does, starts, ends, forgets, jobs_after}
 use Rattle.job_queue.proofs.Orders.{all-append, all-drop}
 use Rattle.tree_calls.specs.Complete.{AreResultsWithin}
-use Rattle.executor.specs.Changes.{after_changes}
-use Rattle.executor.specs.Execute.{Does, ExecuteChange, ExecutionState, Keeps, Pushes, Uses, execute}
-use Rattle.executor.specs.Job.{JobValue}
-use Rattle.executor.specs.Steps as Steps
-use Rattle.executor.specs.Steps.{StepValue, jobs_after_steps}
+use Rattle.execution.specs.Changes.{after_changes}
+use Rattle.execution.specs.Execute.{Does, ExecuteChange, ExecutionState, Keeps, Pushes, Uses, execute}
+use Rattle.execution.specs.Job.{JobValue}
+use Rattle.execution.specs.Steps as Steps
+use Rattle.execution.specs.Steps.{StepValue, jobs_after_steps}
 use Rattle.operation_sizes.specs.Short.{HasForm, IsShort}
 use Rattle.operation_sizes.specs.Told.{AreTold, AreToldShortly, Ended, IsToldChange, Runs, Waits}
 use Rattle.operation_sizes.proofs.Executing.{execute_told}

@@ -8,14 +8,14 @@ use Rattle.digest.proofs.Same.{same_equal, same_refl}
 use Rattle.instance_view.specs.Visible.{Blob, blobs_length, visible_text}
 use Rattle.job_queue.specs.declared.queue.TheConstants.{LAST_NUMBER}
 use Rattle.execution_messages.specs.Actions.{CommandValue}
-use Rattle.action_reading.specs.Commands.{asked_outputs, command_in}
-use Rattle.operations.specs.Operations.{completed_text, gives}
-use Rattle.operations.specs.Statuses.{distinct}
-use Rattle.operations.proofs.EachOnce.{among, same-ones}
+use Rattle.actions.specs.Commands.{asked_outputs, command_in}
+use Rattle.execution_messages.specs.Progress.{completed_text, gives}
+use Rattle.execution_messages.specs.Statuses.{distinct}
+use Rattle.execution_messages.proofs.EachOnce.{among, same-ones}
 use Rattle.quota_evict.specs.Within.{AreBlobsWithin}
 use Rattle.quota_evict.proofs.Seen.{seen_named}
 use Rattle.outcomes.specs.Asked.{are_asked}
-use Rattle.outcomes.specs.Outcomes.{ExitedValue}
+use Rattle.run_outcomes.specs.Outcomes.{ExitedValue}
 use Rattle.outcomes.specs.Results.{blobs_given, fresh_bytes, result_text, sizes_of}
 use Rattle.operation_sizes.specs.Short.{HasForm, HaveSizes, IsShort}
 use Rattle.operation_sizes.proofs.Executing.{stored_short}

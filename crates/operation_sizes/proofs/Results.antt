@@ -28,13 +28,13 @@ use Rattle.reapi_messages.specs.Digests.{DigestValue, digest_records}
 use Rattle.tree_messages.specs.Results.{OutputDirectoryValue, OutputFileValue, output_directory_records, output_file_records}
 use Rattle.execution_messages.specs.Actions.{CommandValue, command_of, environment_variable_of}
 use Rattle.instance_view.specs.Visible.{Blob}
-use Rattle.action_reading.specs.Commands.{AskedOutput, are_paths, asked_as, asked_outputs, command_in, is_command, is_path, is_place, is_variable, is_word, valid_command}
+use Rattle.actions.specs.Commands.{AskedOutput, are_paths, asked_as, asked_outputs, command_in, is_command, is_path, is_place, is_variable, is_word, valid_command}
 use Rattle.job_queue.proofs.Orders.{all-append}
 use Rattle.tree_calls.proofs.Named.{all_front}
 use Rattle.tree_calls.proofs.Sizes.{both_written, payload_size, payloads_weight, read_from, sizes, weight}
 use Rattle.outcomes.specs.Asked.{are_asked, is_asked}
 use Rattle.outcomes.specs.Naming.{blob_like, digest_like, written_like}
-use Rattle.outcomes.specs.Outcomes.{ExitedValue, OutputValue, output_file, output_tree}
+use Rattle.run_outcomes.specs.Outcomes.{ExitedValue, OutputValue, output_file, output_tree}
 use Rattle.outcomes.specs.Results.{blobs_given, file_blobs, file_results, node_blobs, result_text, stream_blobs, stream_digest, tree_blobs, tree_results}
 use Rattle.outcomes.specs.Trees.{tree_text}
 use Rattle.operation_sizes.specs.Short.{HaveSizes}

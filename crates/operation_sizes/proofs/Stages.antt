@@ -8,8 +8,8 @@ use Rattle.job_queue.specs.Order.{AreJobs, open_numbers}
 use Rattle.job_queue.specs.declared.queue.Running.{Running}
 use Rattle.job_queue.specs.declared.queue.TheConstants.{LAST_NUMBER}
 use Rattle.job_queue.proofs.Orders.{all-weaker}
-use Rattle.executor.specs.Job.{JobValue}
-use Rattle.executor.specs.Waiting.{number_named, wait, wait_answer, wait_for}
+use Rattle.execution.specs.Job.{JobValue}
+use Rattle.execution.specs.Waiting.{number_named, wait, wait_answer, wait_for}
 use Rattle.tree_calls.proofs.Named.{all_front}
 use Rattle.operation_sizes.specs.Short.{HasForm, IsShort}
 use Rattle.operation_sizes.specs.Told.{AreTold, IsShortWaitAnswer}

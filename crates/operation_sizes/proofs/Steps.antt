@@ -6,12 +6,12 @@ use Rattle.std.specs.Map.{keys_of}
 use Rattle.job_queue.specs.Jobs.{Jobs, running_job}
 use Rattle.job_queue.specs.Order.{AreJobs}
 use Rattle.job_queue.proofs.Orders.{all-append}
-use Rattle.operations.specs.declared.fault.Fault.TheVariants.{TimedOut}
-use Rattle.operations.specs.Operations.{EndValue, fails, completed_text}
-use Rattle.executor.specs.Job.{JobValue}
-use Rattle.executor.specs.Orders.{told}
-use Rattle.executor.specs.Steps.{StepValue, times_out, ending_of, end_steps, jobs_after_steps, start_steps, starts_at, starts_of, then_starts, tick_steps, timings_out}
-use Rattle.executor.proofs.Timings.{outcome-ends, tick-ends}
+use Rattle.execution_messages.specs.declared.fault.Fault.TheVariants.{TimedOut}
+use Rattle.execution_messages.specs.Progress.{EndValue, fails, completed_text}
+use Rattle.execution.specs.Job.{JobValue}
+use Rattle.execution.specs.Orders.{told}
+use Rattle.execution.specs.Steps.{StepValue, times_out, ending_of, end_steps, jobs_after_steps, start_steps, starts_at, starts_of, then_starts, tick_steps, timings_out}
+use Rattle.execution.proofs.Timings.{outcome-ends, tick-ends}
 use Rattle.operation_sizes.specs.Short.{HasForm, IsShort}
 use Rattle.operation_sizes.specs.Told.{AreTold, AreToldShortly, Runs, Waits}
 use Rattle.operation_sizes.proofs.Written.{executing_short, failed_short}

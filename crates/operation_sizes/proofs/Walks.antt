@@ -11,8 +11,8 @@ use Rattle.tree_messages.specs.Directories.{DirectoryNodeValue, DirectoryValue, 
 use Rattle.input_tree.specs.Directories.{is_directory, valid_directory, written_digest}
 use Rattle.input_tree.specs.Listing.{Lookup}
 use Rattle.job_queue.proofs.Orders.{all-append}
-use Rattle.tree_plan.specs.Nodes.{NodeKindValue, PlanNodeValue, directory, directory_at, file, file_at, nodes_of, symlink, symlink_at}
-use Rattle.tree_plan.specs.Walk.{Nodes, bad_directory, digest_of_node, digests_met, directory_nodes, missing, missing_among, nodes_below, nodes_inside, nodes_met, nodes_of_text, nodes_or_fault, nodes_unless_missing, too_deep, too_many, walk, walk_along}
+use Rattle.actions.specs.Nodes.{NodeKindValue, PlanNodeValue, directory, directory_at, file, file_at, nodes_of, symlink, symlink_at}
+use Rattle.actions.specs.Walk.{Nodes, bad_directory, digest_of_node, digests_met, directory_nodes, missing, missing_among, nodes_below, nodes_inside, nodes_met, nodes_of_text, nodes_or_fault, nodes_unless_missing, too_deep, too_many, walk, walk_along}
 use Rattle.operation_sizes.specs.Short.{HasForm}
 use Rattle.operation_sizes.proofs.Forms.{IsDirectoryRead, IsRead, directory_read, written_form}
 use Rattle.operation_sizes.proofs.Written.{AreFew}

@@ -14,12 +14,12 @@ use Rattle.reapi_messages.specs.Statuses.{AnyValue, any_records, status_records}
 use Rattle.execution_messages.specs.Operations.{execute_response_records, violation_records}
 use Rattle.job_queue.specs.declared.queue.TheConstants.{LAST_NUMBER}
 use Rattle.job_queue.proofs.Orders.{all-append}
-use Rattle.operations.specs.declared.fault.Fault.{Fault}
-use Rattle.operations.specs.declared.fault.Fault.TheVariants.{BadAction}
-use Rattle.operations.specs.Faults.{code_of, text_of}
-use Rattle.operations.specs.Operations.{EndValue, finds, gives, fails, completed_text, executing_text, metadata_text, metadata_url, operation_name, operation_text, queued_text, response_any, response_text, response_url}
-use Rattle.operations.specs.Statuses.{details_of, distinct, failure_text, failure_url, status_of, status_with, subject_of, violation_of, with_all_distinct, with_distinct}
-use Rattle.operations.specs.Written.{digest_value}
+use Rattle.execution_messages.specs.declared.fault.Fault.{Fault}
+use Rattle.execution_messages.specs.declared.fault.Fault.TheVariants.{BadAction}
+use Rattle.execution_messages.specs.Faults.{code_of, text_of}
+use Rattle.execution_messages.specs.Progress.{EndValue, finds, gives, fails, completed_text, executing_text, metadata_text, metadata_url, operation_name, operation_text, queued_text, response_any, response_text, response_url}
+use Rattle.execution_messages.specs.Statuses.{details_of, distinct, failure_text, failure_url, status_of, status_with, subject_of, violation_of, with_all_distinct, with_distinct}
+use Rattle.execution_messages.specs.Written.{digest_value}
 use Rattle.tree_calls.proofs.Sizes.{both_written}
 use Rattle.operation_sizes.specs.Short.{HasForm}
 use Rattle.operation_sizes.proofs.Fields.{payload_written, text_written, middle_text_written, number_written, flag_written, more_written}

@@ -3,11 +3,11 @@ use Rattle.std.specs.Prelude.{ℕ, List}
 use Rattle.std.specs.List.{AllByRecursion}
 use Rattle.job_queue.specs.Jobs.{Jobs}
 use Rattle.job_queue.specs.declared.queue.Running.{Running}
-use Rattle.executor.specs.Execute.{Does, ExecuteAnswer, ExecuteChange, Keeps, Pushes, Uses, done, queued}
-use Rattle.executor.specs.Job.{JobValue}
-use Rattle.executor.specs.Orders.{told}
-use Rattle.executor.specs.Steps.{StepValue}
-use Rattle.executor.specs.Waiting.{WaitAnswer, has_told, watches}
+use Rattle.execution.specs.Execute.{Does, ExecuteAnswer, ExecuteChange, Keeps, Pushes, Uses, done, queued}
+use Rattle.execution.specs.Job.{JobValue}
+use Rattle.execution.specs.Orders.{told}
+use Rattle.execution.specs.Steps.{StepValue}
+use Rattle.execution.specs.Waiting.{WaitAnswer, has_told, watches}
 use Rattle.operation_sizes.specs.Short.{HasForm, IsShort}
 
 -- a job that waits, one that runs, and the Operation of one that has ended, under their numbers

@@ -7,13 +7,13 @@ use Rattle.instance_view.specs.Visible.{Blob}
 use Rattle.message_fields.specs.Parts.{text_for}
 use Rattle.tree_messages.specs.Directories.{DirectoryValue, tree_records}
 use Rattle.tree_messages.specs.Results.{OutputDirectoryValue, OutputFileValue, action_result_records}
-use Rattle.action_reading.specs.Commands.{AskedOutput}
+use Rattle.actions.specs.Commands.{AskedOutput}
 use Rattle.outcomes.specs.Asked.{are_asked}
 use Rattle.outcomes.specs.Completing.{CollectionValue, no_outputs, with_outputs}
 use Rattle.run_outcomes.specs.Outcomes.{ExitedValue, OutputNodeValue}
 use Rattle.outcomes.specs.Results.{completion_of, file_blobs, file_results, is_output, result_with, stream_blobs, stream_digest, tree_blobs, tree_results}
 use Rattle.std.proofs.lemmas.Bool.{and_parts}
-use Rattle.tree_plan.specs.declared.walking.TheConstants.{MOST_NODES}
+use Rattle.actions.specs.declared.walking.TheConstants.{MOST_NODES}
 use Rattle.outcomes.specs.declared.gathering.Gathering.{Gathering}
 use Rattle.outcomes.specs.Gathering.{IsGathered, down_to, open_shown}
 use Rattle.outcomes.specs.Trees.{are_walked, below_root, children_of, is_shallow, keeps_walk, root_of, tree_of}

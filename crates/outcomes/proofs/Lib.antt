@@ -7,3 +7,7 @@ mod Freshness
 mod Once
 mod Root
 mod Completed
+mod Named
+mod Admitting
+mod Fates
+mod Ended

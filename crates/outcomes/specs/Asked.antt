@@ -1,7 +1,7 @@
 -- Outputs that an action asks for (remote_execution.proto, Command), and those that were given.
 use Rattle.std.specs.Prelude.{ℕ, Bool, true, false, List, [], ◌∷◌, ◌&&◌, if◌then◌else◌}
 use Rattle.std.specs.Str.{bytes_eq}
-use Rattle.action_reading.specs.Commands.{AskedOutput}
+use Rattle.actions.specs.Commands.{AskedOutput}
 use Rattle.run_outcomes.specs.Outcomes.{OutputValue, output_file, output_tree}
 
 abbrev pub is_asked : AskedOutput → OutputValue → Bool

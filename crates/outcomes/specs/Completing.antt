@@ -4,7 +4,7 @@ use Rattle.std.specs.List.{flat_map, list_all}
 use Rattle.digest.specs.declared.Digest.{Digest}
 use Rattle.instance_view.specs.Visible.{Blob}
 use Rattle.tree_messages.specs.Results.{OutputDirectoryValue, OutputFileValue}
-use Rattle.operations.specs.Written.{written_shown}
+use Rattle.execution_messages.specs.Written.{written_shown}
 use Rattle.outcomes.specs.declared.completion.BlobText.{BlobText}
 use Rattle.outcomes.specs.declared.completion.BlobText.TheVariants as texts
 use Rattle.outcomes.specs.declared.completion.OutputBlob.{OutputBlob}

@@ -5,7 +5,7 @@ use Rattle.std.specs.List.{list_all}
 use Rattle.digest.specs.declared.Digest.{Digest}
 use Rattle.tree_messages.specs.Directories.{DirectoryNodeValue, DirectoryValue, FileNodeValue}
 use Rattle.input_tree.specs.Directories.{is_directory}
-use Rattle.operations.specs.Written.{written_shown}
+use Rattle.execution_messages.specs.Written.{written_shown}
 use Rattle.outcomes.specs.declared.folder.Folder.{Folder}
 use Rattle.outcomes.specs.declared.folder.NamedDirectory.{NamedDirectory}
 use Rattle.outcomes.specs.declared.folder.NamedFile.{NamedFile}

@@ -5,6 +5,6 @@ pub mod Results
 pub mod Gathering
 pub mod Completing
 pub mod Fresh
-pub use Rattle.run_outcomes.specs.Outcomes
-pub use Rattle.run_outcomes.specs.Shown
-pub use Rattle.run_outcomes.specs.declared.outcome.Outcome
+pub mod Ending
+pub mod Endings
+pub mod Fates

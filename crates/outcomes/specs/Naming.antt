@@ -3,7 +3,7 @@ use Rattle.std.specs.Prelude.{ℕ, List}
 use Rattle.digest.specs.declared.Digest.{Digest}
 use Rattle.instance_view.specs.Visible.{Blob}
 use Rattle.reapi_messages.specs.Digests.{DigestValue}
-use Rattle.operations.specs.Written.{digest_value}
+use Rattle.execution_messages.specs.Written.{digest_value}
 pub use Rattle.run_outcomes.specs.Naming.{digest_like}
 
 -- the digest of a text, by the function of another digest, as messages write it

@@ -7,8 +7,8 @@ use Rattle.digest.specs.declared.Digest.{Digest}
 use Rattle.instance_view.specs.Visible.{Blob, visible_text}
 use Rattle.reapi_messages.specs.Digests.{DigestValue}
 use Rattle.tree_messages.specs.Results.{ActionResultValue, OutputDirectoryValue, OutputFileValue, action_result_records}
-use Rattle.operations.specs.Statuses.{distinct}
-use Rattle.action_reading.specs.Commands.{AskedOutput}
+use Rattle.execution_messages.specs.Statuses.{distinct}
+use Rattle.actions.specs.Commands.{AskedOutput}
 use Rattle.outcomes.specs.Asked.{are_asked}
 use Rattle.outcomes.specs.Naming.{blob_like, written_like}
 use Rattle.run_outcomes.specs.Outcomes.{ExitedValue, NodeKindValue, OutputNodeValue, OutputValue, as_directory, as_file, output_file, output_tree}

@@ -6,7 +6,7 @@ use Rattle.message_fields.specs.Parts.{text_for}
 use Rattle.digest.specs.declared.Digest.{Digest}
 use Rattle.tree_messages.specs.Directories.{DirectoryNodeValue, DirectoryValue, FileNodeValue, directory_records, tree_records}
 use Rattle.input_tree.specs.Directories.{is_directory}
-use Rattle.tree_plan.specs.declared.walking.TheConstants.{MOST_LEVELS, MOST_NODES}
+use Rattle.actions.specs.declared.walking.TheConstants.{MOST_LEVELS, MOST_NODES}
 use Rattle.outcomes.specs.Naming.{written_like}
 use Rattle.run_outcomes.specs.Outcomes.{NodeKindValue, OutputNodeValue, as_directory, as_file}
 

@@ -2,10 +2,10 @@
 
 ghost use Rattle.std.specs.Prelude.{◌≡◌, map};
 ghost use Rattle.outcomes.specs.Asked.{are_asked, is_asked};
-ghost use Rattle.action_reading.specs.Shown.{asked_shown};
+ghost use Rattle.actions.specs.Shown.{asked_shown};
 ghost use Rattle.run_outcomes.specs.Shown.{output_shown};
 
-use action_reading::AskedOutput;
+use actions::AskedOutput;
 use run_outcomes::{Output, OutputKind};
 
 /// Whether an output is the one that is asked for.

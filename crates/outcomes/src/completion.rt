@@ -1,12 +1,11 @@
 //! What the run of an action comes to.
 
 ghost use Rattle.std.specs.Prelude.{◌≡◌, ◌++◌, true, map, option_map, string_bytes, IfOk, OnOk};
-ghost use Rattle.action_reading.specs.Shown.{asked_shown};
+ghost use Rattle.actions.specs.Shown.{asked_shown};
 ghost use Rattle.reapi_messages.specs.Digests.{digest_shown};
-ghost use Rattle.tree_messages.specs.Results.{output_directory_shown, output_file_shown};
+ghost use Rattle.tree_messages.specs.Results.{output_directory_shown, output_file_shown, action_result_records};
 ghost use Rattle.message_fields.specs.Parts.{text_for};
-ghost use Rattle.tree_messages.specs.Results.{action_result_records};
-ghost use Rattle.operations.specs.Written.{written_shown};
+ghost use Rattle.execution_messages.specs.Written.{written_shown};
 ghost use Rattle.outcomes.specs.Completing.{Collects, blob_shown, IsCollected, completion_shown, named_output_shown, named_tree_shown};
 ghost use Rattle.outcomes.specs.Naming.{blob_like};
 ghost use Rattle.outcomes.specs.Results.{completion_of, is_output, node_blob, node_blobs, result_with, stream_blobs, stream_digest};
@@ -17,11 +16,11 @@ ghost use Rattle.run_outcomes.specs.Outcomes.{output_file, output_tree};
 use crate::asked::are_asked;
 use crate::naming::{digest_like, write_content, write_text};
 use crate::tree::tree_of;
-use action_reading::AskedOutput;
+use actions::AskedOutput;
 use blob_pool::Draft;
 use digest::Digest;
+use execution_messages::WrittenDigest;
 use message_fields::Message;
-use operations::WrittenDigest;
 use reapi_messages as messages;
 use run_outcomes::{Content, Exited, NodeKind, Output, OutputKind, OutputNode, Streams};
 use std::alloc::{AllocError, Global};

@@ -6,8 +6,8 @@ ghost use Rattle.tree_messages.specs.Directories.{directory_node_shown, director
 ghost use Rattle.outcomes.specs.Gathering.{folder_shown, named_directory_shown, named_file_shown, open_shown};
 ghost use Rattle.outcomes.specs.Trees.{directory_text};
 
+use execution_messages::WrittenDigest;
 use message_fields::Message;
-use operations::WrittenDigest;
 use std::alloc::{AllocError, Global};
 use std::collections::VecDeque;
 use tree_messages::{Directory, DirectoryNode, FileNode};

@@ -4,7 +4,7 @@
 ghost use Rattle.std.specs.Prelude.{◌≡◌, ◌≤◌, ◌<◌, ◌^◌, ◌∷◌, ℕ, List, true, map, IfOk, OnOk};
 ghost use Rattle.std.specs.List.{list_all};
 ghost use Rattle.input_tree.specs.Directories.{is_directory};
-ghost use Rattle.operations.specs.Written.{written_shown};
+ghost use Rattle.execution_messages.specs.Written.{written_shown};
 ghost use Rattle.outcomes.specs.Gathering.{IsClosed, IsGathered, directory_added, down_to, file_added, first_level, folder_shown, named_directory_shown, named_file_shown, on_first, open_shown};
 ghost use Rattle.outcomes.specs.Naming.{written_like};
 ghost use Rattle.run_outcomes.specs.Outcomes.{OutputNodeValue};
@@ -14,7 +14,7 @@ ghost use Rattle.outcomes.specs.Trees.{are_walked, directory_text, level_behind}
 use crate::folder::{Folder, NamedDirectory, NamedFile, OpenFolder, folder_text, is_taken};
 use crate::naming::{write_content, write_text};
 use digest::Digest;
-use operations::WrittenDigest;
+use execution_messages::WrittenDigest;
 use run_outcomes::{Content, NodeKind, OutputNode};
 use std::alloc::{AllocError, Global};
 use std::collections::VecDeque;

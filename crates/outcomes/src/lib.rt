@@ -4,6 +4,7 @@
 
 mod asked;
 mod completion;
+mod ending;
 mod folder;
 mod gathering;
 mod laws;
@@ -12,8 +13,9 @@ mod quota;
 mod tree;
 
 pub use completion::{BlobText, Completion, OutputBlob, complete};
-pub use laws::{a_root_has_the_nodes_of_level_one, each_directory_is_a_child_once};
-pub use quota::is_over_quota;
-pub use run_outcomes::{
-    Content, Exited, NodeKind, Outcome, Output, OutputKind, OutputNode, Streams,
+pub use ending::{Ending, admit_blobs, end_of_run};
+pub use laws::{
+    a_root_has_the_nodes_of_level_one, a_run_stores_only_success, each_directory_is_a_child_once,
+    what_fails_leaves_nothing,
 };
+pub use quota::is_over_quota;

@@ -1,11 +1,11 @@
 //! Digests of the texts that a run gave, as messages write them.
 
 ghost use Rattle.std.specs.Prelude.{◌≡◌, IfOk};
-ghost use Rattle.operations.specs.Written.{written_shown};
+ghost use Rattle.execution_messages.specs.Written.{written_shown};
 ghost use Rattle.outcomes.specs.Naming.{digest_like, written_like};
 
 use digest::Digest;
-use operations::{WrittenDigest, write_digest};
+use execution_messages::{WrittenDigest, write_digest};
 use run_outcomes::Content;
 use std::alloc::{AllocError, Global};
 

@@ -4,15 +4,15 @@ ghost use Rattle.std.specs.Prelude.{◌≡◌, filter, is_some, map, nat_lt, not
 ghost use Rattle.blob_pool.specs.Slots.{Slots};
 ghost use Rattle.instance_view.specs.Shown.{visible_in};
 ghost use Rattle.instance_view.specs.Visible.{visible_text};
-ghost use Rattle.operations.specs.Statuses.{distinct};
+ghost use Rattle.execution_messages.specs.Statuses.{distinct};
 ghost use Rattle.outcomes.specs.Completing.{blob_shown};
 ghost use Rattle.outcomes.specs.Fresh.{fresh_size, fresh_sum};
 ghost use Rattle.outcomes.specs.Results.{fresh_bytes, sizes_of};
 
 use crate::completion::OutputBlob;
 use digest::Digest;
+use execution_messages::distinct;
 use instance_view::View;
-use operations::distinct;
 use std::alloc::{AllocError, Global};
 
 /// How many bytes the text of a digest has, or 0 where it is there.

@@ -10,6 +10,7 @@ ghost use Rattle.outcomes.specs.Trees.{are_walked, has_place, is_shallow, keeps_
 
 use crate::folder::{Folder, directory_message, folder_text, is_taken};
 use crate::gathering::{gather_nodes, take_open};
+use actions::{MOST_LEVELS, MOST_NODES};
 use digest::Digest;
 use indexmap::IndexSet;
 use message_fields::Message;
@@ -17,7 +18,6 @@ use run_outcomes::{NodeKind, OutputNode};
 use std::alloc::{AllocError, Global};
 use std::collections::VecDeque;
 use tree_messages::{Directory, Tree};
-use tree_plan::{MOST_LEVELS, MOST_NODES};
 
 /// The level at which nodes go on behind a node.
 fn level_behind(node: &OutputNode) -> u64

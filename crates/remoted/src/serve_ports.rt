@@ -1,6 +1,6 @@
 //! `remoted serve`.
 
-use crate::beginning::{begin, can_open, can_run, slots_of, tell_leases};
+use crate::beginning::{begin, can_open, can_run, keep_freed_memory, slots_of, tell_leases};
 use crate::operator::Operator;
 use crate::standard_error::StandardError;
 use crate::watching::{MetricsFile, StopFile};
@@ -330,6 +330,7 @@ pub fn serve_ports<O: Write, E: Write>(
     let Some(address) = address_of(service, errors)? else {
         return Ok(BAD_WORDS);
     };
+    keep_freed_memory(rt.alloc());
     match instances_of(rt.alloc(), &service.instances) {
         Ok(instances) => serve_instances(rt, service, address, &instances, output, errors),
         Err(fault) => tell_fault(&service.instances, fault, errors),

@@ -8,7 +8,7 @@ use Rattle.server_core.specs.Families.{family_in, family_events}
 use Rattle.server_core.specs.LoneOutput.{lone_output, strays}
 use Rattle.server_events.specs.Configs.{ConfigValue, parent_of}
 use Rattle.server_events.specs.Events.{EventValue}
-use Rattle.executor.specs.Orders.{OrderValue, start, kill}
+use Rattle.execution.specs.Orders.{OrderValue, start, kill}
 use Rattle.script.specs.ResultLines.{sent_line, start_line, kill_line, refusal_line, stray_line}
 use Rattle.script.specs.ReplayScript.{ReplayScriptValue, replay_script_of}
 

@@ -5,8 +5,8 @@ use Rattle.std.specs.List.{AllByRecursion, flat_map}
 use Rattle.std.specs.Map.{lookup}
 use Rattle.std.proofs.lemmas.Bool.{and_parts, cases_Bool, eqb-true}
 use Rattle.conn_core.proofs.Numbers.{same_number}
-use Rattle.executor.specs.Orders.{ToldValue, told}
-use Rattle.executor.specs.Steps.{StepValue}
+use Rattle.execution.specs.Orders.{ToldValue, told}
+use Rattle.execution.specs.Steps.{StepValue}
 use Rattle.instance_core.specs.declared.event.CallId.{CallId}
 use Rattle.instance_core.specs.Calls.{Calls, CallValue, ProgressValue, waits, has, writes, watches, call_at, same_call, with_call, without_call}
 use Rattle.instance_core.specs.Replies.{ReplyValue}

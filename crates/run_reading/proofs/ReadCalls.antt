@@ -19,9 +19,9 @@ use Rattle.bytestream.specs.Writing as Writing
 use Rattle.bytestream.specs.Writing.{WrittenValue}
 use Rattle.cas_service.specs.Changes as Texts
 use Rattle.digest.specs.Naming.{Names}
-use Rattle.execution_calls.specs.Asking.{ExecuteAskedValue, execute_asked}
-use Rattle.executor.specs.Execute as Executor
-use Rattle.executor.specs.Execute.{ExecuteChange}
+use Rattle.execution.specs.Asking.{ExecuteAskedValue, execute_asked}
+use Rattle.execution.specs.Execute as Executor
+use Rattle.execution.specs.Execute.{ExecuteChange}
 use Rattle.instance_core.specs.declared.event.CallId.{CallId}
 use Rattle.instance_core.specs.Calls.{ProgressValue, waits, has, writes, watches, CallValue, CallEventValue, head, message, fault, end, cancel, call_at, same_call}
 use Rattle.instance_core.specs.State.{InstanceState, IsInstanceWithin, seen}

@@ -16,11 +16,11 @@ use Rattle.conn_core.proofs.Events.{events_more, events_out, events_took}
 use Rattle.conn_core.proofs.Opened.{IsOpened, opened_still, idle}
 use Rattle.conn_core.proofs.StreamsLaws.{opened_low}
 use Rattle.cas_service.specs.Changes as Texts
-use Rattle.execution_calls.specs.Ending.{admissions, results_with}
-use Rattle.executor.specs.Job.{JobValue}
-use Rattle.executor.specs.Steps.{StepValue}
+use Rattle.outcomes.specs.Ending.{admissions, results_with}
+use Rattle.execution.specs.Job.{JobValue}
+use Rattle.execution.specs.Steps.{StepValue}
 use Rattle.job_queue.specs.Jobs.{running_job}
-use Rattle.outcomes.specs.Outcomes.{OutcomeValue}
+use Rattle.run_outcomes.specs.Outcomes.{OutcomeValue}
 use Rattle.instance_core.specs.declared.event.CallId.{CallId}
 use Rattle.instance_core.specs.Calls.{CallValue, CallEventValue, has, start_jobs, end_late_jobs, end_job}
 use Rattle.instance_core.specs.Changes.{Text, Keeps as KeepsResults, Settles, state_after_change, state_after_changes}

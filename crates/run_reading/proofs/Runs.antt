@@ -4,7 +4,7 @@ use Rattle.std.specs.Prelude.{suc, fold, map, Option, Some, None}
 use Rattle.std.specs.List.{AllByRecursion}
 use Rattle.instance_core.specs.Visible.{Blob}
 use Rattle.server_events.specs.Events.{EventValue, WhatValue, opened, received, took, closed, tick, ended}
-use Rattle.executor.specs.Orders.{OrderValue}
+use Rattle.execution.specs.Orders.{OrderValue}
 use Rattle.instance_core.specs.Calls.{tick as time_passes, start_jobs, end_late_jobs, end_job}
 use Rattle.instance_core.specs.Jobs.{IsWholeOrder}
 use Rattle.instance_core.specs.State.{at_moment}

@@ -1,7 +1,7 @@
 -- What holds of all that an instance gives in a run.
 use Rattle.std.specs.Prelude.{◌≡◌, ℕ, List, [], ◌∷◌, ◌++◌, map, None}
 use Rattle.std.specs.List.{AllByRecursion}
-use Rattle.executor.specs.Orders.{OrderValue}
+use Rattle.execution.specs.Orders.{OrderValue}
 use Rattle.instance_core.specs.Jobs.{IsWholeOrder}
 use Rattle.instance_core.specs.NamedReplies.{ServesNamed}
 use Rattle.instance_core.specs.State.{IsInstanceWithin}

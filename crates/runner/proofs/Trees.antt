@@ -1,10 +1,9 @@
 -- Nodes that are added to those of an output directory.
 use Rattle.std.proofs.Common.{◌≡◌, ◌≤◌, ℕ, ◌+◌, ◌-◌, Bool, List, [], ◌∷◌, ◌++◌, subst, take, length, length-append, refl, ap, sym, ◌∙◌, arith}
-use Rattle.std.specs.Prelude.{min, string_bytes}
+use Rattle.std.specs.Prelude.{min, string_bytes, Option, Result, Ok, Err, IfOk}
 use Rattle.std.proofs.lemmas.List.{length-take}
 use Rattle.run_outcomes.specs.declared.outcome.OutputNode.{OutputNode}
 use Rattle.run_outcomes.specs.declared.outcome.NodeKind.TheVariants.{File, Directory}
-use Rattle.std.specs.Prelude.{Option, Result, Ok, Err, IfOk}
 use Rattle.runner.specs.declared.tree.Tree.{Tree}
 use Rattle.runner.specs.declared.stage.Gathering.{Gathering}
 use Rattle.runner.specs.declared.stage.Stage.TheVariants as stages

@@ -8,10 +8,10 @@ use Rattle.std.proofs.lemmas.Bool.{cases_eq, eq-eqb, ne_eqb, true≢false}
 use Rattle.std.proofs.lemmas.List.{map-append}
 use Rattle.std.proofs.lemmas.Grind.{flat_map-append}
 use Rattle.std.proofs.lemmas.Option.{none-some, same_Some, slice_get-map}
-use Rattle.executor.specs.Job.{TaskValue}
-use Rattle.executor.specs.Orders.{OrderValue}
+use Rattle.execution.specs.Job.{TaskValue}
+use Rattle.execution.specs.Orders.{OrderValue}
 use Rattle.instance_core.specs.Visible.{Blob}
-use Rattle.outcomes.specs.Outcomes.{OutcomeValue}
+use Rattle.run_outcomes.specs.Outcomes.{OutcomeValue}
 use Rattle.server_events.specs.Configs.{ConfigValue, parent_of, parents_of}
 use Rattle.server_events.specs.Faults.{AreParents}
 use Rattle.server_events.specs.Events.{EventValue, WhatValue, opened, received, took, closed, tick, ended}

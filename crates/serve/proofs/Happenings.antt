@@ -4,7 +4,7 @@ use Rattle.std.specs.Prelude.{fold, Bool, true, false, Option, Some, None, IfSom
 use Rattle.std.specs.List.{AllByRecursion, range_with_len}
 use Rattle.std.proofs.lemmas.List.Elements.{filter_map-append}
 use Rattle.std.proofs.lemmas.List.Sums.{fold-append}
-use Rattle.executor.specs.Orders.{OrderValue}
+use Rattle.execution.specs.Orders.{OrderValue}
 use Rattle.instance_core.specs.Calls.{CallEventValue, tick as time_passes}
 use Rattle.instance_core.specs.State.{InstanceState}
 use Rattle.instance_core.specs.Changes.{InstanceChange, Text, Goes, Ends, Wrote, Keeps, Expires, Does, Pushes, Settles, MadeInPart, state_after_change, state_after_changes}

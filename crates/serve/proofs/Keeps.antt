@@ -14,10 +14,10 @@ use Rattle.std.proofs.lemmas.List.Elements.{filter_map-append}
 use Rattle.std.proofs.lemmas.List.Sums.{fold_push}
 use Rattle.std.proofs.lemmas.Option.{none-some, same_Some, slice_get_cases, slice_get-map}
 use Rattle.runner.proofs.Lists.{first_and_rest, no_rest}
-use Rattle.outcomes.specs.Outcomes.{OutcomeValue}
-use Rattle.executor.specs.declared.orders.Order.{Order}
-use Rattle.executor.specs.Orders.{OrderValue}
-use Rattle.executor.specs.Ordered.{order_meant}
+use Rattle.run_outcomes.specs.Outcomes.{OutcomeValue}
+use Rattle.execution.specs.declared.orders.Order.{Order}
+use Rattle.execution.specs.Orders.{OrderValue}
+use Rattle.execution.specs.Ordered.{order_meant}
 use Rattle.instance_core.specs.Turns.{orders_meant}
 use Rattle.instance_core.proofs.OrdersMeant.{all_meant}
 use Rattle.served_instance.specs.Bytes.{pending_bytes}

@@ -3,11 +3,11 @@ use Rattle.std.proofs.Common.{◌≡◌, ℕ, ◌<◌, ◌≤◌, List, [], ◌�
 use Rattle.std.specs.Prelude.{Bool, true, false, Option, Some, None}
 use Rattle.std.specs.List.{AllByRecursion}
 use Rattle.std.specs.Option.{option_map}
-use Rattle.executor.specs.Job.{TaskValue}
-use Rattle.executor.specs.Orders.{OrderValue, start, task_of}
+use Rattle.execution.specs.Job.{TaskValue}
+use Rattle.execution.specs.Orders.{OrderValue, start, task_of}
 use Rattle.instance_core.specs.State.{InstanceState}
 use Rattle.instance_core.specs.Visible.{Blob}
-use Rattle.outcomes.specs.Outcomes.{OutcomeValue}
+use Rattle.run_outcomes.specs.Outcomes.{OutcomeValue}
 use Rattle.server_events.specs.Configs.{ConfigValue, parent_of}
 use Rattle.server_events.specs.Events.{EventValue, ended}
 use Rattle.served_instance.specs.Lone.{LoneInstance}

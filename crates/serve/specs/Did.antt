@@ -3,7 +3,7 @@
 -- be read from `Did` up.
 use Rattle.std.specs.Prelude.{◌≡◌, ◌⊎◌, ℕ, ◌==◌, ◌&&◌, not, if◌then◌else◌, Bool, List, [], ◌∷◌, ◌++◌, map, fold, length, Option}
 use Rattle.std.specs.List.{flat_map, list_any}
-use Rattle.executor.specs.Orders.{OrderValue}
+use Rattle.execution.specs.Orders.{OrderValue}
 use Rattle.server_events.specs.Events.{EventValue, tick, ended}
 use Rattle.server_core.specs.Families.{Family, FamilyEvent, family_events}
 use Rattle.server_core.specs.Marked.{MarkedEvent, MarkedRun}

@@ -1,7 +1,7 @@
 -- What a server keeps while it serves. For the code alone: `Served.antt` says what comes of it.
 use Rattle.std.specs.Prelude.{◌≡◌, ◌≢◌, ◌+◌, ◌-◌, ◌≤◌, ◌<◌, ℕ, min, Bool, true, false, List, map, length, Option, Some, None, IfSome}
-use Rattle.executor.specs.declared.orders.Order.{Order}
-use Rattle.executor.specs.Orders.{OrderValue}
+use Rattle.execution.specs.declared.orders.Order.{Order}
+use Rattle.execution.specs.Orders.{OrderValue}
 use Rattle.instance_core.specs.Turns.{orders_meant}
 use Rattle.instance_core.specs.Visible.{Blob}
 use Rattle.server_events.specs.Configs.{ConfigValue, parent_of, parents_of}

@@ -3,12 +3,12 @@
 -- a configuration; an event, what happened in it, and what a run gave
 pub use Rattle.server_events.specs.Configs.{ConfigValue}
 pub use Rattle.server_events.specs.Events.{EventValue, WhatValue}
-pub use Rattle.outcomes.specs.Outcomes.{NodeKindValue, OutputNodeValue, OutputValue, ExitedValue, OutcomeValue}
+pub use Rattle.run_outcomes.specs.Outcomes.{NodeKindValue, OutputNodeValue, OutputValue, ExitedValue, OutcomeValue}
 -- a text under its digest; what is ordered to be run, and what stands in its input root
 pub use Rattle.instance_core.specs.Visible.{Blob}
-pub use Rattle.tree_plan.specs.Nodes.{PlanNodeValue, NodeKindValue as PlanKindValue}
-pub use Rattle.executor.specs.Job.{TaskValue}
-pub use Rattle.executor.specs.Orders.{OrderValue}
+pub use Rattle.actions.specs.Nodes.{PlanNodeValue, NodeKindValue as PlanKindValue}
+pub use Rattle.execution.specs.Job.{TaskValue}
+pub use Rattle.execution.specs.Orders.{OrderValue}
 -- what an instance gave; what happened at sockets and at runs
 pub use Rattle.server_core.specs.Outputs.{InstanceOutputValue}
 pub use Rattle.serve.specs.SocketEvents.{PortEvent, SocketEvent}

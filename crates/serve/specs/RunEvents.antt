@@ -1,14 +1,14 @@
 -- What happens at the runs of jobs.
 use Rattle.std.specs.Prelude.{◌≡◌, ◌⊎◌, ℕ, List, [], ◌∷◌, ◌++◌, Option, Some, None, IfSome, Result, Ok, Err}
 use Rattle.std.specs.Option.{option_map}
-use Rattle.outcomes.specs.Outcome.{Outcome}
-use Rattle.outcomes.specs.Outcomes.{OutcomeValue, failed}
-use Rattle.outcomes.specs.Shown.{outcome_shown}
+use Rattle.run_outcomes.specs.declared.outcome.Outcome.{Outcome}
+use Rattle.run_outcomes.specs.Outcomes.{OutcomeValue, failed}
+use Rattle.run_outcomes.specs.Shown.{outcome_shown}
 use Rattle.runner.specs.declared.fault.RunFault.{RunFault}
 use Rattle.runner.specs.declared.fault.RunFault.TheVariants.{Left}
 use Rattle.runner.specs.declared.task.RunKey.{RunKey}
-use Rattle.executor.specs.Job.{TaskValue}
-use Rattle.executor.specs.Orders.{OrderValue, start}
+use Rattle.execution.specs.Job.{TaskValue}
+use Rattle.execution.specs.Orders.{OrderValue, start}
 use Rattle.server_core.specs.declared.server.LentTask.{LentTask}
 use Rattle.server_core.specs.Lent.{lent_shown}
 

@@ -4,7 +4,7 @@ use Rattle.std.specs.Prelude.{◌≡◌, ◌≢◌, ◌-◌, ◌^◌, ℕ, min, 
 use Rattle.std.specs.Option.{option_map, option_map_or}
 use Rattle.std.specs.List.{AllByRecursion}
 use Rattle.std.specs.Io.{StartsWith}
-use Rattle.executor.specs.Orders.{OrderValue, task_of}
+use Rattle.execution.specs.Orders.{OrderValue, task_of}
 use Rattle.instance_core.specs.Visible.{Blob}
 use Rattle.served_instance.specs.Bytes.{pending_bytes}
 use Rattle.server_events.specs.Configs.{ConfigValue, parent_of}

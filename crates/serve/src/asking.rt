@@ -11,7 +11,7 @@ use crate::carrying::{Counting, tell};
 use crate::error_lines::ErrorLines;
 use crate::runs::Runs;
 use crate::sockets::Sockets;
-use outcomes::Outcome;
+use run_outcomes::Outcome;
 use runner::{RunFault, RunKey};
 use server_events::{Configs, What};
 use std::io::Write;

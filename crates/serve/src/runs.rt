@@ -2,14 +2,14 @@
 
 ghost use Rattle.std.specs.Prelude.{List, Option, None, IfOk, IfSome, ◌≤◌, ◌∷◌, [], length};
 
-use outcomes::Outcome;
+use run_outcomes::Outcome;
 use runner::{RunFault, RunKey};
 use server_core::LentTask;
 use std::io;
 
 /// The runs of the jobs of a server's instances. No call waits for a program.
 pub trait Runs {
-    ghost use Rattle.executor.specs.Orders.{start, kill};
+    ghost use Rattle.execution.specs.Orders.{start, kill};
     ghost use Rattle.server_core.specs.Lent.{lent_shown};
     ghost use Rattle.serve.specs.RunEvents.{RunEvent, ordered, asked_events, AddsRuns, WasBegun};
 

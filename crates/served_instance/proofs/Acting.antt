@@ -4,8 +4,8 @@ use Rattle.std.specs.Prelude.{IfOk, OnOk}
 use Rattle.std.specs.declared.alloc.Global.{Global}
 use Rattle.std.specs.declared.vec.Vec.{Vec}
 use Rattle.blob_pool.specs.Slots.{Slots}
-use Rattle.executor.specs.declared.orders.Order.{Order}
-use Rattle.executor.specs.Ordered.{order_meant}
+use Rattle.execution.specs.declared.orders.Order.{Order}
+use Rattle.execution.specs.Ordered.{order_meant}
 use Rattle.instance_core.specs.InstanceViewShown.{ViewValue}
 use Rattle.instance_core.specs.Slots.{InstanceSlots, state_in}
 use Rattle.server_events.specs.Events.{WhatValue}

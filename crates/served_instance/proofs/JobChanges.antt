@@ -6,8 +6,8 @@ use Rattle.conn_core.specs.Calls.{cancels}
 use Rattle.job_queue.specs.Jobs.{Jobs}
 use Rattle.job_queue.specs.Changes as Queue
 use Rattle.job_queue.specs.Changes.{JobChange, jobs_after, jobs_after_all}
-use Rattle.executor.specs.Job.{JobValue}
-use Rattle.executor.specs.Steps.{StepValue, change_of, jobs_after_steps}
+use Rattle.execution.specs.Job.{JobValue}
+use Rattle.execution.specs.Steps.{StepValue, change_of, jobs_after_steps}
 use Rattle.instance_core.specs.Answer.{answer, state_after}
 use Rattle.instance_core.specs.Calls.{CallEventValue, tick as time_passes, start_jobs, end_late_jobs, end_job}
 use Rattle.instance_core.specs.Changes.{InstanceChange, Text, Goes, Ends, Wrote, Keeps, Expires, Does, Pushes, Settles, state_after_change, state_after_changes}

@@ -8,8 +8,8 @@ use Rattle.grpc_sending.specs.StoredSending.{AgreeOn}
 use Rattle.instance_core.specs.Slots.{InstanceSlots, state_in, holders_of_instance, IsInstanceInPool}
 use Rattle.instance_core.specs.State.{IsInstanceWithin}
 use Rattle.instance_core.specs.InstanceViewShown.{visible_in}
-use Rattle.executor.specs.InPool.{jobs_in}
-use Rattle.executor.proofs.Calling.{jobs_same, view_same}
+use Rattle.execution.specs.InPool.{jobs_in}
+use Rattle.execution.proofs.Calling.{jobs_same, view_same}
 use Rattle.served_instance.specs.StandsFor.{ServedConnection}
 use Rattle.served_instance.specs.Slots.{ServedSlots, holders_of, IsServedInPool}
 use Rattle.served_instance.specs.Ranges.{AllKeepRanges, Releases, sources_at, range_holders, seen_with}

@@ -2,10 +2,10 @@
 use Rattle.std.proofs.Common.{◌≡◌, ℕ, Bool, true, false, cond, List, [], ◌∷◌, ◌++◌, map, Option, Some, None, Result, Ok, Err, refl, sym, ap, ◌∙◌, subst, inl, inr, append_assoc, append-nil}
 use Rattle.std.specs.List.{AllByRecursion}
 use Rattle.job_queue.specs.Jobs.{Jobs, jobs_without, running_job}
-use Rattle.executor.specs.Job.{JobValue}
-use Rattle.executor.specs.Execute as Executor
-use Rattle.executor.specs.Execute.{ExecuteChange}
-use Rattle.outcomes.specs.Outcomes.{OutcomeValue}
+use Rattle.execution.specs.Job.{JobValue}
+use Rattle.execution.specs.Execute as Executor
+use Rattle.execution.specs.Execute.{ExecuteChange}
+use Rattle.run_outcomes.specs.Outcomes.{OutcomeValue}
 use Rattle.instance_core.specs.Method.{Method}
 use Rattle.instance_core.specs.Method.TheVariants as Called
 use Rattle.instance_core.specs.Refusal.{Refusal}

@@ -12,10 +12,10 @@ use Rattle.conn_core.proofs.CallsInCourse.{same_calls}
 use Rattle.conn_core.specs.Past.{Past}
 use Rattle.conn_core.specs.StandsFor.{ConnectionValue}
 use Rattle.job_queue.specs.Jobs.{Jobs, running_job}
-use Rattle.executor.specs.Job.{JobValue}
-use Rattle.executor.specs.declared.job.Job.{Job}
-use Rattle.executor.specs.InPool.{jobs_in, job_in}
-use Rattle.executor.proofs.Taken.{shown-running}
+use Rattle.execution.specs.Job.{JobValue}
+use Rattle.execution.specs.declared.job.Job.{Job}
+use Rattle.execution.specs.InPool.{jobs_in, job_in}
+use Rattle.execution.proofs.Taken.{shown-running}
 use Rattle.server_events.specs.Events.{EventValue, WhatValue, opened, received, took, closed, tick, ended}
 use Rattle.served_instance.specs.declared.refusal.EventRefusal.{EventRefusal}
 use Rattle.served_instance.specs.declared.refusal.EventRefusal.TheVariants.{NoSuchInstance, TimeWentBack, ConnectionExists, TooManyConnections, NoSuchConnection, NoSuchJob, TookTooMuch, NoMemory}
@@ -23,7 +23,7 @@ use Rattle.served_instance.specs.Connections.{open_ones, open_at}
 use Rattle.instance_core.specs.Visible.{Blob}
 use Rattle.instance_core.specs.State.{seeing, InstanceState, at_moment}
 use Rattle.served_instance.specs.Lone.{LoneInstance, lone_at_moment, after_event, orders_of_what}
-use Rattle.executor.specs.declared.orders.Order.{Order}
+use Rattle.execution.specs.declared.orders.Order.{Order}
 use Rattle.instance_core.specs.Turns.{AreOrders}
 use Rattle.served_instance.specs.declared.instance.TheConstants.{CONNECTION_LIMIT}
 use Rattle.served_instance.specs.Refusals.{refusal_of, refusal_of_what, after_event_unless, lone_step, orders_unless, lone_orders, IsRefusalOutcome}

@@ -6,14 +6,14 @@ use Rattle.std.specs.declared.vec.Vec.{Vec}
 use Rattle.blob_pool.specs.Slots.{Slots, text_at}
 use Rattle.blob_pool.specs.Moves.{Moves, no_holders}
 use Rattle.job_queue.specs.Jobs.{Jobs, running_job}
-use Rattle.executor.specs.declared.orders.Order.{Order}
-use Rattle.executor.specs.Job.{JobValue}
-use Rattle.executor.specs.Orders.{orders_of}
-use Rattle.executor.specs.Steps.{StepValue, ending_of, jobs_after_steps, timings_out}
-use Rattle.executor.specs.Taking.{CanTake}
-use Rattle.executor.proofs.Timings.{nothing-ends, outcome-ends, tick-ends}
-use Rattle.executor.proofs.Turns.{turn-can}
-use Rattle.outcomes.specs.Outcomes.{OutcomeValue}
+use Rattle.execution.specs.declared.orders.Order.{Order}
+use Rattle.execution.specs.Job.{JobValue}
+use Rattle.execution.specs.Orders.{orders_of}
+use Rattle.execution.specs.Steps.{StepValue, ending_of, jobs_after_steps, timings_out}
+use Rattle.execution.specs.Taking.{CanTake}
+use Rattle.execution.proofs.Timings.{nothing-ends, outcome-ends, tick-ends}
+use Rattle.execution.proofs.Turns.{turn-can}
+use Rattle.run_outcomes.specs.Outcomes.{OutcomeValue}
 use Rattle.grpc_sending.proofs.Histories.{append-nil}
 use Rattle.instance_core.specs.declared.event.Reply.{Reply}
 use Rattle.instance_core.specs.Answer.{Answer, answer, ending_at, ending_changes, ending_steps, orders_at, state_after, steps_at, turn_answer}

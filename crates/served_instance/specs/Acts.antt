@@ -16,7 +16,7 @@ use Rattle.served_instance.specs.Ranges.{AllKeepRanges, sources_at}
 use Rattle.served_instance.specs.Slots.{ServedSlots}
 use Rattle.std.specs.declared.alloc.Global.{Global}
 use Rattle.std.specs.declared.vec.Vec.{Vec}
-use Rattle.executor.specs.declared.orders.Order.{Order}
+use Rattle.execution.specs.declared.orders.Order.{Order}
 use Rattle.instance_core.specs.Slots.{InstanceSlots, state_beside, state_in}
 use Rattle.instance_core.specs.Turns.{AreOrders}
 use Rattle.instance_core.specs.Watching.{WatchAtRest}

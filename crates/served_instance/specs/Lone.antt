@@ -20,7 +20,7 @@ use Rattle.conn_core.specs.declared.event.CallEvent.{CallEvent}
 use Rattle.conn_core.specs.Received.{received_raw_frames}
 use Rattle.conn_core.specs.Calls.{cancels}
 use Rattle.conn_core.specs.Past.{Past, new_past, with_frame, with_fault, with_taken, with_pumped, with_bytes}
-use Rattle.executor.specs.Orders.{OrderValue}
+use Rattle.execution.specs.Orders.{OrderValue}
 use Rattle.instance_core.specs.Calls.{CallEventValue, tick as time_passes, start_jobs, end_late_jobs, end_job}
 use Rattle.instance_core.specs.State.{InstanceState, new_instance, at_moment, seeing}
 use Rattle.instance_core.specs.Visible.{Blob}

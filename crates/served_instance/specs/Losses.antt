@@ -4,7 +4,7 @@
 use Rattle.std.specs.Prelude.{◌≡◌, ◌⊎◌, ℕ, List, [], ◌∷◌, ◌++◌}
 use Rattle.std.specs.List.{AllByRecursion}
 use Rattle.job_queue.specs.Jobs.{Jobs}
-use Rattle.executor.specs.Job.{JobValue}
+use Rattle.execution.specs.Job.{JobValue}
 use Rattle.instance_core.specs.Answer.{answer, state_after}
 use Rattle.instance_core.specs.Calls.{CallEventValue, tick as time_passes, end_job}
 use Rattle.instance_core.specs.Changes.{MadeInPart}

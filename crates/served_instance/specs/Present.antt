@@ -3,7 +3,7 @@ use Rattle.std.specs.Prelude.{◌≡◌, ℕ, ◌==◌, Bool, nat_le, nat_lt, if
 use Rattle.std.specs.Option.{is_some, option_map_or}
 use Rattle.conn_core.specs.StandsFor.{ConnectionValue}
 use Rattle.job_queue.specs.Jobs.{Jobs, running_job}
-use Rattle.executor.specs.declared.job.Job.{Job}
+use Rattle.execution.specs.declared.job.Job.{Job}
 use Rattle.server_events.specs.Events.{EventValue, WhatValue, opened, received, took, closed, tick, ended}
 use Rattle.served_instance.specs.declared.open_connection.OpenConnection.{OpenConnection}
 use Rattle.served_instance.specs.declared.refusal.EventRefusal.{EventRefusal}

@@ -3,7 +3,7 @@ use Rattle.std.specs.Prelude.{◌≡◌, ℕ, List, nat_le, nat_lt, if◌then◌
 use Rattle.std.specs.Option.{is_some, option_map_or}
 use Rattle.grpc_sending.specs.Bytes.{untaken_count}
 use Rattle.job_queue.specs.Jobs.{running_job}
-use Rattle.executor.specs.Orders.{OrderValue}
+use Rattle.execution.specs.Orders.{OrderValue}
 use Rattle.instance_core.specs.Visible.{Blob}
 use Rattle.server_events.specs.Events.{EventValue, WhatValue, opened, received, took, closed, tick, ended}
 use Rattle.served_instance.specs.declared.refusal.EventRefusal.{EventRefusal}

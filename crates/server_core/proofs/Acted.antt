@@ -10,7 +10,7 @@ use Rattle.std.proofs.lemmas.List.{length-set}
 use Rattle.std.proofs.lemmas.Option.{slice_get-get_or}
 use Rattle.std.proofs.lemmas.Result.{on_ok_weaker, IfOk-weaker}
 use Rattle.blob_pool.specs.Slots.{Slots}
-use Rattle.executor.specs.declared.orders.Order.{Order}
+use Rattle.execution.specs.declared.orders.Order.{Order}
 use Rattle.instance_core.specs.Visible.{Blob}
 use Rattle.instance_view.specs.Shown.{ViewValue, ViewEntry, blobs_in, visible_in, entry_holders}
 use Rattle.server_events.specs.Events.{EventValue}

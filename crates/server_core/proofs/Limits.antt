@@ -5,7 +5,7 @@ use Rattle.std.specs.Option.{option_map}
 use Rattle.std.specs.List.{AllByRecursion, IsDistinct}
 use Rattle.job_queue.specs.Jobs.{no_jobs}
 use Rattle.job_queue.specs.Order.{AreJobs}
-use Rattle.executor.specs.Job.{JobValue}
+use Rattle.execution.specs.Job.{JobValue}
 use Rattle.job_queue.specs.declared.queue.TheConstants.{MOST_RUNNING}
 use Rattle.instance_core.proofs.Limits.{nothing_within}
 use Rattle.instance_core.specs.Calls.{same_call}

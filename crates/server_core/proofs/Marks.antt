@@ -9,7 +9,7 @@ use Rattle.std.proofs.lemmas.List.{length_push, map_push}
 use Rattle.std.proofs.lemmas.Option.{slice_get_within, get_or_from_slice_get}
 use Rattle.std.specs.declared.alloc.Global.{Global}
 use Rattle.std.specs.declared.vec.Vec.{Vec}
-use Rattle.executor.specs.declared.orders.Order.{Order}
+use Rattle.execution.specs.declared.orders.Order.{Order}
 use Rattle.server_events.specs.Configs.{ConfigValue, parent_of}
 use Rattle.server_events.specs.Faults.{AreParents}
 use Rattle.instance_core.specs.Visible.{Blob}

@@ -13,7 +13,7 @@ use Rattle.served_instance.specs.declared.refusal.EventRefusal.TheVariants.{NoSu
 use Rattle.served_instance.specs.Connections.{LoneConnection, AreApart, open_at}
 use Rattle.served_instance.specs.Lone.{LoneInstance, sent_bytes_on, after_event}
 use Rattle.served_instance.specs.Refusals.{refusal_of, refusal_of_what, after_event_unless, lone_step, orders_unless, lone_orders, IsRefusalOutcome}
-use Rattle.executor.specs.Orders.{OrderValue}
+use Rattle.execution.specs.Orders.{OrderValue}
 use Rattle.server_core.specs.Runs.{Run, orders_at, refusals_at, run_step}
 use Rattle.server_core.specs.declared.record.OpenRecord.{OpenRecord}
 use Rattle.server_core.specs.Records.{RecordValue, IsRecord}

@@ -20,13 +20,13 @@ use Rattle.job_queue.specs.Order.{AreJobs}
 use Rattle.job_queue.specs.Sums.{waiting_sum, running_sum}
 use Rattle.job_queue.specs.declared.queue.Running.{Running}
 use Rattle.job_queue.specs.declared.queue.TheConstants.{MOST_RUNNING, MOST_WAITING}
-use Rattle.executor.specs.declared.job.Job.{Job}
-use Rattle.executor.specs.declared.orders.Order.{Order}
-use Rattle.executor.specs.InPool.{job_holders, jobs_holders, jobs_in, running_in, waiting_in}
-use Rattle.executor.specs.Job.{JobValue}
-use Rattle.executor.specs.Keeping.{kept_entries, kept_entry}
-use Rattle.executor.specs.Orders.{OrderValue}
-use Rattle.executor.proofs.Calling.{jobs_same}
+use Rattle.execution.specs.declared.job.Job.{Job}
+use Rattle.execution.specs.declared.orders.Order.{Order}
+use Rattle.execution.specs.InPool.{job_holders, jobs_holders, jobs_in, running_in, waiting_in}
+use Rattle.execution.specs.Job.{JobValue}
+use Rattle.execution.specs.Keeping.{kept_entries, kept_entry}
+use Rattle.execution.specs.Orders.{OrderValue}
+use Rattle.execution.proofs.Calling.{jobs_same}
 use Rattle.instance_core.specs.Slots.{state_in}
 use Rattle.instance_core.specs.Turns.{AreOrders}
 use Rattle.instance_core.specs.Visible.{Blob}

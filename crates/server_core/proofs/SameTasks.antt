@@ -4,9 +4,9 @@ use Rattle.std.specs.Prelude.{fold, map}
 use Rattle.std.specs.List.{AllByRecursion}
 use Rattle.job_queue.specs.Jobs.{Jobs}
 use Rattle.job_queue.specs.Order.{AreJobs}
-use Rattle.executor.specs.Job.{JobValue, TaskValue}
-use Rattle.executor.specs.Orders.{task_of}
-use Rattle.executor.proofs.Tasks.{task-same}
+use Rattle.execution.specs.Job.{JobValue, TaskValue}
+use Rattle.execution.specs.Orders.{task_of}
+use Rattle.execution.proofs.Tasks.{task-same}
 use Rattle.instance_core.specs.State.{IsInstanceWithin}
 use Rattle.instance_core.specs.Visible.{Blob}
 use Rattle.server_events.specs.Events.{EventValue}

@@ -7,10 +7,10 @@ use Rattle.blob_pool.specs.Moves.{one_at}
 use Rattle.job_queue.specs.Jobs.{Jobs}
 use Rattle.job_queue.specs.Sums.{waiting_sum, running_sum}
 use Rattle.job_queue.specs.declared.queue.Running.{Running}
-use Rattle.executor.specs.declared.job.Job.{Job}
-use Rattle.executor.specs.InPool.{job_holders, jobs_holders, jobs_in, running_in, waiting_in}
-use Rattle.executor.specs.Job.{JobValue}
-use Rattle.executor.specs.Keeping.{kept_entries}
+use Rattle.execution.specs.declared.job.Job.{Job}
+use Rattle.execution.specs.InPool.{job_holders, jobs_holders, jobs_in, running_in, waiting_in}
+use Rattle.execution.specs.Job.{JobValue}
+use Rattle.execution.specs.Keeping.{kept_entries}
 use Rattle.served_instance.specs.Sources.{count_of}
 use Rattle.instance_core.specs.InstanceViewShown.{ViewEntry, blobs_in, entry_holders}
 use Rattle.served_instance.specs.Ranges.{sources_at}

@@ -7,7 +7,7 @@ use Rattle.std.specs.List.{slice_get}
 use Rattle.std.proofs.Math.ListN.{set}
 use Rattle.std.proofs.lemmas.Bool.{cases_eq, eq-eqb, ne_eqb, lt-ltb, le-ltb, cond-true, cond-false}
 use Rattle.std.proofs.lemmas.Option.{slice_get_within, get_or_from_slice_get, none-some, same_Some}
-use Rattle.executor.specs.declared.orders.Order.{Order}
+use Rattle.execution.specs.declared.orders.Order.{Order}
 use Rattle.instance_core.specs.Slots.{state_in}
 use Rattle.instance_core.specs.Turns.{AreOrders}
 use Rattle.instance_core.specs.Visible.{Blob}

@@ -5,7 +5,7 @@ use Rattle.std.specs.declared.alloc.Global.{Global}
 use Rattle.std.specs.declared.vec.Vec.{Vec}
 use Rattle.blob_pool.specs.Slots.{Slots}
 use Rattle.blob_pool.specs.Moves.{Moves}
-use Rattle.executor.specs.declared.orders.Order.{Order}
+use Rattle.execution.specs.declared.orders.Order.{Order}
 use Rattle.instance_core.specs.Slots.{state_in}
 use Rattle.instance_core.specs.Turns.{AreOrders}
 use Rattle.instance_core.specs.Visible.{Blob}

@@ -1,6 +1,6 @@
 -- What a run gives.
 use Rattle.std.specs.Prelude.{ℕ, List}
-use Rattle.executor.specs.Orders.{OrderValue}
+use Rattle.execution.specs.Orders.{OrderValue}
 use Rattle.served_instance.specs.declared.refusal.EventRefusal.{EventRefusal}
 
 pub record InstanceOutputValue : Type 0 where

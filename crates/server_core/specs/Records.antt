@@ -2,7 +2,7 @@
 use Rattle.std.specs.Prelude.{◌≡◌, ◌≤◌, ◌+◌, ℕ, if◌then◌else◌, List, [], ◌∷◌, length}
 use Rattle.std.specs.List.{AllByRecursion}
 use Rattle.served_instance.specs.Bytes.{bytes_put, count_taken, untaken_count}
-use Rattle.executor.specs.Orders.{OrderValue}
+use Rattle.execution.specs.Orders.{OrderValue}
 use Rattle.served_instance.specs.declared.refusal.EventRefusal.{EventRefusal}
 use Rattle.served_instance.specs.Connections.{LoneConnection, AreApart, open_ones}
 use Rattle.served_instance.specs.Lone.{all_sent_bytes}

@@ -3,7 +3,7 @@
 -- is in served_instance, Refusals.antt.
 use Rattle.std.specs.Prelude.{ℕ, ◌+◌, List, [], ◌∷◌, ◌++◌, fold, map, Option, Some, None}
 use Rattle.std.specs.Option.{option_map, option_map_or}
-use Rattle.executor.specs.Orders.{OrderValue}
+use Rattle.execution.specs.Orders.{OrderValue}
 use Rattle.instance_core.specs.Visible.{Blob}
 use Rattle.server_events.specs.Configs.{ConfigValue}
 use Rattle.server_events.specs.Events.{EventValue}

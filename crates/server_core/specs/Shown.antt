@@ -4,9 +4,9 @@ use Rattle.std.specs.Option.{option_map, option_and_then}
 use Rattle.std.specs.List.{slice_get}
 use Rattle.served_instance.specs.declared.refusal.EventRefusal.{EventRefusal}
 use Rattle.instance_core.specs.Visible.{Blob}
-use Rattle.tree_plan.specs.Shown.{nodes_shown}
-use Rattle.executor.specs.Job.{TaskValue}
-use Rattle.executor.specs.Orders.{OrderValue, start, kill}
+use Rattle.actions.specs.Shown.{nodes_shown}
+use Rattle.execution.specs.Job.{TaskValue}
+use Rattle.execution.specs.Orders.{OrderValue, start, kill}
 use Rattle.server_core.specs.declared.orders.OrderedAt.{OrderedAt}
 use Rattle.server_core.specs.declared.orders.RunOrder.{RunOrder}
 use Rattle.server_core.specs.declared.orders.RunOrder.TheVariants.{Start, Kill}

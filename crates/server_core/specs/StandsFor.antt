@@ -2,8 +2,8 @@
 use Rattle.std.specs.Prelude.{◌≡◌, ℕ, List, [], ◌∷◌, Option, Some}
 use Rattle.std.specs.declared.alloc.Global.{Global}
 use Rattle.std.specs.declared.vec.Vec.{Vec}
-use Rattle.executor.specs.declared.orders.Order.{Order}
-use Rattle.executor.specs.Orders.{OrderValue}
+use Rattle.execution.specs.declared.orders.Order.{Order}
+use Rattle.execution.specs.Orders.{OrderValue}
 use Rattle.instance_core.specs.Turns.{AreOrders}
 use Rattle.std.specs.List.{slice_get}
 use Rattle.served_instance.specs.Lone.{LoneInstance}

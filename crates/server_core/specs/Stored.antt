@@ -2,7 +2,7 @@
 use Rattle.std.specs.Prelude.{◌≡◌, ◌⊎◌, ℕ, ◌+◌, List, [], ◌∷◌, ◌++◌, length}
 use Rattle.std.specs.List.{flat_map}
 use Rattle.job_queue.specs.Jobs.{Jobs}
-use Rattle.executor.specs.Job.{JobValue}
+use Rattle.execution.specs.Job.{JobValue}
 use Rattle.instance_core.specs.Visible.{Blob}
 use Rattle.served_instance.specs.StandsFor.{ServedState, lone_ranges}
 use Rattle.served_instance.specs.Lone.{LoneInstance}

@@ -2,8 +2,8 @@
 
 ghost use Rattle.std.specs.Prelude.{◌≡◌, ◌≢◌, ◌++◌, ℕ, List, Option, None, Some, IfSome, map, option_map};
 ghost use Rattle.std.specs.List.{AllByRecursion, flat_map};
-ghost use Rattle.executor.specs.Job.{TaskValue};
-ghost use Rattle.executor.specs.Orders.{task_of};
+ghost use Rattle.execution.specs.Job.{TaskValue};
+ghost use Rattle.execution.specs.Orders.{task_of};
 ghost use Rattle.instance_core.specs.State.{IsInstanceWithin};
 ghost use Rattle.server_events.specs.Configs.{ConfigValue, parent_of};
 ghost use Rattle.server_events.specs.Events.{EventValue, own_events};

@@ -3,18 +3,18 @@
 ghost use Rattle.std.specs.Prelude.{◌≡◌, map, option_map, IfOk};
 ghost use Rattle.blob_pool.specs.Slots.{Slots};
 ghost use Rattle.instance_view.specs.Shown.{blobs_in};
-ghost use Rattle.executor.specs.InPool.{task_in};
-ghost use Rattle.executor.specs.Keeping.{kept_entries};
-ghost use Rattle.executor.specs.Ordered.{order_meant};
+ghost use Rattle.execution.specs.InPool.{task_in};
+ghost use Rattle.execution.specs.Keeping.{kept_entries};
+ghost use Rattle.execution.specs.Ordered.{order_meant};
 ghost use Rattle.instance_core.specs.Slots.{state_in};
 ghost use Rattle.server_core.specs.Shown.{order_shown, task_shown, text_shown};
 
+use actions::PlanNode;
 use blob_pool::Pool;
 use digest::Digest;
-use executor::{KeptText, read_task};
+use execution::{KeptText, read_task};
 use served_instance::{Order, ServedInstance, Task};
 use std::alloc::{AllocError, Global};
-use tree_plan::PlanNode;
 
 /// A text of a task, under its digest.
 #[derive(Drop)]

@@ -11,7 +11,7 @@ ghost use Rattle.served_instance.specs.CallsInCourse.{has_calls};
 ghost use Rattle.served_instance.specs.Past.{Past};
 ghost use Rattle.served_instance.specs.Connections.{open_at};
 ghost use Rattle.served_instance.specs.Lone.{LoneInstance, new_lone};
-ghost use Rattle.executor.specs.Orders.{task_of};
+ghost use Rattle.execution.specs.Orders.{task_of};
 ghost use Rattle.served_instance.specs.StandsFor.{ServedState};
 ghost use Rattle.served_instance.specs.Refusals.{NeedsNoMemory, refusal_of, lone_step, lone_orders, IsRefusalOutcome};
 ghost use Rattle.served_instance.specs.StandsFor.{IsServedWithin, AreSettled};

@@ -1,6 +1,6 @@
 //! What happens to a server.
 
-use outcomes::Outcome;
+use run_outcomes::Outcome;
 
 /// What happens to one instance, and when.
 #[derive(Drop)]

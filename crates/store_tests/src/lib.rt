@@ -1,6 +1,6 @@
 //! Texts of a pool, put in and read back, alone and by instances side by side, and trees of many
 //! shapes, walked: tests of `paged_text`, `blob_pool`, `instance_view`, `quota_evict` and
-//! `tree_plan`.
+//! `actions`.
 #![tactic(auto)]
 
 #[cfg(test)]

@@ -12,7 +12,7 @@ use message_fields::Message;
 use reapi_messages as messages;
 use std::alloc::{AllocError, Global};
 use tree_messages::{Directory, DirectoryNode, FileNode, SymlinkNode};
-use tree_plan::{Plan, TreeFault, walk};
+use actions::{Plan, TreeFault, walk};
 
 /// What is stored of the tree.
 #[derive(Clone, Copy)]

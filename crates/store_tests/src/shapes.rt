@@ -10,7 +10,7 @@ use message_fields::Message;
 use reapi_messages as messages;
 use std::alloc::{AllocError, Global};
 use tree_messages::{Directory, DirectoryNode, SymlinkNode};
-use tree_plan::{Plan, TreeFault, walk};
+use actions::{Plan, TreeFault, walk};
 
 /// How a walk ends.
 #[derive(Clone, Copy, PartialEq, Eq)]

@@ -4,8 +4,8 @@ ghost use Rattle.std.specs.Prelude.{◌≡◌, [], Some, IfOk, IfSome};
 ghost use Rattle.serve.specs.Logged.{logged};
 ghost use Rattle.serve.specs.Served.{WasServed};
 
-use outcomes::Outcome;
 use program_status::{Fault, Output};
+use run_outcomes::Outcome;
 use runner::{RunFault, RunKey};
 use serve::{ErrorLines, LoggedSockets, Nobody, Runs, Sockets, Tally, serve};
 use server_core::LentTask;

@@ -1,13 +1,13 @@
 use Rattle.std.proofs.Common.{Ok, ◌≡◌, List, Option, None, refl, sym, ap, subst, ◌∙◌}
 use Rattle.std.specs.Prelude.{option_map}
 use Rattle.job_queue.specs.Jobs.{running_job}
-use Rattle.executor.specs.Job.{JobValue}
-use Rattle.executor.specs.InPool.{job_in}
-use Rattle.executor.specs.Taking.{steps_shown}
-use Rattle.executor.proofs.Taken.{shown-running}
-use Rattle.outcomes.specs.Shown.{outcome_shown}
-use Rattle.execution_calls.specs.Ending.{EndingValue}
-use Rattle.execution_calls.specs.Shown.{ending_shown}
+use Rattle.execution.specs.Job.{JobValue}
+use Rattle.execution.specs.InPool.{job_in}
+use Rattle.execution.specs.Taking.{steps_shown}
+use Rattle.execution.proofs.Taken.{shown-running}
+use Rattle.run_outcomes.specs.Shown.{outcome_shown}
+use Rattle.outcomes.specs.Endings.{ending_shown}
+use Rattle.outcomes.specs.Ending.{EndingValue}
 use Rattle.instance_core.specs.Answer.{answer, ending_changes, steps_at}
 use Rattle.instance_core.specs.Calls.{end_job}
 use Rattle.instance_core.specs.Changes.{InstanceChange, MadeInPart, state_after_changes}

@@ -1,6 +1,6 @@
 use Rattle.std.proofs.lemmas.Result.{err_from_is_err_and}
 use Rattle.instance_view.specs.Shown.{holders}
-use Rattle.execution_calls.specs.Asking.{execute_asked_shown}
+use Rattle.execution.specs.Asking.{execute_asked_shown}
 use Rattle.instance_core.specs.Carries.{contents_holders}
 use Rattle.instance_core.proofs.Carrying.{own_held}
 use Rattle.instance_core.proofs.Executed.{carries_executed, carries_failed}

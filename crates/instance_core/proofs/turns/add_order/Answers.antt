@@ -1,5 +1,5 @@
 use Rattle.std.proofs.Common.{rules}
-use Rattle.executor.specs.Taking.{step_shown}
+use Rattle.execution.specs.Taking.{step_shown}
 use Rattle.instance_core.proofs.Telling.{order_added}
 use Rattle.instance_core.proofs.turns.add_order.Goals as goal
 

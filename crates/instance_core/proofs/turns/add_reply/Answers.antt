@@ -1,7 +1,7 @@
 use Rattle.std.proofs.Common.{rules, ◌≡◌, ◌++◌, List, [], ◌∷◌, true, map, ap, ◌∙◌}
 use Rattle.std.proofs.lemmas.List.{map-append}
-use Rattle.executor.specs.Ordered.{told_shown}
-use Rattle.executor.specs.Orders.{ToldValue}
+use Rattle.execution.specs.Ordered.{told_shown}
+use Rattle.execution.specs.Orders.{ToldValue}
 use Rattle.instance_core.specs.declared.event.Reply.{Reply}
 use Rattle.instance_core.specs.Apart.{hears}
 use Rattle.instance_core.specs.Replies.{ReplyValue}

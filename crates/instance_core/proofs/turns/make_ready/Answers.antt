@@ -1,8 +1,8 @@
 use Rattle.std.proofs.Common.{◌≡◌, ◌-◌, ◌++◌, List, ◌∷◌, length, drop, take, map, ap, ◌∙◌}
-use Rattle.executor.specs.Orders.{ToldValue}
-use Rattle.executor.specs.Ordered.{orders_by}
-use Rattle.executor.specs.Taking.{step_shown, steps_shown}
-use Rattle.executor.specs.declared.steps.Step.{Step}
+use Rattle.execution.specs.Orders.{ToldValue}
+use Rattle.execution.specs.Ordered.{orders_by}
+use Rattle.execution.specs.Taking.{step_shown, steps_shown}
+use Rattle.execution.specs.declared.steps.Step.{Step}
 use Rattle.instance_core.specs.Apart.{replies_to}
 use Rattle.instance_core.specs.Calls.{Calls}
 use Rattle.instance_core.specs.Shown.{reply_shown}

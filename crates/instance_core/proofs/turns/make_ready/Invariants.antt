@@ -1,7 +1,7 @@
 use Rattle.std.proofs.Common.{◌≡◌, ◌++◌, ℕ, length, map}
 use Rattle.blob_pool.specs.Slots.{Slots}
-use Rattle.executor.specs.Ordered.{orders_by}
-use Rattle.executor.specs.Taking.{steps_shown}
+use Rattle.execution.specs.Ordered.{orders_by}
+use Rattle.execution.specs.Taking.{steps_shown}
 use Rattle.instance_core.specs.Apart.{replies_to}
 use Rattle.instance_core.specs.ReplyHolders.{replies_holders}
 use Rattle.instance_core.specs.Shown.{reply_shown}

@@ -1,7 +1,7 @@
 use Rattle.std.proofs.Common.{◌<◌, ◌++◌, length, map, sym, ◌∙◌, arith}
 use Rattle.std.proofs.lemmas.Option.{slice_get_within}
-use Rattle.executor.specs.Ordered.{told_shown}
-use Rattle.executor.specs.Orders.{ToldValue}
+use Rattle.execution.specs.Ordered.{told_shown}
+use Rattle.execution.specs.Orders.{ToldValue}
 use Rattle.instance_core.specs.Apart.{replies_to}
 use Rattle.instance_core.specs.Calls.{Calls}
 use Rattle.instance_core.specs.Shown.{reply_shown}

@@ -1,6 +1,6 @@
 use Rattle.std.proofs.Common.{◌≡◌, ◌≤◌, ◌-◌, ◌++◌, ℕ, drop, length, map}
 use Rattle.blob_pool.specs.Slots.{Slots}
-use Rattle.executor.specs.Ordered.{told_shown}
+use Rattle.execution.specs.Ordered.{told_shown}
 use Rattle.instance_core.specs.Apart.{replies_to}
 use Rattle.instance_core.specs.ReplyHolders.{replies_holders}
 use Rattle.instance_core.specs.Shown.{reply_shown}

@@ -1,6 +1,6 @@
 use Rattle.std.proofs.Common.{◌≡◌, length, map}
 use Rattle.outcomes.specs.Asked.{are_asked}
-use Rattle.action_reading.specs.Shown.{asked_shown}
+use Rattle.actions.specs.Shown.{asked_shown}
 use Rattle.run_outcomes.specs.Shown.{output_shown}
 use Rattle.outcomes.proofs.asked.are_asked.Given as goal
 

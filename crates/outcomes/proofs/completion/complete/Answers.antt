@@ -7,7 +7,7 @@ use Rattle.run_outcomes.specs.declared.outcome.Streams.{Streams}
 use Rattle.outcomes.specs.Asked.{are_asked}
 use Rattle.outcomes.specs.Completing.{IsCollected, blob_shown, collection_shown}
 use Rattle.outcomes.specs.Results.{result_with, stream_blobs, stream_digest}
-use Rattle.action_reading.specs.Shown.{asked_shown}
+use Rattle.actions.specs.Shown.{asked_shown}
 use Rattle.run_outcomes.specs.Shown.{exited_shown, output_shown}
 use Rattle.outcomes.proofs.Completed.{completed}
 use Rattle.outcomes.proofs.completion.complete.Goals as goal

@@ -2,7 +2,7 @@ use Rattle.std.proofs.Common.{◌≡◌, List, nat_lt, map, ap, ◌∙◌}
 use Rattle.digest.specs.declared.Digest.{Digest}
 use Rattle.instance_view.specs.Shown.{visible_in}
 use Rattle.instance_view.specs.Visible.{Blob}
-use Rattle.operations.specs.Statuses.{distinct}
+use Rattle.execution_messages.specs.Statuses.{distinct}
 use Rattle.outcomes.specs.Completing.{blob_shown}
 use Rattle.outcomes.specs.Fresh.{fresh_sum}
 use Rattle.outcomes.proofs.Freshness.{firsts, fresh_sizes}

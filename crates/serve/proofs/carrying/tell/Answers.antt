@@ -1,6 +1,6 @@
 use Rattle.std.proofs.Common.{refl, List, map, subst}
 use Rattle.std.specs.Prelude.{Option}
-use Rattle.executor.specs.declared.orders.Order.{Order}
+use Rattle.execution.specs.declared.orders.Order.{Order}
 use Rattle.instance_core.specs.Turns.{orders_meant}
 use Rattle.server_events.specs.Events.{EventValue}
 use Rattle.served_instance.specs.StandsFor.{ServedState}

@@ -1,7 +1,7 @@
 use Rattle.std.proofs.Common.{refl, map, arith}
 use Rattle.blob_pool.specs.Moves.{Moves}
 use Rattle.blob_pool.proofs.Moves.{moves_none, moves_trans}
-use Rattle.executor.specs.Taking.{steps_shown}
+use Rattle.execution.specs.Taking.{steps_shown}
 use Rattle.instance_core.specs.Slots.{IsInstanceInPool, state_in}
 use Rattle.served_instance.specs.Acts.{slots_of}
 use Rattle.served_instance.specs.Shown.{connection_shown}

@@ -1,6 +1,6 @@
 use Rattle.std.proofs.Common.{◌∙◌, refl}
 use Rattle.blob_pool.proofs.Moves.{moves_none, moves_trans}
-use Rattle.executor.specs.Taking.{steps_shown}
+use Rattle.execution.specs.Taking.{steps_shown}
 use Rattle.instance_core.specs.Slots.{state_in}
 use Rattle.served_instance.specs.Acts.{slots_of}
 use Rattle.served_instance.specs.Cuts.{others_of}

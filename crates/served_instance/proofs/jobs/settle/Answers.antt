@@ -2,7 +2,7 @@ use Rattle.std.proofs.Common.{◌∙◌, refl, sym, ap, subst, arith}
 use Rattle.blob_pool.specs.Slots.{text_at}
 use Rattle.blob_pool.specs.Moves.{Moves}
 use Rattle.blob_pool.proofs.Moves.{moves_none}
-use Rattle.executor.specs.Taking.{CanTake, steps_shown}
+use Rattle.execution.specs.Taking.{CanTake, steps_shown}
 use Rattle.instance_core.specs.Changes.{Settles, state_after_change}
 use Rattle.instance_core.specs.Slots.{holders_of_instance}
 use Rattle.instance_core.specs.State.{InstanceState}

@@ -1,6 +1,6 @@
 use Rattle.std.proofs.Common.{◌≡◌, ◌++◌, length, map}
 use Rattle.instance_view.specs.Shown.{blobs_in}
-use Rattle.executor.specs.Keeping.{kept_entries}
+use Rattle.execution.specs.Keeping.{kept_entries}
 use Rattle.server_core.specs.Shown.{text_shown}
 use Rattle.server_core.proofs.orders.copy_texts.Given as goal
 

@@ -1,5 +1,5 @@
 use Rattle.std.proofs.Common.{◌≡◌, length}
-use Rattle.executor.specs.Taking.{steps_shown}
+use Rattle.execution.specs.Taking.{steps_shown}
 use Rattle.instance_core.specs.Calls.{AreInCourse}
 use Rattle.instance_core.specs.Watching.{calls_after_steps}
 use Rattle.instance_core.proofs.calls.Calls.end_told.Given as goal

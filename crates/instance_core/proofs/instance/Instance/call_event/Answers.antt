@@ -1,7 +1,7 @@
 use Rattle.std.proofs.Common.{◌+◌, sym, subst}
 use Rattle.blob_pool.specs.Moves.{Holders}
 use Rattle.instance_view.specs.Shown.{visible_in, holders}
-use Rattle.executor.specs.InPool.{jobs_in}
+use Rattle.execution.specs.InPool.{jobs_in}
 use Rattle.instance_core.specs.Calls.{head, message, fault, end}
 use Rattle.instance_core.specs.Slots.{InstanceSlots, IsBeside, IsInstanceInPool, holders_of_instance, state_in}
 use Rattle.instance_core.specs.Shown.{slots_of}

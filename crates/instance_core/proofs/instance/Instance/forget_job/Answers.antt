@@ -1,5 +1,5 @@
 use Rattle.job_queue.specs.Jobs.{jobs_without}
-use Rattle.executor.specs.InPool.{jobs_in}
+use Rattle.execution.specs.InPool.{jobs_in}
 use Rattle.instance_core.specs.Shown.{slots_of}
 use Rattle.instance_core.specs.Slots.{InstanceSlots, IsInstanceInPool}
 use Rattle.std.proofs.Common.{refl, sym, subst}

@@ -1,8 +1,8 @@
 use Rattle.std.proofs.Common.{◌≡◌, ℕ, None, sym, ap, subst, ◌∙◌}
 use Rattle.job_queue.specs.Order.{AreJobs}
-use Rattle.executor.specs.InPool.{jobs_in}
-use Rattle.executor.specs.Steps.{tick_steps}
-use Rattle.executor.specs.Taking.{steps_shown}
+use Rattle.execution.specs.InPool.{jobs_in}
+use Rattle.execution.specs.Steps.{tick_steps}
+use Rattle.execution.specs.Taking.{steps_shown}
 use Rattle.instance_core.specs.Calls.{end_late_jobs}
 use Rattle.instance_core.specs.Shown.{slots_of}
 use Rattle.instance_core.specs.Slots.{InstanceSlots, state_in}

@@ -1,8 +1,8 @@
 use Rattle.std.proofs.Common.{◌≡◌, ℕ, Some, sym, ap, subst, ◌∙◌}
 use Rattle.job_queue.specs.Order.{AreJobs}
-use Rattle.executor.specs.InPool.{jobs_in}
-use Rattle.executor.specs.Steps.{start_steps}
-use Rattle.executor.specs.Taking.{steps_shown}
+use Rattle.execution.specs.InPool.{jobs_in}
+use Rattle.execution.specs.Steps.{start_steps}
+use Rattle.execution.specs.Taking.{steps_shown}
 use Rattle.instance_core.specs.Apart.{replies_on}
 use Rattle.instance_core.specs.Calls.{start_jobs}
 use Rattle.instance_core.specs.Shown.{slots_of}

@@ -1,9 +1,9 @@
 use Rattle.std.proofs.Common.{◌≤◌, ℕ, List, sym, ap, subst, ◌∙◌}
 use Rattle.blob_pool.specs.Slots.{count_at}
-use Rattle.executor.specs.InPool.{jobs_in}
-use Rattle.executor.specs.Steps.{jobs_after_steps}
-use Rattle.executor.specs.Taking.{steps_shown}
-use Rattle.executor.specs.declared.steps.Step.{Step}
+use Rattle.execution.specs.InPool.{jobs_in}
+use Rattle.execution.specs.Steps.{jobs_after_steps}
+use Rattle.execution.specs.Taking.{steps_shown}
+use Rattle.execution.specs.declared.steps.Step.{Step}
 use Rattle.instance_core.specs.Shown.{slots_of}
 use Rattle.instance_core.specs.Slots.{InstanceSlots, holders_of_instance}
 use Rattle.instance_core.specs.Watching.{calls_after_steps}

@@ -1,6 +1,6 @@
 use Rattle.std.proofs.Common.{ℕ, List, ap, subst}
 use Rattle.runner.specs.Runs.{IsAsked}
-use Rattle.run_tasks.specs.Texts.{numbered_text}
+use Rattle.job_runs.specs.Texts.{numbered_text}
 use Rattle.job_runs.proofs.job_runner.JobRunner.ask_run.Goals as goal
 
 pub returns-clause-answered : goal.returns-clause-answered

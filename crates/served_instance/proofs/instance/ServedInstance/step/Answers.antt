@@ -1,7 +1,7 @@
 use Rattle.std.proofs.Common.{◌≡◌, List, refl, sym, ap, ◌∙◌, subst, arith}
 use Rattle.job_queue.specs.Jobs.{Jobs}
 use Rattle.job_queue.specs.Order.{AreJobs}
-use Rattle.executor.specs.Job.{JobValue}
+use Rattle.execution.specs.Job.{JobValue}
 use Rattle.instance_core.specs.State.{InstanceState}
 use Rattle.instance_core.specs.Turns.{AreOrders}
 use Rattle.instance_core.specs.Watching.{WatchAtRest}

@@ -4,7 +4,7 @@ use Rattle.std.specs.declared.alloc.Global.{Global}
 use Rattle.std.specs.declared.vec.Vec.{Vec}
 use Rattle.std.specs.Vec.{with_items}
 use Rattle.std.proofs.lemmas.Result.{on_ok_weaker}
-use Rattle.executor.specs.declared.orders.Order.{Order}
+use Rattle.execution.specs.declared.orders.Order.{Order}
 use Rattle.std.proofs.lemmas.List.{map_push, with_items_is}
 use Rattle.instance_core.specs.Slots.{state_in}
 use Rattle.instance_core.specs.Turns.{AreOrders, orders_meant}

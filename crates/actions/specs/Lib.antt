@@ -1,0 +1,9 @@
+pub mod Actions
+pub mod Commands
+pub mod Shown
+pub mod Nodes
+pub mod Walk
+pub mod ReadOnce
+pub mod Answers
+pub mod Tree
+pub mod Paths

@@ -1,0 +1,25 @@
+-- Directories that stand in many places, of which each is read once.
+use Rattle.std.specs.Prelude.{◌≡◌, ℕ, List, map, Ok, IfSome}
+use Rattle.std.specs.Map.{lookup}
+use Rattle.std.specs.declared.alloc.Global.{Global}
+use Rattle.std.specs.declared.vec.Vec.{Vec}
+use Rattle.digest.specs.declared.Digest.{Digest}
+use Rattle.digest.specs.Naming.{same_digest}
+use Rattle.input_tree.specs.Listing.{Lookup}
+use Rattle.actions.specs.declared.node.PlanNode.{PlanNode}
+use Rattle.actions.specs.Nodes.{PlanNodeValue}
+use Rattle.actions.specs.Shown.{nodes_shown}
+use Rattle.actions.specs.Walk.{directory_nodes}
+
+-- the same node in a directory of a level
+abbrev pub node_at_level : ℕ → PlanNodeValue → PlanNodeValue
+node_at_level level n = record n { level = level }
+
+abbrev pub at_level : ℕ → List PlanNodeValue → List PlanNodeValue
+at_level level nodes = map (node_at_level level) nodes
+
+-- a table has the nodes of directories
+abbrev pub AreRead : Lookup → List (Digest × Vec PlanNode Global) → Type 0
+AreRead look table =
+    (d : Digest) (level : ℕ) → IfSome (lookup (same_digest d) table)
+    (λ nodes. directory_nodes look level d ≡ Ok (at_level level (nodes_shown nodes.items)))

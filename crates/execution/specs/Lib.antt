@@ -1,0 +1,15 @@
+pub mod Job
+pub mod Preparing
+pub mod Execute
+pub mod Changes
+pub mod Waiting
+pub mod Steps
+pub mod Orders
+pub mod Ordered
+pub mod Taking
+pub mod Keeping
+pub mod Numbers
+pub mod InPool
+pub mod Shown
+pub mod Answers
+pub mod Asking

@@ -1,0 +1,184 @@
+//! What a job needs, read off the texts that it keeps.
+
+ghost use Rattle.std.specs.Prelude.{◌≡◌, [], IfOk, OnOk, option_map};
+ghost use Rattle.std.specs.Map.{lookup};
+ghost use Rattle.digest.specs.Naming.{same_digest};
+ghost use Rattle.blob_pool.specs.Slots.{Slots};
+ghost use Rattle.instance_view.specs.Shown.{blobs_in, text_seen};
+ghost use Rattle.execution.specs.InPool.{task_in};
+ghost use Rattle.execution.specs.Keeping.{kept_entries};
+ghost use Rattle.execution.specs.Numbers.{AreNumbers, kept_digests};
+ghost use Rattle.execution.specs.Preparing.{action_among, command_among, nodes_among};
+ghost use Rattle.execution.specs.Shown.{task_told};
+ghost use Rattle.actions.specs.Shown.{action_taken_shown, nodes_shown};
+
+use crate::job::Task;
+use crate::keeping::KeptText;
+use crate::numbering::{number_of, text_numbers};
+use actions::{ActionTaken, Finds, Plan, TreeFault, read_action, walk};
+use blob_pool::Pool;
+use digest::Digest;
+use indexmap::IndexMap;
+use instance_view::{Seen, copy_of};
+use std::alloc::{AllocError, Global};
+use std::marker::Model;
+
+/// The texts that a job keeps, found by their digests.
+#[derive(Drop)]
+pub struct FoundTexts<'a> {
+    texts: &'a [KeptText],
+    /// Of each digest the number of its first text.
+    numbers: IndexMap<Digest, usize>,
+}
+
+impl<'a> Model for FoundTexts<'a> {
+    ghost use Rattle.std.specs.Prelude.{List};
+    ghost use Rattle.instance_view.specs.Shown.{ViewEntry};
+    ghost use Rattle.execution.specs.Keeping.{kept_entries};
+    ghost use Rattle.execution.specs.Numbers.{AreNumbers, kept_digests};
+
+    ghost Value = { List ViewEntry };
+
+    ghost view = { λ found. kept_entries found.texts.now };
+
+    ghost invariant = { λ found. AreNumbers (kept_digests found.texts.now) found.numbers.entries };
+}
+
+impl<'a> FoundTexts<'a> {
+    /// Texts that a job keeps.
+    pub fn new(alloc: Global, texts: &'a [KeptText]) -> Result<FoundTexts<'a>, AllocError>
+        ensures { IfOk result (λ found. found ≡ kept_entries texts.now) }
+    {
+        let numbers = text_numbers(alloc, texts)?;
+        Ok(FoundTexts { texts, numbers })
+    }
+}
+
+impl<'a> Finds for FoundTexts<'a> {
+    ghost use Rattle.execution.specs.Numbers.{found_among};
+
+    ghost found_in = { found_among };
+
+    fn get(&self, digest: &Digest) -> Option<Seen> {
+        if digest.is_empty() {
+            return Some(Seen::Empty);
+        }
+        seen_at(self.texts, &self.numbers, digest)
+    }
+
+    fn contains(&self, digest: &Digest) -> bool {
+        self.get(digest).is_some()
+    }
+}
+
+/// The text of a digest among texts.
+fn seen_at(texts: &[KeptText], numbers: &IndexMap<Digest, usize>, digest: &Digest) -> Option<Seen>
+    requires { AreNumbers (kept_digests texts.now) numbers.now.entries }
+    ensures { (p : Slots) → option_map (text_seen p) result
+        ≡ lookup (same_digest digest.now) (blobs_in p (kept_entries texts.now)) }
+{
+    let number = number_of(texts, numbers, digest);
+    match texts.get(number) {
+        Some(kept) => Some(Seen::Text(kept.text)),
+        None => None,
+    }
+}
+
+/// The action of a digest among texts.
+fn action_among(
+    alloc: Global,
+    pool: &Pool,
+    texts: &FoundTexts<'_>,
+    digest: &Digest,
+) -> Result<Option<ActionTaken>, AllocError>
+    ensures { IfOk result (λ action. option_map action_taken_shown action
+        ≡ action_among (blobs_in pool.now texts.now) digest.now) }
+{
+    let Some(seen) = texts.get(digest) else {
+        return Ok(None);
+    };
+    let text = copy_of(alloc, pool, seen)?;
+    read_action(alloc, &text)
+}
+
+/// The text that an action names as its command.
+fn command_among(
+    alloc: Global,
+    pool: &Pool,
+    texts: &FoundTexts<'_>,
+    action: &Option<ActionTaken>,
+) -> Result<Vec<u8>, AllocError>
+    ensures { IfOk result (λ command. command.items
+        ≡ command_among (blobs_in pool.now texts.now) (option_map action_taken_shown action.now)) }
+{
+    let Some(action) = action else {
+        return Ok(Vec::new(alloc));
+    };
+    match texts.get(&action.command) {
+        None => Ok(Vec::new(alloc)),
+        Some(seen) => copy_of(alloc, pool, seen),
+    }
+}
+
+/// What stands in the input root of an action.
+fn plan_among(
+    alloc: Global,
+    pool: &Pool,
+    texts: &FoundTexts<'_>,
+    action: &Option<ActionTaken>,
+) -> Result<Plan, AllocError>
+    ensures { IfOk result (λ plan. nodes_shown plan.nodes.items
+        ≡ nodes_among (blobs_in pool.now texts.now) (option_map action_taken_shown action.now)) }
+{
+    let Some(action) = action else {
+        return Ok(no_plan(alloc));
+    };
+    match walk(alloc, texts, pool, &action.root) {
+        Ok(plan) => Ok(plan),
+        Err(TreeFault::NoMemory) => Err(AllocError),
+        Err(_) => Ok(no_plan(alloc)),
+    }
+}
+
+fn no_plan(alloc: Global) -> Plan
+    ensures { result.nodes.items ≡ [] }
+{
+    Plan {
+        nodes: Vec::new(alloc),
+    }
+}
+
+/// What a task says.
+#[derive(Drop)]
+pub struct TaskRead {
+    /// The text of its command (`actions::read_command`).
+    pub command: Vec<u8>,
+    /// What stands in its input root.
+    pub plan: Plan,
+}
+
+/// What a task says, read off its texts in the pool.
+///
+/// Err: a request for memory was refused.
+pub fn read_task(alloc: Global, pool: &Pool, task: &Task) -> Result<TaskRead, AllocError>
+    ensures { IfOk result (λ read. task_told
+        (blobs_in pool.now (kept_entries task.now.texts.items)) read ≡ task_in pool.now task.now) }
+{
+    let texts = FoundTexts::new(alloc, &task.texts)?;
+    let action = action_among(alloc, pool, &texts, &task.action)?;
+    let command = command_among(alloc, pool, &texts, &action)?;
+    let plan = plan_among(alloc, pool, &texts, &action)?;
+    Ok(TaskRead { command, plan })
+}
+
+/// The text of a task's command, read off its texts in the pool.
+///
+/// Err: a request for memory was refused.
+pub fn read_task_command(alloc: Global, pool: &Pool, task: &Task) -> Result<Vec<u8>, AllocError>
+    ensures { IfOk result (λ command. command.items ≡ (task_in pool.now task.now).command) }
+{
+    let texts = FoundTexts::new(alloc, &task.texts)?;
+    let action = action_among(alloc, pool, &texts, &task.action)?;
+    let command = command_among(alloc, pool, &texts, &action)?;
+    Ok(command)
+}

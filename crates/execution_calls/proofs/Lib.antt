@@ -1,4 +1,0 @@
-mod Named
-mod Admitting
-mod Fates
-mod Ended

@@ -1,5 +1,0 @@
-use Rattle.execution_calls.proofs.Fates.{stores_success}
-use Rattle.execution_calls.proofs.laws.a_run_stores_only_success.Goals as goal
-
-pub returns : goal.returns
-returns c = stores_success

@@ -1,5 +1,0 @@
-use Rattle.execution_calls.proofs.Fates.{leaves_nothing}
-use Rattle.execution_calls.proofs.laws.what_fails_leaves_nothing.Goals as goal
-
-pub returns : goal.returns
-returns c = leaves_nothing

@@ -1,4 +1,0 @@
-pub mod Asking
-pub mod Ending
-pub mod Shown
-pub mod Fates

@@ -1,5 +1,0 @@
-use Rattle.executor.proofs.Numbers.{texts-once}
-use Rattle.executor.proofs.laws.a_job_keeps_each_text_once.Goals as goal
-
-pub returns : goal.returns
-returns c = texts-once

@@ -1,5 +1,0 @@
-use Rattle.executor.proofs.Numbers.{execute-numbered}
-use Rattle.executor.proofs.laws.a_refused_call_changes_nothing.Goals as goal
-
-pub returns : goal.returns
-returns c = λ slots s skip d refusal is. (execute-numbered slots s skip d).1 refusal is

@@ -1,5 +1,0 @@
-use Rattle.executor.proofs.KeptTasks.{task_again}
-use Rattle.executor.proofs.laws.a_task_is_read_off_its_texts.Goals as goal
-
-pub returns : goal.returns
-returns c = task_again

@@ -1,5 +1,0 @@
-use Rattle.executor.proofs.Numbers.{execute-numbered}
-use Rattle.executor.proofs.laws.an_answer_takes_one_number.Goals as goal
-
-pub returns : goal.returns
-returns c = λ slots s skip d a is. (execute-numbered slots s skip d).0 a is

@@ -1,5 +1,0 @@
-use Rattle.run_tasks.proofs.Numbering.{number_finds}
-use Rattle.run_tasks.proofs.laws.a_number_finds_the_text_of_its_digest.Goals as goal
-
-pub returns : goal.returns
-returns c = number_finds

@@ -1,5 +1,0 @@
-use Rattle.tree_plan.proofs.Paths.{plan_once}
-use Rattle.tree_plan.proofs.laws.a_path_stands_once_in_a_plan.Goals as goal
-
-pub returns : goal.returns
-returns c = plan_once

@@ -1,5 +1,0 @@
-use Rattle.tree_plan.proofs.Again.{plan_again}
-use Rattle.tree_plan.proofs.laws.a_plan_follows_from_what_it_met.Goals as goal
-
-pub returns : goal.returns
-returns c = plan_again

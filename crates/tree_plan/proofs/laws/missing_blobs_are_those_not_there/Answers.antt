@@ -1,5 +1,0 @@
-use Rattle.tree_plan.proofs.Missing.{all_missing}
-use Rattle.tree_plan.proofs.laws.missing_blobs_are_those_not_there.Goals as goal
-
-pub returns : goal.returns
-returns c = all_missing

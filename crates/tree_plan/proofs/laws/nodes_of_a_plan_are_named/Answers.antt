@@ -1,5 +1,0 @@
-use Rattle.tree_plan.proofs.Paths.{plan_named}
-use Rattle.tree_plan.proofs.laws.nodes_of_a_plan_are_named.Goals as goal
-
-pub returns : goal.returns
-returns c = plan_named

@@ -1,4 +1,7 @@
-//! A run of the case: instances whose clients have actions executed, over fakes.
+//! A run of the case: instances whose clients have actions executed, over fakes that keep logs.
+
+ghost use Rattle.std.specs.Prelude.{◌≡◌, [], Some, IfOk};
+ghost use Rattle.serve.specs.LoggedRuns.{runs_logged};
 
 use crate::counting::{CallFault, Calls, Deed, Failing};
 use crate::fake_folder::FakeFolder;
@@ -6,8 +9,8 @@ use crate::fake_programs::FakePrograms;
 use crate::fake_sockets::{Client, FakeSockets, Habits};
 use job_runs::JobRunner;
 use program_status::Output;
-use runner::RunKey;
-use serve::{ErrorLines, Nobody, Sockets, serve};
+use runner::{LoggedFolder, LoggedPrograms, RunKey};
+use serve::{ErrorLines, LoggedRuns, LoggedSockets, Nobody, Sockets, serve};
 use server_events::Configs;
 use std::alloc::{AllocError, Global};
 use std::io::ErrorKind;
@@ -39,10 +42,13 @@ pub enum Fake {
     Sockets,
 }
 
+/// Runs in fake folders, of fake programs.
+type FakeRunner = JobRunner<LoggedFolder<FakeFolder>, LoggedPrograms<FakePrograms>>;
+
 /// What came of a run of the case.
 #[derive(Drop)]
 pub struct Told<'a> {
-    pub sockets: FakeSockets<'a>,
+    pub sockets: LoggedSockets<FakeSockets<'a>>,
     pub errors: Vec<u8>,
     /// How many programs are left.
     pub programs: usize,
@@ -55,6 +61,8 @@ pub struct Told<'a> {
     pub faults: u64,
     /// What the call was for that went wrong.
     pub wrong: Option<Deed>,
+    /// Whether all that happened is in the logs.
+    pub has_logs: bool,
 }
 
 fn clients<'a>(alloc: Global, texts: &'a [Vec<u8>]) -> Result<Vec<Client<'a>>, AllocError> {
@@ -78,34 +86,53 @@ fn unremoved(wrong: Option<Deed>) -> Option<RunKey> {
     }
 }
 
+/// Runs over fakes, at which nothing has happened yet.
+fn new_runs(
+    alloc: Global,
+    of_folder: Failing,
+    of_programs: Failing,
+) -> Result<LoggedRuns<FakeRunner>, AllocError>
+    ensures { IfOk result (λ runs. runs_logged runs.log ≡ Some []) }
+{
+    let folder = LoggedFolder::new(alloc, FakeFolder::new(alloc, of_folder));
+    let programs = LoggedPrograms::new(alloc, FakePrograms::new(alloc, of_programs));
+    let runner = JobRunner::new(alloc, folder, programs, NAMES.len())?;
+    Ok(LoggedRuns::new(alloc, runner))
+}
+
 fn tell<'a>(
     fake: Fake,
-    sockets: FakeSockets<'a>,
-    runs: &JobRunner<FakeFolder, FakePrograms>,
+    sockets: LoggedSockets<FakeSockets<'a>>,
+    runs: &LoggedRuns<FakeRunner>,
     errors: Vec<u8>,
 ) -> Told<'a> {
-    let (folder, programs) = (runs.runner().folder(), runs.runner().programs());
+    let (folder, programs) = (runs.runs.runner().folder(), runs.runs.runner().programs());
+    let has_logs = sockets.log.is_some()
+        && runs.log.is_some()
+        && folder.log.is_some()
+        && programs.log.is_some();
     let Calls {
         count,
         faults,
         wrong,
         ..
     } = match fake {
-        Fake::Folder => &folder.calls,
-        Fake::Programs => &programs.calls,
-        Fake::Sockets => &sockets.calls,
+        Fake::Folder => &folder.folder.calls,
+        Fake::Programs => &programs.programs.calls,
+        Fake::Sockets => &sockets.sockets.calls,
     };
     let (calls, faults, wrong) = (*count, *faults, *wrong);
-    let (nodes, other_nodes) = folder.left(unremoved(wrong));
+    let (nodes, other_nodes) = folder.folder.left(unremoved(wrong));
     Told {
         sockets,
         errors,
-        programs: programs.left(),
+        programs: programs.programs.left(),
         nodes,
         other_nodes,
         calls,
         faults,
         wrong,
+        has_logs,
     }
 }
 
@@ -123,10 +150,9 @@ pub fn carry_out<'a>(
         Fake::Programs => (never, failing, never),
         Fake::Sockets => (never, never, failing),
     };
-    let folder = FakeFolder::new(alloc, of_folder);
-    let programs = FakePrograms::new(alloc, of_programs);
-    let mut sockets = FakeSockets::new(clients(alloc, texts)?, of_sockets);
-    let mut runs = JobRunner::new(alloc, folder, programs, NAMES.len())?;
+    let fake_sockets = FakeSockets::new(clients(alloc, texts)?, of_sockets);
+    let mut sockets = LoggedSockets::new(alloc, fake_sockets);
+    let mut runs = new_runs(alloc, of_folder, of_programs)?;
     let mut errors = ErrorLines::new(alloc, Vec::new(alloc), NAMES.len())?;
     serve(
         alloc,
@@ -141,9 +167,9 @@ pub fn carry_out<'a>(
 }
 
 /// Tells what is left of programs and folders.
-fn tell_left(runs: &JobRunner<FakeFolder, FakePrograms>, output: &mut Output) {
-    let programs = runs.runner().programs().left();
-    let (nodes, _) = runs.runner().folder().left(None);
+fn tell_left(runs: &FakeRunner, output: &mut Output) {
+    let programs = runs.runner().programs().programs.left();
+    let (nodes, _) = runs.runner().folder().folder.left(None);
     output.print_text(format!(in output.alloc; "{programs} programs, {nodes} nodes\n"));
 }
 
@@ -174,10 +200,9 @@ fn cut_short(
         at: 0,
         fault: CallFault::Fails(ErrorKind::Other),
     };
-    let folder = FakeFolder::new(alloc, Failing { at, ..never });
-    let programs = FakePrograms::new(alloc, never);
-    let mut sockets = FakeSockets::new(clients(alloc, texts)?, never);
-    let mut runs = JobRunner::new(alloc, folder, programs, NAMES.len())?;
+    let fake_sockets = FakeSockets::new(clients(alloc, texts)?, never);
+    let mut sockets = LoggedSockets::new(alloc, fake_sockets);
+    let mut runs = new_runs(alloc, Failing { at, ..never }, never)?;
     let mut errors = ErrorLines::new(alloc, Vec::new(alloc), NAMES.len())?;
     serve(
         alloc,
@@ -189,15 +214,15 @@ fn cut_short(
         turns,
     )?;
     output.print_text(format!(in alloc; "after {turns} turns: "));
-    tell_left(&runs, output);
-    let calls = runs.runner().folder().calls.count;
+    tell_left(&runs.runs, output);
+    let calls = runs.runs.runner().folder().folder.calls.count;
     for _ in 0..TURNS {
-        if runs.end_all(configs, sockets.now(), &mut errors) == 0 {
+        if runs.runs.end_all(configs, sockets.now(), &mut errors) == 0 {
             break;
         }
     }
     output.print(b"all ended: ");
-    tell_left(&runs, output);
+    tell_left(&runs.runs, output);
     output.print(&errors.output);
     Ok(calls)
 }

@@ -61,16 +61,18 @@ fn line(wrong: Option<Deed>, word: &str, output: &mut Output) -> String {
 /// What is not right of what is left at the end, if anything.
 fn fault_at_end(told: &Told<'_>) -> Option<&'static str> {
     let is_left = matches!(told.wrong, Some(Deed::Remove(_)));
-    if told.sockets.turns != TURNS {
+    if told.sockets.sockets.turns != TURNS {
         Some("not all turns were taken")
     } else if told.faults > 1 {
         Some("another call failed")
-    } else if told.sockets.strays > 0 {
+    } else if told.sockets.sockets.strays > 0 {
         Some("a call named a connection that is not open")
     } else if told.programs > 0 {
         Some("a program is left")
     } else if told.other_nodes > 0 || (told.nodes > 0) != is_left {
         Some("other folders are left")
+    } else if !told.has_logs {
+        Some("a log was lost")
     } else {
         None
     }
@@ -138,7 +140,7 @@ impl Judge {
         word: &str,
         output: &mut Output,
     ) -> Option<&'static str> {
-        for (place, client) in told.sockets.clients.iter().enumerate() {
+        for (place, client) in told.sockets.sockets.clients.iter().enumerate() {
             if !is_broken(told.wrong, client) {
                 let failed = watched(told.wrong, place, client);
                 self.see(failed, place, &client.received, output);

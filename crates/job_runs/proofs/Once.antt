@@ -1,5 +1,5 @@
 -- No key stands twice after a call, where none did before.
-use Rattle.std.proofs.Common.{inl, inr, ◌≡◌, List, [], ◌∷◌, ◌++◌, refl, sym, ap, subst}
+use Rattle.std.proofs.Common.{inl, inr, ◌≡◌, ℕ, List, [], ◌∷◌, ◌++◌, refl, sym, ap, subst}
 use Rattle.std.specs.Prelude.{⊤, if◌then◌else◌, true, false, Option, Some, None, Result, Ok, Err, is_ok}
 use Rattle.std.specs.declared.alloc.Global.{Global}
 use Rattle.std.specs.declared.vec.Vec.{Vec}
@@ -10,7 +10,6 @@ use Rattle.runner.specs.declared.task.RunKey.{RunKey}
 use Rattle.runner.specs.declared.stage.Run.{Run}
 use Rattle.runner.specs.Calls.{FolderCall, ProgramCall}
 use Rattle.runner.specs.Runs.{IsAsked, IsKilled}
-use Rattle.job_runs.specs.Texts.{numbered_text}
 use Rattle.job_runs.specs.Keys.{AreOnce, all_keys, has_key, without_key}
 use Rattle.job_runs.specs.Runs.{IsBegunIf}
 use Rattle.job_runs.proofs.Keys.{asked-once, first-once, killed-once, noted-once, same-once, taken-once}
@@ -36,7 +35,7 @@ pub after_killed : (key : RunKey) (told : Result ⊤ RunFault) (old new : List R
 after_killed key told old new f g p q before now is killed h =
     taken-once key new before.items now.items is (killed-once key told old new f g p q before.items killed h)
 
-pub after_asked : (task : TaskValue) (key : RunKey) (told : Result (Option Outcome) RunFault) (old new : List Run) (f g : Option (List FolderCall)) (p q : Option (List ProgramCall)) (before mid now : Vec RunKey Global) → mid.items ≡ without_key key before.items → now ≡ mid → IsAsked (numbered_text task.texts) key told old new f g p q → StayOnce old new before now
-after_asked task key told old new f g p q before mid now is same a h =
+pub after_asked : (text : ℕ → List ℕ) (key : RunKey) (told : Result (Option Outcome) RunFault) (old new : List Run) (f g : Option (List FolderCall)) (p q : Option (List ProgramCall)) (before mid now : Vec RunKey Global) → mid.items ≡ without_key key before.items → now ≡ mid → IsAsked text key told old new f g p q → StayOnce old new before now
+after_asked text key told old new f g p q before mid now is same a h =
     subst (λ (v : Vec RunKey Global). AreOnce (all_keys new v.items)) (sym same)
-    (taken-once key new before.items mid.items is (asked-once (numbered_text task.texts) key told old new f g p q before.items a h))
+    (taken-once key new before.items mid.items is (asked-once text key told old new f g p q before.items a h))

@@ -16,7 +16,8 @@ use Rattle.served_instance.proofs.Moments.{step_within}
 use Rattle.instance_core.specs.Visible.{Blob}
 use Rattle.serve.specs.SocketEvents.{SocketEvent, clock, port, moment_after, moment_of}
 use Rattle.serve.specs.RunEvents.{RunEvent, ordered}
-use Rattle.serve.specs.Happenings.{Happening, MarkedHappening, IsOfOne, at_sockets, told, at_runs, ran, timed_event, run_event, timed_events, run_events, cut_on, cuts, all_told, all_timed, moment_then, moment_on, moment_behind}
+use Rattle.serve.specs.Happenings.{Happening, MarkedHappening, IsOfOne, at_sockets, told, at_runs, timed_event, run_event, timed_events, run_events, cut_on, cuts, all_told, all_timed, moment_then, moment_on}
+use Rattle.serve.specs.KeepsServing.{ran, moment_behind}
 use Rattle.serve.specs.Served.{AtWork, FamilyAtWork, with_orders, MayStep, MayServe, ParentMayHappen, HappenedTogether}
 
 -- ---- what happens at the runs

@@ -41,10 +41,10 @@ use Rattle.server_core.specs.StandsFor.{ServerState, OrdersStand, StandsAt, inst
 use Rattle.serve.specs.SocketEvents.{SocketEvent, PortEvent, port, what_of, moment_after, moment_of, Adds, AddsAll}
 use Rattle.serve.specs.declared.carrying.Counting.{Counting}
 use Rattle.serve.specs.RunEvents.{RunEvent, ordered, gave, AddsRuns, AddsAllRuns}
-use Rattle.serve.specs.Happenings.{Happening, MarkedHappening, IsOfOne, at_sockets, told, at_runs, ran, timed_events, run_events, cuts, with_times, all_timed, moment_then, moment_on, moment_behind, own_event, event_for}
+use Rattle.serve.specs.Happenings.{Happening, MarkedHappening, IsOfOne, at_sockets, told, at_runs, timed_events, run_events, cuts, with_times, all_timed, moment_then, moment_on, own_event, event_for}
 use Rattle.serve.specs.Served.{AtWork, with_orders, Comes, MayHappen, MayHappenTo, ParentMayHappen, MayStep, MayTake, IsFaithful, Serves, WasServed, IsCount, most_counted, at_rest, begun, texts_of}
 use Rattle.serve.specs.declared.counts.ServeCounts.{ServeCounts}
-use Rattle.serve.specs.KeepsServing.{AreCarriedOut, HasParents, StandsBeside, StandsServing, IsServerAt, IsServing, TakesEvent, cut_after, is_for_memory}
+use Rattle.serve.specs.KeepsServing.{ran, moment_behind, AreCarriedOut, HasParents, StandsBeside, StandsServing, IsServerAt, IsServing, TakesEvent, cut_after, is_for_memory}
 use Rattle.served_instance.proofs.Moments.{took_taken}
 use Rattle.serve.proofs.Happenings.{AreOf, IsNot, both, parts_of, parts_on, parts_ordered, moment_more, cuts_more, moment_together, may_serve_on, carried, parent_carried, passed, may_within}
 

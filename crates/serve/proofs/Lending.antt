@@ -18,9 +18,9 @@ use Rattle.serve.specs.SocketEvents.{SocketEvent, clock}
 use Rattle.serve.specs.RunEvents.{RunEvent, ordered, lent, gave, AddsRuns, AddsAllRuns, WasBegun}
 use Rattle.serve.specs.declared.carrying.Counting.{Counting}
 use Rattle.runner.specs.declared.task.RunKey.{RunKey}
-use Rattle.serve.specs.Happenings.{Happening, MarkedHappening, IsOfOne, at_sockets, told, at_runs, unmarked, run_events, all_timed, moment_then, moment_behind, event_for}
+use Rattle.serve.specs.Happenings.{Happening, MarkedHappening, IsOfOne, at_sockets, told, at_runs, run_events, all_timed, moment_then, event_for}
 use Rattle.serve.specs.Served.{AtWork, with_orders, Comes, MayHappen, ParentMayHappen, MayTake, IsFaithful, at_rest, begun, texts_of}
-use Rattle.serve.specs.KeepsServing.{StandsBeside, StandsServing, IsServing, TakesEvent}
+use Rattle.serve.specs.KeepsServing.{unmarked, moment_behind, StandsBeside, StandsServing, IsServing, TakesEvent}
 use Rattle.serve.proofs.Happenings.{AreOf, parts_of, parts_on, moment_more, may_serve_on}
 use Rattle.serve.proofs.Keeps.{IsOneOf, Premise, counted_more, event_told, rests, after_outcome, after_no_run, asked_adds}
 

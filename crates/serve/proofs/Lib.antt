@@ -6,6 +6,7 @@ mod Ticks
 mod Silence
 mod Numbers
 mod Logs
+mod RunLogs
 mod Written
 mod Did
 mod FaultLines

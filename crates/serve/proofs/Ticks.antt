@@ -12,9 +12,9 @@ use Rattle.server_core.specs.Families.{family_in}
 use Rattle.serve.specs.declared.carrying.Counting.{Counting}
 use Rattle.serve.specs.SocketEvents.{SocketEvent, clock, moment_after, moment_of, Adds, AddsAll}
 use Rattle.serve.specs.RunEvents.{RunEvent, ordered}
-use Rattle.serve.specs.Happenings.{Happening, MarkedHappening, at_sockets, told, ran, unmarked, cuts, all_told, all_timed, with_times, moment_behind}
+use Rattle.serve.specs.Happenings.{Happening, MarkedHappening, at_sockets, told, cuts, all_told, all_timed, with_times}
 use Rattle.serve.specs.Served.{IsCount}
-use Rattle.serve.specs.KeepsServing.{IsServerAt, IsServing, TakesEvent}
+use Rattle.serve.specs.KeepsServing.{ran, unmarked, moment_behind, IsServerAt, IsServing, TakesEvent}
 use Rattle.serve.proofs.Happenings.{AreOf, parts_of, parts_on, parts_ordered, moment_more, moment_together}
 use Rattle.serve.proofs.Keeps.{AllServing, counted_more, still_lost, each_more, event_told, none_serves, told_for}
 use Rattle.serve.proofs.Lending.{clock_for, nobody_more}

@@ -16,12 +16,6 @@ pub data Happening : Type 0 where
 abbrev pub MarkedHappening : Type 0
 MarkedHappening = Happening × Bool
 
-abbrev pub unmarked : Happening → MarkedHappening
-unmarked x = (x, false)
-
-abbrev pub ran : RunEvent → MarkedHappening
-ran r = (at_runs r, false)
-
 -- what of it happened at the runs, and what not
 abbrev pub run_event : MarkedHappening → Option RunEvent
 run_event (at_sockets s, b) = None
@@ -78,9 +72,6 @@ moment_then m (at_runs r) = m
 
 abbrev pub moment_on : ℕ → MarkedHappening → ℕ
 moment_on m x = moment_then m x.0
-
-abbrev pub moment_behind : List MarkedHappening → ℕ
-moment_behind h = fold moment_on 0 h
 
 -- ---- an instance's own events
 

@@ -1,5 +1,5 @@
 -- What a server keeps while it serves. For the code alone: `Served.antt` says what comes of it.
-use Rattle.std.specs.Prelude.{◌≡◌, ◌≢◌, ◌+◌, ◌-◌, ◌≤◌, ◌<◌, ℕ, min, Bool, true, false, List, map, length, Option, Some, None, IfSome}
+use Rattle.std.specs.Prelude.{◌≡◌, ◌≢◌, ◌+◌, ◌-◌, ◌≤◌, ◌<◌, ℕ, min, fold, Bool, true, false, List, map, length, Option, Some, None, IfSome}
 use Rattle.execution.specs.declared.orders.Order.{Order}
 use Rattle.execution.specs.Orders.{OrderValue}
 use Rattle.instance_core.specs.Turns.{orders_meant}
@@ -18,9 +18,20 @@ use Rattle.serve.specs.RunEvents.{RunEvent, ordered, AddsRuns, WasBegun}
 use Rattle.runner.specs.declared.task.RunKey.{RunKey}
 use Rattle.served_instance.specs.declared.refusal.EventRefusal.{EventRefusal}
 use Rattle.served_instance.specs.declared.refusal.EventRefusal.TheVariants.{NoMemory}
-use Rattle.serve.specs.Happenings.{MarkedHappening, cuts, moment_behind}
+use Rattle.serve.specs.Happenings.{Happening, MarkedHappening, at_runs, cuts, moment_on}
 use Rattle.serve.specs.declared.carrying.Counting.{Counting}
 use Rattle.serve.specs.Served.{with_orders, MayStep, begun, Serves, HappenedTogether, most_counted, IsCount}
+
+-- what happened and is not marked
+abbrev pub unmarked : Happening → MarkedHappening
+unmarked x = (x, false)
+
+abbrev pub ran : RunEvent → MarkedHappening
+ran r = (at_runs r, false)
+
+-- what the clock showed last
+abbrev pub moment_behind : List MarkedHappening → ℕ
+moment_behind h = fold moment_on 0 h
 
 -- the parent of this number stands for what it has come to, and is not ahead of the clock
 abbrev pub StandsBeside : Option ℕ → List ServedState → ℕ → Option LoneInstance → Type 0

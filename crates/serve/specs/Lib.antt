@@ -8,5 +8,6 @@ pub mod Numbers
 pub mod KeepsOpen
 pub mod Silence
 pub mod Logged
+pub mod LoggedRuns
 pub mod FaultLines
 pub mod Plain

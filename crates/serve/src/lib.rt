@@ -3,21 +3,25 @@
 
 mod asking;
 mod carrying;
+mod copies;
 mod counts;
 mod error_lines;
 mod exchange;
 mod laws;
 mod logged;
+mod logged_runs;
 mod open_socket;
 mod runs;
 mod serving;
 mod sockets;
 mod watch;
 
+pub use copies::{TaskCopy, TextCopy};
 pub use counts::{InstanceCounts, Occurrence, ServeCounts};
 pub use error_lines::ErrorLines;
 pub use laws::what_serve_did;
 pub use logged::{LoggedSockets, SocketRecord};
+pub use logged_runs::{LoggedRuns, RunRecord};
 pub use runs::Runs;
 pub use serving::{Tally, serve};
 pub use sockets::{Socket, Sockets, is_not_ready};

@@ -5,6 +5,7 @@ ghost use Rattle.quota_evict.specs.InPool.{IsViewInPool};
 
 use crate::shapes::{Ending, ending_of};
 use crate::stored::store;
+use actions::{Plan, TreeFault, walk};
 use blob_pool::Pool;
 use digest::Digest;
 use instance_view::{Sight, View};
@@ -12,7 +13,6 @@ use message_fields::Message;
 use reapi_messages as messages;
 use std::alloc::{AllocError, Global};
 use tree_messages::{Directory, DirectoryNode, FileNode, SymlinkNode};
-use actions::{Plan, TreeFault, walk};
 
 /// What is stored of the tree.
 #[derive(Clone, Copy)]

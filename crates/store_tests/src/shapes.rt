@@ -3,6 +3,7 @@
 ghost use Rattle.quota_evict.specs.InPool.{IsViewInPool};
 
 use crate::stored::store;
+use actions::{Plan, TreeFault, walk};
 use blob_pool::Pool;
 use digest::Digest;
 use instance_view::{Sight, View};
@@ -10,7 +11,6 @@ use message_fields::Message;
 use reapi_messages as messages;
 use std::alloc::{AllocError, Global};
 use tree_messages::{Directory, DirectoryNode, SymlinkNode};
-use actions::{Plan, TreeFault, walk};
 
 /// How a walk ends.
 #[derive(Clone, Copy, PartialEq, Eq)]

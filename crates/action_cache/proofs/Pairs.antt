@@ -13,8 +13,10 @@ use Rattle.lru.proofs.CallerLemmas.{Contains-lookup_entry}
 use Rattle.digest.specs.declared.Digest.{Digest}
 use Rattle.digest.specs.Naming.{same_digest}
 use Rattle.digest.proofs.Same.{same_equal}
-use Rattle.instance_view.specs.Visible.{Blob, with_match_first, blobs_length, text_length, without_oldest}
-use Rattle.action_cache.specs.Results.{result_shown, front_within, length_or_zero}
+use Rattle.instance_view.specs.Visible.{Blob, with_match_first, blobs_length, without_oldest}
+use Rattle.instance_view.specs.Insertion.{text_length}
+use Rattle.action_cache.specs.Results.{result_shown, front_within}
+use Rattle.action_cache.specs.Lengths.{length_or_zero}
 
 abbrev pub Kept : Type 0
 Kept = Digest × Vec ℕ Global

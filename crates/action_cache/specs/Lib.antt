@@ -1,4 +1,5 @@
 pub mod Results
+pub mod Lengths
 pub mod Complete
 pub mod Answering
 pub mod LastTrees

@@ -1,6 +1,6 @@
 -- The results that an instance has: pairs of an action's digest and the bytes of its ActionResult,
 -- the most recently used first.
-use Rattle.std.specs.Prelude.{ℕ, zero, suc, ◌-◌, List, [], ◌∷◌, length, nat_le, nat_lt, Option, Some, None, if◌then◌else◌}
+use Rattle.std.specs.Prelude.{ℕ, zero, suc, ◌-◌, List, [], ◌∷◌, length, nat_le, nat_lt, if◌then◌else◌}
 use Rattle.std.specs.Map.{remove_entry}
 use Rattle.std.specs.declared.alloc.Global.{Global}
 use Rattle.std.specs.declared.vec.Vec.{Vec}
@@ -27,8 +27,3 @@ results_after_store d text results =
     if nat_lt MOST_RESULT_BYTES (length text) then results
     else front_within MOST_RESULTS MOST_RESULT_BYTES
     ((d, text) ∷ remove_entry (same_digest d) results)
-
--- how long bytes are, and 0 for none
-abbrev pub length_or_zero : Option (List ℕ) → ℕ
-length_or_zero None = 0
-length_or_zero (Some text) = length text

@@ -4,8 +4,10 @@ ghost use Rattle.std.specs.Prelude.{◌≡◌, ◌+◌, ◌-◌, ◌<◌, ◌≤
 ghost use Rattle.std.specs.Option.{option_copied};
 ghost use Rattle.std.specs.Map.{lookup, remove_entry};
 ghost use Rattle.digest.specs.Naming.{same_digest};
-ghost use Rattle.instance_view.specs.Visible.{with_match_first, blobs_length, text_length, without_oldest};
-ghost use Rattle.action_cache.specs.Results.{result_shown, front_within, results_after_store, length_or_zero};
+ghost use Rattle.instance_view.specs.Visible.{with_match_first, blobs_length, without_oldest};
+ghost use Rattle.instance_view.specs.Insertion.{text_length};
+ghost use Rattle.action_cache.specs.Results.{result_shown, front_within, results_after_store};
+ghost use Rattle.action_cache.specs.Lengths.{length_or_zero};
 
 use digest::Digest;
 use lru::LruCache;

@@ -5,7 +5,7 @@ use Rattle.std.proofs.lemmas.List.Elements.{Contains-push}
 use Rattle.message_fields.specs.Results.{◌>>=◌}
 use Rattle.digest.specs.declared.Digest.{Digest}
 use Rattle.input_tree.specs.Listing.{Lookup}
-use Rattle.actions.specs.Nodes.{NodeKindValue, file, symlink, directory, PlanNodeValue}
+use Rattle.actions.specs.Nodes.{PlanKindValue, file, symlink, directory, PlanNodeValue}
 use Rattle.actions.specs.Walk.{Nodes, nodes_of_text, directory_nodes, nodes_below, nodes_inside, walk_along, nodes_met, digest_of_kind, digest_of_node, digests_met, missing_among, nodes_unless_missing, walk, too_deep}
 use Rattle.actions.proofs.Kept.{in_none, first_in, later_in, in_cases}
 use Rattle.actions.proofs.Trees.{met_stays, plan_is}
@@ -24,7 +24,7 @@ filter_map_has {X = X} {Y = Y} f (z ∷ zs) x y c is = go (f z) refl (in_cases z
   go (Some w) some (inr c) later = rw some (later_in w (filter_map f zs) y (later c))
 
 -- what is inside a node follows from its own text alone
-below_alike : (look other : Lookup) (level : ℕ) (kind : NodeKindValue) → ((d : Digest) → digest_of_kind kind ≡ Some d → other d ≡ look d) → nodes_below other level kind ≡ nodes_below look level kind
+below_alike : (look other : Lookup) (level : ℕ) (kind : PlanKindValue) → ((d : Digest) → digest_of_kind kind ≡ Some d → other d ≡ look d) → nodes_below other level kind ≡ nodes_below look level kind
 below_alike look other level (file d is_executable) same = refl
 below_alike look other level (symlink target) same = refl
 below_alike look other level (directory d) same =

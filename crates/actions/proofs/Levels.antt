@@ -12,11 +12,11 @@ use Rattle.digest.proofs.Same.{same_equal}
 use Rattle.tree_messages.specs.Directories.{DirectoryValue, DirectoryNodeValue, FileNodeValue}
 use Rattle.input_tree.specs.Directories.{written_digest, directory_in}
 use Rattle.input_tree.specs.Listing.{Lookup}
-use Rattle.actions.specs.declared.node.PlanNode.{PlanNode}
-use Rattle.actions.specs.Nodes.{NodeKindValue, PlanNodeValue, directory, directory_at, file, file_at, nodes_of, symlink_at}
+use Rattle.actions.specs.Nodes.{PlanKindValue, PlanNode, PlanNodeValue, directory, directory_at, file, file_at, nodes_of, symlink_at}
 use Rattle.actions.specs.Shown.{nodes_shown}
 use Rattle.actions.specs.Walk.{directory_nodes, nodes_of_text, nodes_or_fault}
-use Rattle.actions.specs.ReadOnce.{AreRead, at_level, node_at_level}
+use Rattle.actions.specs.ReadOnce.{AreRead, at_level}
+use Rattle.tree_nodes.specs.Nodes.{node_at_level}
 
 each_at : {V : Type 0} (l m : ℕ) (at : ℕ → V → Option PlanNodeValue) → ((v : V) → at m v ≡ option_map (node_at_level m) (at l v)) → (vs : List V) → filter_map (at m) vs ≡ at_level m (filter_map (at l) vs)
 each_at l m at h [] = refl
@@ -25,10 +25,10 @@ each_at {V = V} l m at h (v ∷ vs) = go (at l v) refl (each_at l m at h vs) whe
   go None is later = rw (h v, is) later
   go (Some n) is later = rw (h v, is) (ap (λ (ns : List PlanNodeValue). node_at_level m n ∷ ns) later)
 
-abbrev node_with : List ℕ → ℕ → NodeKindValue → PlanNodeValue
+abbrev node_with : List ℕ → ℕ → PlanKindValue → PlanNodeValue
 node_with name level kind = record { name = name; level = level; kind = kind }
 
-node_level : (l m : ℕ) (name : List ℕ) (kind : Digest → NodeKindValue) (o : Option Digest) → option_map (λ d. node_with name m (kind d)) o ≡ option_map (node_at_level m) (option_map (λ d. node_with name l (kind d)) o)
+node_level : (l m : ℕ) (name : List ℕ) (kind : Digest → PlanKindValue) (o : Option Digest) → option_map (λ d. node_with name m (kind d)) o ≡ option_map (node_at_level m) (option_map (λ d. node_with name l (kind d)) o)
 node_level l m name kind None = refl
 node_level l m name kind (Some d) = refl
 

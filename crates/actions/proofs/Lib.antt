@@ -9,3 +9,5 @@ mod Distinct
 mod Named
 mod Paths
 pub mod Again
+pub mod Records
+pub mod ActionRecords

@@ -4,7 +4,7 @@ use Rattle.std.specs.List.{Contains}
 use Rattle.message_fields.specs.Results.{◌>>=◌}
 use Rattle.digest.specs.declared.Digest.{Digest}
 use Rattle.input_tree.specs.Listing.{Lookup}
-use Rattle.actions.specs.Nodes.{NodeKindValue, file, symlink, directory, PlanNodeValue, nodes_in}
+use Rattle.actions.specs.Nodes.{PlanKindValue, file, symlink, directory, PlanNodeValue, nodes_in}
 use Rattle.actions.specs.Walk.{Nodes, nodes_or_fault, nodes_of_text, directory_nodes, nodes_below, nodes_inside, walk_along, nodes_met, digests_met, missing_among, plan_of, walk, missing, too_deep}
 use Rattle.actions.specs.Tree.{AreMissing}
 use Rattle.actions.proofs.Kept.{in_none, filter_gives, filter_has}
@@ -20,7 +20,7 @@ text_not : (ds : List Digest) (level : ℕ) (o : Option (List ℕ)) → nodes_of
 text_not ds level None h = cc
 text_not ds level (Some text) h = taken_not ds (nodes_in level text) h
 
-below_not : (ds : List Digest) (look : Lookup) (level : ℕ) (kind : NodeKindValue) → nodes_below look level kind ≡ Err (missing ds) → ⊥
+below_not : (ds : List Digest) (look : Lookup) (level : ℕ) (kind : PlanKindValue) → nodes_below look level kind ≡ Err (missing ds) → ⊥
 below_not ds look level (file d is_executable) h = cc
 below_not ds look level (symlink target) h = cc
 below_not ds look level (directory d) h = go (nat_le 64 level) h where

@@ -11,7 +11,7 @@ use Rattle.tree_messages.specs.Directories.{DirectoryValue, DirectoryNodeValue, 
 use Rattle.input_tree.specs.Names.{is_name, is_target, are_rising, are_apart}
 use Rattle.input_tree.specs.Directories.{written_digest, is_file, is_child, is_symlink, file_names, child_names, symlink_names, has_nodes, has_order, is_directory, valid_directory, directory_in}
 use Rattle.input_tree.specs.Listing.{Lookup}
-use Rattle.actions.specs.Nodes.{NodeKindValue, file, symlink, directory, PlanNodeValue, file_at, symlink_at, directory_at, nodes_of, nodes_in}
+use Rattle.actions.specs.Nodes.{PlanKindValue, file, symlink, directory, PlanNodeValue, file_at, symlink_at, directory_at, nodes_of, nodes_in}
 use Rattle.actions.specs.Walk.{nodes_or_fault, nodes_of_text, directory_nodes, nodes_below, nodes_inside, too_deep}
 use Rattle.actions.proofs.Kept.{in_none, in_cases}
 use Rattle.actions.proofs.Pairs.{Pairs, in_map, pairs_joined}
@@ -164,7 +164,7 @@ named_text level (Some text) nodes h = named_in level text nodes h
 pub named_directory : (look : Lookup) (level : ℕ) (d : Digest) (nodes : List PlanNodeValue) → directory_nodes look level d ≡ Ok nodes → Named level nodes
 named_directory look level d nodes h = named_text level (look d) nodes h
 
-named_below : (look : Lookup) (level : ℕ) (kind : NodeKindValue) (nodes : List PlanNodeValue) → nodes_below look level kind ≡ Ok nodes → Named (level + 1) nodes
+named_below : (look : Lookup) (level : ℕ) (kind : PlanKindValue) (nodes : List PlanNodeValue) → nodes_below look level kind ≡ Ok nodes → Named (level + 1) nodes
 named_below look level (file d is_executable) nodes h = let same : [] ≡ nodes = cc in rw (← same) (named_none (level + 1))
 named_below look level (symlink target) nodes h = let same : [] ≡ nodes = cc in rw (← same) (named_none (level + 1))
 named_below look level (directory d) nodes h = go (nat_le 64 level) h where

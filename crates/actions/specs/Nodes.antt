@@ -4,20 +4,18 @@ use Rattle.std.specs.List.{filter_map}
 use Rattle.digest.specs.declared.Digest.{Digest}
 use Rattle.tree_messages.specs.Directories.{DirectoryValue, DirectoryNodeValue, FileNodeValue, SymlinkNodeValue}
 use Rattle.input_tree.specs.Directories.{written_digest, directory_in}
+use Rattle.tree_nodes.specs.declared.node.Node.{Node}
+use Rattle.tree_nodes.specs.Nodes.{NodeKindValue, NodeValue}
+pub use Rattle.tree_nodes.specs.Nodes.{file, symlink, directory}
 
-pub data NodeKindValue : Type 0 where
-  -- of the digest of its text, and whether it may be executed
-  file : Digest → Bool → NodeKindValue
-  -- to a target
-  symlink : List ℕ → NodeKindValue
-  -- of the digest of its text
-  directory : Digest → NodeKindValue
+abbrev pub PlanNode : Type 0
+PlanNode = Node Digest
 
--- its name in the directory that it stands in, and the level of that, where the root has level 1
-pub record PlanNodeValue : Type 0 where
-  pub name : List ℕ
-  pub level : ℕ
-  pub kind : NodeKindValue
+abbrev pub PlanKindValue : Type 0
+PlanKindValue = NodeKindValue Digest
+
+abbrev pub PlanNodeValue : Type 0
+PlanNodeValue = NodeValue Digest
 
 -- a node of a directory of this level
 abbrev pub file_at : ℕ → FileNodeValue → Option PlanNodeValue

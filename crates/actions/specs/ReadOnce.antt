@@ -6,15 +6,12 @@ use Rattle.std.specs.declared.vec.Vec.{Vec}
 use Rattle.digest.specs.declared.Digest.{Digest}
 use Rattle.digest.specs.Naming.{same_digest}
 use Rattle.input_tree.specs.Listing.{Lookup}
-use Rattle.actions.specs.declared.node.PlanNode.{PlanNode}
-use Rattle.actions.specs.Nodes.{PlanNodeValue}
+use Rattle.actions.specs.Nodes.{PlanNode, PlanNodeValue}
 use Rattle.actions.specs.Shown.{nodes_shown}
 use Rattle.actions.specs.Walk.{directory_nodes}
+use Rattle.tree_nodes.specs.Nodes.{node_at_level}
 
--- the same node in a directory of a level
-abbrev pub node_at_level : ℕ → PlanNodeValue → PlanNodeValue
-node_at_level level n = record n { level = level }
-
+-- the same nodes in a directory of a level
 abbrev pub at_level : ℕ → List PlanNodeValue → List PlanNodeValue
 at_level level nodes = map (node_at_level level) nodes
 

@@ -5,7 +5,7 @@ use Rattle.std.specs.List.{filter_map}
 use Rattle.message_fields.specs.Results.{◌>>=◌}
 use Rattle.digest.specs.declared.Digest.{Digest}
 use Rattle.input_tree.specs.Listing.{Lookup}
-use Rattle.actions.specs.Nodes.{NodeKindValue, file, symlink, directory, PlanNodeValue, nodes_in}
+use Rattle.actions.specs.Nodes.{PlanKindValue, file, symlink, directory, PlanNodeValue, nodes_in}
 use Rattle.actions.specs.declared.walking.TheConstants.{MOST_LEVELS, MOST_NODES}
 
 -- why a tree has no plan
@@ -32,7 +32,7 @@ abbrev pub directory_nodes : Lookup → ℕ → Digest → Nodes
 directory_nodes look level d = nodes_of_text level (look d)
 
 -- the nodes in what stands in a directory of this level; there are at most MOST_LEVELS
-abbrev pub nodes_below : Lookup → ℕ → NodeKindValue → Nodes
+abbrev pub nodes_below : Lookup → ℕ → PlanKindValue → Nodes
 nodes_below look level (file d is_executable) = Ok []
 nodes_below look level (symlink target) = Ok []
 nodes_below look level (directory d) =
@@ -56,7 +56,7 @@ nodes_met look root =
 
 -- ---- texts that are not there
 
-abbrev pub digest_of_kind : NodeKindValue → Option Digest
+abbrev pub digest_of_kind : PlanKindValue → Option Digest
 digest_of_kind (file d is_executable) = Some d
 digest_of_kind (symlink target) = None
 digest_of_kind (directory d) = Some d

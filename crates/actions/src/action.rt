@@ -1,14 +1,18 @@
 //! Which actions are taken.
 
 ghost use Rattle.std.specs.Prelude.{◌≡◌, ◌≤◌, IfOk, IfSome, option_map};
+ghost use Rattle.protobuf_wire.specs.Reading.{records_of};
+ghost use Rattle.input_tree.specs.NodeTexts.{with_left};
 ghost use Rattle.execution_messages.specs.Actions.{action_shown, duration_shown};
+ghost use Rattle.actions.specs.ActionTexts.{action_after, no_action, taken_action};
 ghost use Rattle.actions.specs.Actions.{action_in, action_taken, duration_of_numbers, is_timeout, longest, timeout_of};
 ghost use Rattle.actions.specs.Shown.{action_taken_shown};
 
+use crate::action_text::action_in;
+use crate::command_text::Untaken;
 use digest::Digest;
 use execution_messages::{Action, Duration};
 use input_tree::digest_written;
-use message_fields::{Message, MessageError};
 use std::alloc::{AllocError, Global};
 
 /// How long an action may run at most, in milliseconds.
@@ -80,14 +84,24 @@ fn taken(action: &Action<'_>) -> Option<ActionTaken>
     })
 }
 
+/// The action that a text spells, where it is taken.
+fn read_taken(text: &[u8]) -> Result<Option<ActionTaken>, AllocError>
+    ensures { IfOk result (λ found. option_map action_taken_shown found
+        ≡ taken_action (with_left action_after no_action (records_of text.now))) }
+{
+    match action_in(text) {
+        Ok(action) => Ok(taken(&action)),
+        Err(Untaken::Bad) => Ok(None),
+        Err(Untaken::NoMemory) => Err(AllocError),
+    }
+}
+
 /// The action that a text spells, where it is taken: its digests have their form, and its timeout,
-/// where it has one, is not negative and at most an hour.
-pub fn read_action(alloc: Global, text: &[u8]) -> Result<Option<ActionTaken>, AllocError>
+/// where it has one, is not negative and at most an hour. It is read in one pass, which ends at the
+/// first fault.
+#[tactic(auto, using(crate::proofs::ActionRecords::action_taken_is))]
+pub fn read_action(_alloc: Global, text: &[u8]) -> Result<Option<ActionTaken>, AllocError>
     ensures { IfOk result (λ found. option_map action_taken_shown found ≡ action_in text.now) }
 {
-    match Action::decode(alloc, text) {
-        Ok(action) => Ok(taken(&action)),
-        Err(MessageError::NoMemory) => Err(AllocError),
-        _ => Ok(None),
-    }
+    read_taken(text)
 }

@@ -1,14 +1,17 @@
 //! Which commands are taken.
 
-ghost use Rattle.std.specs.Prelude.{◌≡◌, is_some, map, option_map, IfOk};
+ghost use Rattle.std.specs.Prelude.{◌≡◌, Some, is_some, map, option_map, IfOk};
 ghost use Rattle.std.specs.List.{list_all};
 ghost use Rattle.execution_messages.specs.Actions.{command_shown, environment_variable_shown};
 ghost use Rattle.actions.specs.Commands as rules;
+ghost use Rattle.protobuf_wire.specs.Reading.{records_of};
+ghost use Rattle.input_tree.specs.NodeTexts.{with_left};
 ghost use Rattle.actions.specs.Commands.{command_in};
+ghost use Rattle.actions.specs.Texts.{command_after, no_command, taken_command};
 
+use crate::command_text::{Untaken, command_in};
 use execution_messages::{Command, EnvironmentVariable};
 use input_tree::is_name;
-use message_fields::{Message, MessageError};
 use resource_names::first_segment;
 use std::alloc::{AllocError, Global};
 
@@ -119,19 +122,39 @@ pub fn is_command(command: &Command<'_>) -> bool
         && have_paths(command)
 }
 
+/// A command that is taken, or `None`.
+fn taken(command: Command<'_>) -> Option<Command<'_>>
+    ensures { option_map command_shown result
+        ≡ taken_command (Some (command_shown command.entry)) }
+{
+    if is_command(&command) {
+        return Some(command);
+    }
+    None
+}
+
+/// The command that a text spells, whatever its length, where it is taken.
+fn read_taken<'a>(alloc: Global, text: &'a [u8]) -> Result<Option<Command<'a>>, AllocError>
+    ensures { IfOk result (λ found. option_map command_shown found
+        ≡ taken_command (with_left command_after no_command (records_of text.now))) }
+{
+    match command_in(alloc, text) {
+        Ok(command) => Ok(taken(command)),
+        Err(Untaken::Bad) => Ok(None),
+        Err(Untaken::NoMemory) => Err(AllocError),
+    }
+}
+
 /// The command that a text spells, where it is taken and the text has at most
-/// [`MOST_COMMAND_BYTES`].
+/// [`MOST_COMMAND_BYTES`]. It is read in one pass, which ends at the first fault.
+#[tactic(auto, using(crate::proofs::Records::command_taken_is))]
 pub fn read_command<'a>(alloc: Global, text: &'a [u8]) -> Result<Option<Command<'a>>, AllocError>
     ensures { IfOk result (λ found. option_map command_shown found ≡ command_in text.now) }
 {
     if text.len() > MOST_COMMAND_BYTES {
         return Ok(None);
     }
-    match Command::decode(alloc, text) {
-        Ok(command) if is_command(&command) => Ok(Some(command)),
-        Err(MessageError::NoMemory) => Err(AllocError),
-        _ => Ok(None),
-    }
+    read_taken(alloc, text)
 }
 
 /// Whether a text spells a command that is taken.

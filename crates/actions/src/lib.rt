@@ -3,7 +3,9 @@
 #![tactic(auto)]
 
 mod action;
+mod action_text;
 mod command;
+mod command_text;
 mod fault;
 mod finding;
 mod laws;
@@ -23,6 +25,6 @@ pub use laws::{
     limit_of_commands, limits_of_a_walk, missing_blobs_are_those_not_there,
     nodes_of_a_plan_are_named, paths_are_read_so, paths_follow_from_levels, times_are_read_so,
 };
-pub use node::{NodeKind, PlanNode};
+pub use node::PlanNode;
 pub use outputs::{AskedOutput, asked_outputs};
 pub use walking::{MOST_LEVELS, MOST_NODES, Plan, walk};

@@ -9,28 +9,10 @@ use input_tree::digest_written;
 use std::alloc::{AllocError, Global};
 use std::rc::RcStr;
 use tree_messages::{DirectoryNode, FileNode, SymlinkNode};
+use tree_nodes::{Node, NodeKind};
 
-/// What a node is.
-#[derive(Drop)]
-pub enum NodeKind {
-    /// A file, by the digest of its text.
-    File { digest: Digest, is_executable: bool },
-    /// A symbolic link.
-    Symlink { target: RcStr },
-    /// A directory, by the digest of its text.
-    Directory { digest: Digest },
-}
-
-/// A node of a plan.
-#[derive(Drop)]
-pub struct PlanNode {
-    /// Its name in the directory that it stands in. The places at which a directory stands share the
-    /// names in it.
-    pub name: RcStr,
-    /// The level of the directory that it stands in: 1 for the root's own nodes.
-    pub level: usize,
-    pub kind: NodeKind,
-}
+/// A node of a plan, which names texts by their digests.
+pub type PlanNode = Node<Digest>;
 
 /// A node of a directory, as its message says it.
 pub trait NodeMessage: Sized {
@@ -64,10 +46,10 @@ impl<'a> NodeMessage for FileNode<'a> {
         };
         let name = RcStr::from_str(alloc, self.name)?;
         let kind = NodeKind::File {
-            digest,
+            text: digest,
             is_executable: self.is_executable,
         };
-        Ok(Some(PlanNode { name, level, kind }))
+        Ok(Some(Node { name, level, kind }))
     }
 }
 
@@ -85,7 +67,7 @@ impl<'a> NodeMessage for SymlinkNode<'a> {
         let name = RcStr::from_str(alloc, self.name)?;
         let target = RcStr::from_str(alloc, self.target)?;
         let kind = NodeKind::Symlink { target };
-        Ok(Some(PlanNode { name, level, kind }))
+        Ok(Some(Node { name, level, kind }))
     }
 }
 
@@ -104,7 +86,7 @@ impl<'a> NodeMessage for DirectoryNode<'a> {
             return Ok(None);
         };
         let name = RcStr::from_str(alloc, self.name)?;
-        let kind = NodeKind::Directory { digest };
-        Ok(Some(PlanNode { name, level, kind }))
+        let kind = NodeKind::Directory { text: digest };
+        Ok(Some(Node { name, level, kind }))
     }
 }

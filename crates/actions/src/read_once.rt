@@ -1,14 +1,14 @@
 //! Directories that stand in many places: the text of each is read once.
 
 ghost use Rattle.std.specs.Prelude.{◌≡◌, ◌++◌, IfOk, OnOk};
-ghost use Rattle.actions.specs.Shown.{kind_shown, node_shown, nodes_shown};
-ghost use Rattle.actions.specs.ReadOnce.{AreRead, at_level, node_at_level};
+ghost use Rattle.actions.specs.Shown.{nodes_shown};
+ghost use Rattle.actions.specs.ReadOnce.{AreRead, at_level};
 ghost use Rattle.actions.specs.Walk.{directory_nodes};
 ghost use Rattle.actions.specs.Answers.{Answers};
 
 use crate::fault::TreeFault;
 use crate::finding::Finds;
-use crate::node::{NodeKind, PlanNode};
+use crate::node::PlanNode;
 use crate::reading::directory_nodes;
 use blob_pool::Pool;
 use digest::Digest;
@@ -18,34 +18,6 @@ use std::alloc::{AllocError, Global};
 /// The nodes of the directories that a walk has read.
 pub type ReadDirectories = IndexMap<Digest, Vec<PlanNode>>;
 
-fn copy_kind(kind: &NodeKind) -> Result<NodeKind, AllocError>
-    ensures { IfOk result (λ copy. kind_shown copy ≡ kind_shown kind.now) }
-{
-    match kind {
-        NodeKind::File {
-            digest,
-            is_executable,
-        } => Ok(NodeKind::File {
-            digest: *digest,
-            is_executable: *is_executable,
-        }),
-        NodeKind::Symlink { target } => {
-            let target = target.clone()?;
-            Ok(NodeKind::Symlink { target })
-        }
-        NodeKind::Directory { digest } => Ok(NodeKind::Directory { digest: *digest }),
-    }
-}
-
-/// The same node in a directory of a level.
-fn copy_node(level: usize, node: &PlanNode) -> Result<PlanNode, AllocError>
-    ensures { IfOk result (λ copy. node_shown copy ≡ node_at_level level (node_shown node.now)) }
-{
-    let name = node.name.clone()?;
-    let kind = copy_kind(&node.kind)?;
-    Ok(PlanNode { name, level, kind })
-}
-
 /// The same nodes in a directory of a level.
 fn copy_nodes(alloc: Global, level: usize, nodes: &[PlanNode]) -> Result<Vec<PlanNode>, AllocError>
     ensures { IfOk result (λ copies. nodes_shown copies.items
@@ -54,7 +26,7 @@ fn copy_nodes(alloc: Global, level: usize, nodes: &[PlanNode]) -> Result<Vec<Pla
     let mut copies = Vec::with_capacity(alloc, nodes.len())?;
     let mut left = nodes;
     'nodes: while let [first, rest @ ..] = left {
-        copies.push(copy_node(level, first)?)?;
+        copies.push(first.at_level(level)?)?;
         left = rest;
     }
     Ok(copies)

@@ -8,13 +8,14 @@ ghost use Rattle.actions.specs.Answers.{Answers};
 
 use crate::fault::TreeFault;
 use crate::finding::Finds;
-use crate::node::{NodeKind, PlanNode};
+use crate::node::PlanNode;
 use crate::read_once::{ReadDirectories, nodes_once};
 use crate::reading::directory_nodes;
 use blob_pool::Pool;
 use digest::Digest;
 use indexmap::IndexMap;
 use std::alloc::{AllocError, Global};
+use tree_nodes::NodeKind;
 
 /// The most nodes that a tree has below its root.
 pub const MOST_NODES: usize = 10_000;
@@ -43,13 +44,13 @@ fn nodes_inside<F: Finds>(
         (nodes_inside (F.found_in pool.now view.now) (node_shown node.now)) }
     ensures read { OnOk result (AreRead (F.found_in pool.now view.now) read.new.entries) }
 {
-    let NodeKind::Directory { digest } = &node.kind else {
+    let NodeKind::Directory { text } = &node.kind else {
         return Ok(Vec::new(alloc));
     };
     if node.level >= MOST_LEVELS {
         return Err(TreeFault::TooDeep);
     }
-    nodes_once(alloc, view, pool, read, node.level + 1, digest)
+    nodes_once(alloc, view, pool, read, node.level + 1, text)
 }
 
 /// Puts nodes on a stack, the first of them on top.
@@ -111,7 +112,7 @@ fn digest_of(node: &PlanNode) -> Option<Digest>
     ensures { result ≡ digest_of_node (node_shown node.now) }
 {
     match &node.kind {
-        NodeKind::File { digest, .. } | NodeKind::Directory { digest } => Some(*digest),
+        NodeKind::File { text, .. } | NodeKind::Directory { text } => Some(*text),
         NodeKind::Symlink { .. } => None,
     }
 }

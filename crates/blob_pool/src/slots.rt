@@ -5,7 +5,8 @@ ghost use Rattle.std.specs.Option.{option_copied};
 ghost use Rattle.digest.specs.Naming.{digest_of};
 ghost use Rattle.slab.specs.Slab.{slab_len};
 ghost use Rattle.paged_text.specs.declared.text.TheConstants.{MOST_BYTES};
-ghost use Rattle.blob_pool.specs.Slots.{held_text_at, text_at, count_at, Puts, bytes_stored};
+ghost use Rattle.blob_pool.specs.Slots.{held_text_at, text_at, count_at, bytes_stored};
+ghost use Rattle.blob_pool.specs.Putting.{Puts};
 ghost use Rattle.blob_pool.specs.Moves.{Moves, HasRoom, no_holders, one_at};
 ghost use Rattle.blob_pool.specs.Listed.{Listing, IsInListing, IsPool};
 

@@ -1,4 +1,5 @@
 pub mod Refusals
+pub mod UploadErrors
 pub mod Reading
 pub mod Querying
 pub mod Writing

@@ -2,8 +2,7 @@
 use Rattle.std.specs.Prelude.{Result, Ok, Err}
 use Rattle.rpc.specs.declared.refusal.Refusal.{Refusal}
 use Rattle.rpc.specs.declared.refusal.Refusal.TheVariants.{BadResourceName, UnsupportedCompressor, BadDigest, WrongOffset, DigestDoesNotMatch, TooManyUploads, QuotaExceeded}
-use Rattle.cas_service.specs.declared.error.CallError.{CallError}
-use Rattle.cas_service.specs.declared.error.CallError.TheVariants.{Refused, NoMemory}
+use Rattle.cas_service.specs.declared.error.CallError.TheVariants.{NoMemory}
 use Rattle.resource_names.specs.declared.name.NameError.{NameError}
 use Rattle.resource_names.specs.declared.name.NameError.TheVariants.{Form, Hash, Size, Compressed}
 use Rattle.uploads.specs.declared.error.UploadError.{UploadError}
@@ -19,14 +18,6 @@ name_refusal Compressed = UnsupportedCompressor
 abbrev pub name_or_refusal : {A : Type 0} → Result A NameError → Result A Refusal
 name_or_refusal (Ok name) = Ok name
 name_or_refusal (Err e) = Err (name_refusal e)
-
-abbrev pub upload_error : UploadError → CallError
-upload_error Upload.Offset = Refused WrongOffset
-upload_error Upload.Size = Refused DigestDoesNotMatch
-upload_error Upload.Hash = Refused DigestDoesNotMatch
-upload_error Upload.TooMany = Refused TooManyUploads
-upload_error Upload.OverQuota = Refused QuotaExceeded
-upload_error Upload.NoMemory = NoMemory
 
 -- the same of an answer's meaning, in which no memory is refused
 abbrev pub upload_meaning : Result Unit UploadError → Result Unit Refusal

@@ -6,7 +6,7 @@ ghost use Rattle.instance_view.specs.Shown.{visible_in, holders};
 ghost use Rattle.cas_service.specs.InPool.{IsViewInPool};
 ghost use Rattle.cas_service.specs.Answers.{Answers, IfAnswered, IfNoMemory};
 ghost use Rattle.uploads.specs.Uploads.{AreUploadsWithin, upload_at};
-ghost use Rattle.bytestream.specs.Refusals.{upload_error};
+ghost use Rattle.bytestream.specs.UploadErrors.{upload_error};
 ghost use Rattle.bytestream.specs.Writing.{write_state_with, end_answer, part_answer, after_end, after_part, IsOldOrTaken};
 ghost use Rattle.bytestream.specs.Shown.{part_shown};
 ghost use Rattle.cas_service.specs.Within.{most_stored_bytes};

@@ -85,10 +85,8 @@ impl CallCounts {
         ensures none { STATUSES ≤ code → self.new ≡ self.old }
     {
         if code < STATUSES {
-            let place = place_of(method);
-            let mut counts = self.methods[place];
-            counts.ended[code] = counts.ended[code].saturating_add(1);
-            self.methods[place] = counts;
+            let ended = &mut self.methods[place_of(method)].ended;
+            ended[code] = ended[code].saturating_add(1);
         }
     }
 
@@ -96,20 +94,16 @@ impl CallCounts {
     pub fn add_received(&mut self, method: Method, bytes: usize)
         ensures { self.new ≡ with_method method (with_received bytes) self.old }
     {
-        let place = place_of(method);
-        let mut counts = self.methods[place];
+        let counts = &mut self.methods[place_of(method)];
         counts.bytes_received = counts.bytes_received.saturating_add(bytes as u64);
-        self.methods[place] = counts;
     }
 
     /// A message of a reply was given.
     pub fn add_sent(&mut self, method: Method, bytes: u64)
         ensures { self.new ≡ with_method method (with_sent bytes) self.old }
     {
-        let place = place_of(method);
-        let mut counts = self.methods[place];
+        let counts = &mut self.methods[place_of(method)];
         counts.bytes_sent = counts.bytes_sent.saturating_add(bytes);
-        self.methods[place] = counts;
     }
 
     /// A call was answered from what is stored, or its action waits or runs since. Only calls of

@@ -20,20 +20,21 @@ ghost use Rattle.execution.specs.Shown.{prepared_shown};
 use crate::job::{Job, Task};
 use crate::keeping::{KeptText, keep_texts};
 use crate::preparing::Prepared;
-use actions::{NodeKind, PlanNode};
+use actions::PlanNode;
 use blob_pool::{Pool, release_kept};
 use digest::Digest;
 use execution_messages::distinct;
 use instance_view::Sight;
 use job_queue::Queue;
 use std::alloc::{AllocError, Global};
+use tree_nodes::NodeKind;
 
 /// The digest of a file or directory.
 fn digest_of(node: &PlanNode) -> Option<Digest>
     ensures { result ≡ digest_of_node (node_shown node.now) }
 {
     match &node.kind {
-        NodeKind::File { digest, .. } | NodeKind::Directory { digest } => Some(*digest),
+        NodeKind::File { text, .. } | NodeKind::Directory { text } => Some(*text),
         NodeKind::Symlink { .. } => None,
     }
 }

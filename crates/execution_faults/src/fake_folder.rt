@@ -3,9 +3,11 @@
 ghost use Rattle.std.specs.Prelude.{◌≤◌, length};
 
 use crate::counting::{Calls, Deed, Failing};
-use runner::{Entry, FileFacts, Folder, Found, NodeKind, Place, RunKey};
+use runner::{Entry, FileFacts, Folder, Found, Place, RunKey};
 use std::alloc::{AllocError, Global};
 use std::io;
+use std::rc::RcStr;
+use tree_nodes::NodeKind;
 
 #[derive(Drop)]
 enum Kind {
@@ -36,6 +38,15 @@ fn add_part(path: &mut String, part: &str) -> Result<(), AllocError> {
         path.push('/')?;
     }
     path.push_str(part)
+}
+
+/// The path of a node from the root on, cut short where memory is refused.
+fn node_path(alloc: Global, names: &[RcStr]) -> String {
+    let mut path = String::new(alloc);
+    for name in names {
+        let _ = add_part(&mut path, name);
+    }
+    path
 }
 
 /// A path from the root on, cut short where memory is refused.
@@ -188,24 +199,29 @@ impl Folder for FakeFolder {
         Ok(())
     }
 
-    fn make_node(&mut self, run: RunKey, names: &[String], kind: &NodeKind) -> io::Result<()> {
+    fn make_node(
+        &mut self,
+        run: RunKey,
+        names: &[RcStr],
+        kind: &NodeKind<usize>,
+    ) -> io::Result<()> {
         self.calls.next(Deed::Work(run))?;
         let kind = match kind {
-            NodeKind::Directory => Kind::Directory,
+            NodeKind::Directory { .. } => Kind::Directory,
             NodeKind::Symlink { .. } => Kind::Link,
             NodeKind::File { is_executable, .. } => Kind::File {
                 bytes: Vec::new(self.alloc),
                 is_executable: *is_executable,
             },
         };
-        let path = joined(self.alloc, "", "", names);
+        let path = node_path(self.alloc, names);
         add(&mut self.nodes, run, path, kind);
         Ok(())
     }
 
-    fn write(&mut self, run: RunKey, names: &[String], bytes: &[u8]) -> io::Result<()> {
+    fn write(&mut self, run: RunKey, names: &[RcStr], bytes: &[u8]) -> io::Result<()> {
         self.calls.next(Deed::Work(run))?;
-        let path = joined(self.alloc, "", "", names);
+        let path = node_path(self.alloc, names);
         append(&mut self.nodes, run, path.as_str(), bytes);
         Ok(())
     }

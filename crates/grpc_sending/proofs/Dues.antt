@@ -18,10 +18,12 @@ use Rattle.grpc_calls.specs.declared.response.ResponseBlock.{ResponseBlock}
 use Rattle.grpc_calls.specs.Responses.{fields_of, is_last}
 use Rattle.grpc_sending.specs.declared.queue.StoredQueue.{StoredQueue}
 use Rattle.grpc_sending.specs.declared.turn.Due.TheVariants.{Opens, Gives}
-use Rattle.grpc_sending.specs.Pieces.{Block, Part, Queue, Head, Content}
+use Rattle.grpc_sending.specs.Pieces.{Block, Part, Queue}
+use Rattle.grpc_sending.specs.Turns.{Head, Content}
 use Rattle.grpc_sending.specs.StandsFor.{Sending, pieces_on}
 use Rattle.grpc_sending.specs.Step.{next_turn, without_first_at, without_front_at, Puts, Rests, Finishes}
-use Rattle.grpc_sending.specs.StoredSending.{SourceTexts, StoredSending, QueuesEndWithin, queue_in, sending_in, stored_on, stored_first_at, stored_front_at, front_bytes, next_due}
+use Rattle.grpc_sending.specs.StoredSending.{SourceTexts, StoredSending, QueuesEndWithin, queue_in, sending_in, stored_on}
+use Rattle.grpc_sending.specs.SendingSteps.{stored_first_at, stored_front_at, front_bytes, next_due}
 use Rattle.grpc_sending.proofs.Takes.{stands_same}
 use Rattle.grpc_sending.proofs.Stored.{turn_none, turn_head, turn_content, block_removed, part_removed, front_is}
 use Rattle.grpc_sending.proofs.Rounds.{has_turn, head_turn, content_of, head_lives, HasPut, puts_block_by, puts_last_by, puts_part_by, rests_none}

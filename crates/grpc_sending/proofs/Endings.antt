@@ -15,12 +15,13 @@ use Rattle.grpc_calls.specs.declared.response.ResponseBlock.{ResponseBlock}
 use Rattle.grpc_calls.specs.Responses.{is_last}
 use Rattle.grpc_sending.specs.declared.queue.StoredQueue.{StoredQueue}
 use Rattle.grpc_sending.specs.declared.turn.Due.TheVariants.{Opens, Gives}
-use Rattle.grpc_sending.specs.Pieces.{Head, Content}
+use Rattle.grpc_sending.specs.Turns.{Head, Content}
 use Rattle.grpc_sending.specs.Owed.{OwedItem}
 use Rattle.grpc_sending.specs.Pump.{block_frame, reset_after, next_frames, history_after_pump}
 use Rattle.grpc_sending.specs.StandsFor.{IsSending, pieces_on}
 use Rattle.grpc_sending.specs.Step.{Rests}
-use Rattle.grpc_sending.specs.StoredSending.{SourceTexts, StoredSending, QueuesEndWithin, IsStoredSending, ForgetsEnded, EndsBy, PutsBy, stored_on, queue_in, sending_in, next_due}
+use Rattle.grpc_sending.specs.StoredSending.{SourceTexts, StoredSending, QueuesEndWithin, IsStoredSending, ForgetsEnded, stored_on, queue_in, sending_in}
+use Rattle.grpc_sending.specs.SendingSteps.{EndsBy, PutsBy, next_due}
 use Rattle.grpc_sending.proofs.Histories.{sent_more}
 use Rattle.grpc_sending.proofs.Turns.{frames_of, next_some}
 use Rattle.grpc_sending.proofs.Rounds.{in_history, head_turn, closes, reset_closes}

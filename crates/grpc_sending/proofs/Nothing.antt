@@ -8,7 +8,8 @@ use Rattle.http2_streams.specs.Rules.{is_live_at}
 use Rattle.grpc_sending.specs.declared.piece.StoredPiece.{StoredPiece}
 use Rattle.grpc_sending.specs.declared.queue.StoredQueue.{StoredQueue}
 use Rattle.grpc_sending.specs.Sources.{BacklogValue}
-use Rattle.grpc_sending.specs.StoredSending.{StoredSending, stored_on, stored_front, stored_first_at, stored_front_at}
+use Rattle.grpc_sending.specs.StoredSending.{StoredSending, stored_on}
+use Rattle.grpc_sending.specs.SendingSteps.{stored_front, stored_first_at, stored_front_at}
 use Rattle.grpc_sending.proofs.Keeping.{waiting}
 use Rattle.grpc_sending.proofs.Pushes.{Pushed}
 use Rattle.grpc_sending.proofs.Stored.{stored_changed, forgotten_stored, none_stored}

@@ -15,7 +15,8 @@ use Rattle.grpc_sending.specs.declared.queue.Removal.{Removal}
 use Rattle.grpc_sending.specs.declared.queue.StoredQueue.{StoredQueue}
 use Rattle.grpc_sending.specs.Sources.{AreSame, sum_over, sources_in, sources_held, source_of, Spends, SpendsOf}
 use Rattle.grpc_sending.specs.SortedQueues.{AreAbove, AreSorted, IsQueueAt, IsGapFor}
-use Rattle.grpc_sending.specs.StoredSending.{stored_on, first_at, pieces_left, left_at, with_piece}
+use Rattle.grpc_sending.specs.StoredSending.{stored_on}
+use Rattle.grpc_sending.specs.SendingSteps.{first_at, pieces_left, left_at, with_piece}
 use Rattle.grpc_sending.proofs.Pushes.{Pushed, pushed_at_by}
 use Rattle.grpc_sending.proofs.Sources.{sum_append, same_set, few_at, pushed_sources}
 

@@ -6,7 +6,7 @@ use Rattle.std.proofs.lemmas.Grind.{flat_map-append}
 use Rattle.grpc_sending.specs.declared.piece.StoredPiece.{StoredPiece}
 use Rattle.grpc_sending.specs.declared.queue.StoredQueue.{StoredQueue}
 use Rattle.grpc_sending.specs.Sources.{sum_over, AreSame, source_of, sources_in, sources_held, BacklogValue, sources_waiting}
-use Rattle.grpc_sending.specs.StoredSending.{with_piece}
+use Rattle.grpc_sending.specs.SendingSteps.{with_piece}
 
 pub sum_append : (f : ℕ → ℕ) (ms ns : List ℕ) → sum_over f (ms ++ ns) ≡ sum_over f ms + sum_over f ns
 sum_append f [] ns = omega arith

@@ -14,12 +14,14 @@ use Rattle.grpc_sending.specs.declared.piece.StoredPiece.TheVariants.{Encoded, F
 use Rattle.grpc_sending.specs.declared.queue.StoredQueue.{StoredQueue}
 use Rattle.grpc_sending.specs.declared.turn.Due.{Due}
 use Rattle.grpc_sending.specs.declared.turn.Due.TheVariants.{Opens, Gives}
-use Rattle.grpc_sending.specs.Pieces.{Piece, Block, Part, Queue, Turn, Head, Content, most_read}
+use Rattle.grpc_sending.specs.Pieces.{Piece, Block, Part, Queue, most_read}
+use Rattle.grpc_sending.specs.Turns.{Head, Content, Turn}
 use Rattle.grpc_sending.specs.Owed.{without_front}
 use Rattle.grpc_sending.specs.Pump.{part_size}
 use Rattle.grpc_sending.specs.StandsFor.{pieces_on}
 use Rattle.grpc_sending.specs.Step.{content_turn, turn_of, turn_on, next_turn, without_first_at, without_front_at}
-use Rattle.grpc_sending.specs.StoredSending.{SourceTexts, EndsWithinText, EndWithinTexts, QueuesEndWithin, pieces_in, queue_in, stored_on, stored_front, stored_first_at, stored_front_at, front_bytes, count_due, due_of, due_on, next_due}
+use Rattle.grpc_sending.specs.StoredSending.{SourceTexts, EndsWithinText, EndWithinTexts, QueuesEndWithin, pieces_in, queue_in, stored_on}
+use Rattle.grpc_sending.specs.SendingSteps.{stored_front, stored_first_at, stored_front_at, front_bytes, count_due, due_of, due_on, next_due}
 use Rattle.grpc_sending.specs.Spans.{Span, span_pieces, span_ends, span_front, span_size, span_after, IsSpan}
 use Rattle.grpc_sending.proofs.Spans.{span_is, span_rest, span_front_size, span_put, span_less, span_next}
 use Rattle.grpc_sending.proofs.Queues.{same_test, other_test, changed_on}

@@ -1,8 +1,10 @@
 pub mod Bytes
 pub mod Owed
 pub mod StoredSending
+pub mod SendingSteps
 pub mod Parts
 pub mod Pieces
+pub mod Turns
 pub mod Pump
 pub mod Settled
 pub mod Sources

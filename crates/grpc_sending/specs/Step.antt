@@ -11,8 +11,7 @@ use Rattle.http2_streams.specs.StandsFor.{AreStreams}
 use Rattle.grpc_sending.specs.Pieces.{Piece}
 use Rattle.grpc_sending.specs.Pieces.{Block, Part}
 use Rattle.grpc_sending.specs.Pieces.{Queue}
-use Rattle.grpc_sending.specs.Pieces.{Turn}
-use Rattle.grpc_sending.specs.Pieces.{Head, Content}
+use Rattle.grpc_sending.specs.Turns.{Turn, Head, Content}
 use Rattle.grpc_sending.specs.Owed.{OwedItem, without_front}
 use Rattle.grpc_sending.specs.Pump.{part_size, first_of, next_frames, reset_after}
 use Rattle.grpc_sending.specs.StandsFor.{Sending, IsSending, pieces_on}

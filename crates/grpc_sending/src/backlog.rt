@@ -1,7 +1,8 @@
 //! What waits to be put, and the sources of ranges that are over.
 
 ghost use Rattle.std.specs.Prelude.{◌≡◌, ◌≤◌, ◌<◌, ◌==◌, ◌^◌, ◌++◌, ◌∷◌, [], ℕ, List, None, OnOk, OnErr, MatchOption, length, map, filter, not, if◌then◌else◌, vec_capacity};
-ghost use Rattle.grpc_sending.specs.StoredSending.{Appends, Tells, stored_first_at, stored_front_at};
+ghost use Rattle.grpc_sending.specs.StoredSending.{Tells};
+ghost use Rattle.grpc_sending.specs.SendingSteps.{Appends, stored_first_at, stored_front_at};
 ghost use Rattle.grpc_sending.specs.SortedQueues.{AreSorted};
 ghost use Rattle.grpc_sending.specs.Sources.{AreSame, source_of, sources_waiting};
 ghost use Rattle.grpc_sending.specs.declared.piece.StoredPiece.TheVariants.{Ranged};

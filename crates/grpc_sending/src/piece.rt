@@ -8,7 +8,7 @@ ghost use Rattle.grpc_calls.specs.Responses.{fields_of, is_last};
 ghost use Rattle.grpc_messages.specs.Wire.{message_length_limit};
 ghost use Rattle.grpc_messages.specs.Writing.{framed_message};
 ghost use Rattle.grpc_sending.specs.declared.piece.StoredPiece.{StoredPiece};
-ghost use Rattle.grpc_sending.specs.StoredSending.{stored_front};
+ghost use Rattle.grpc_sending.specs.SendingSteps.{stored_front};
 ghost use Rattle.grpc_sending.specs.Sources.{source_of};
 ghost use Rattle.grpc_calls.specs.Responses.{longest_block};
 

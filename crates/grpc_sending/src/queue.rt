@@ -1,7 +1,8 @@
 //! What is still to be put on each stream.
 
 ghost use Rattle.std.specs.Prelude.{◌≡◌, ◌≤◌, ◌<◌, ◌==◌, ◌+◌, ◌++◌, ◌∷◌, [], ℕ, List, IfOk, IfErr, OnOk, OnErr, MatchOption, length, drop, map, filter, not, slice_set, slice_index_or, if◌then◌else◌, vec_capacity};
-ghost use Rattle.grpc_sending.specs.StoredSending.{Appends, stored_on, stored_front, pieces_left, left_at, with_piece};
+ghost use Rattle.grpc_sending.specs.StoredSending.{stored_on};
+ghost use Rattle.grpc_sending.specs.SendingSteps.{Appends, stored_front, pieces_left, left_at, with_piece};
 ghost use Rattle.grpc_sending.specs.SortedQueues.{AreSorted, IsQueueAt, IsGapFor};
 ghost use Rattle.std.specs.List.Sorted.{IsSearchInRange};
 ghost use Rattle.grpc_sending.specs.Sources.{Spends, SpendsOf, HasRoomForSources, HasRoomForPieces, HoldsSourcesToo, source_of};

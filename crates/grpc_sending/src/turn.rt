@@ -3,7 +3,7 @@
 ghost use Rattle.std.specs.Prelude.{◌≡◌, ◌≤◌, length};
 ghost use Rattle.http2_streams.specs.Credit.{window_left};
 ghost use Rattle.grpc_sending.specs.Pump.{part_size};
-ghost use Rattle.grpc_sending.specs.StoredSending.{count_due, due_of, due_on, next_due};
+ghost use Rattle.grpc_sending.specs.SendingSteps.{count_due, due_of, due_on, next_due};
 ghost use Rattle.grpc_sending.specs.SortedQueues.{AreSorted};
 
 use crate::piece::{BlockText, StoredPiece};

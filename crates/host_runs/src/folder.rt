@@ -11,10 +11,12 @@ use crate::files::{
 use crate::paths::{aside_name, left_path, node_path, parted, root_name};
 use crate::removing::Removal;
 use crate::work::Work;
-use runner::{Entry, FileFacts, Folder, Found, NodeKind, Place, RunKey};
+use runner::{Entry, FileFacts, Folder, Found, Place, RunKey};
 use std::fs::{File, OpenOptions, Permissions};
 use std::io::{self, Write};
 use std::os::unix::fs::{OpenOptionsExt, PermissionsExt, symlink};
+use std::rc::RcStr;
+use tree_nodes::NodeKind;
 
 /// How a file, and one that may be executed, can be used.
 const FILE_MODE: u32 = 0o644;
@@ -71,7 +73,12 @@ impl<'a> Folders<'a> {
         answer
     }
 
-    fn make_node(&mut self, run: RunKey, names: &[String], kind: &NodeKind) -> io::Result<()> {
+    fn make_node(
+        &mut self,
+        run: RunKey,
+        names: &[RcStr],
+        kind: &NodeKind<usize>,
+    ) -> io::Result<()> {
         self.made = None;
         let path = node_path(self.rt.alloc(), run, names)?;
         let (above, name) = parted(path.as_str());
@@ -89,14 +96,15 @@ impl<'a> Folders<'a> {
         &self,
         directory: &Directory,
         name: &str,
-        kind: &NodeKind,
+        kind: &NodeKind<usize>,
     ) -> io::Result<Option<File>> {
         let alloc = self.rt.alloc();
         match kind {
-            NodeKind::Directory => directory.make_dir(alloc, name, COMMON_MODE)?,
+            NodeKind::Directory { .. } => directory.make_dir(alloc, name, COMMON_MODE)?,
             NodeKind::Symlink { target } => {
                 let path = directory.path_of(alloc, name)?;
-                symlink(self.rt, target.as_str(), path.as_str())?;
+                let target: &str = target;
+                symlink(self.rt, target, path.as_str())?;
             }
             NodeKind::File { is_executable, .. } => {
                 let path = directory.path_of(alloc, name)?;
@@ -106,7 +114,7 @@ impl<'a> Folders<'a> {
         Ok(None)
     }
 
-    fn write(&mut self, run: RunKey, names: &[String], bytes: &[u8]) -> io::Result<()> {
+    fn write(&mut self, run: RunKey, names: &[RcStr], bytes: &[u8]) -> io::Result<()> {
         let path = node_path(self.rt.alloc(), run, names)?;
         let mut file = match again(self.made.take(), path.as_str()) {
             Some(file) => file,
@@ -293,13 +301,18 @@ impl<'a> Folder for HostFolder<'a> {
         answer
     }
 
-    fn make_node(&mut self, run: RunKey, names: &[String], kind: &NodeKind) -> io::Result<()> {
+    fn make_node(
+        &mut self,
+        run: RunKey,
+        names: &[RcStr],
+        kind: &NodeKind<usize>,
+    ) -> io::Result<()> {
         let answer = self.folders.make_node(run, names, kind);
         self.count(&answer);
         answer
     }
 
-    fn write(&mut self, run: RunKey, names: &[String], bytes: &[u8]) -> io::Result<()> {
+    fn write(&mut self, run: RunKey, names: &[RcStr], bytes: &[u8]) -> io::Result<()> {
         let answer = self.folders.write(run, names, bytes);
         self.count(&answer);
         answer

@@ -8,6 +8,7 @@ ghost use Rattle.host_runs.specs.Folders.{root_name, root_path};
 
 use runner::{Place, RunKey};
 use std::alloc::{AllocError, Global};
+use std::rc::RcStr;
 
 /// The name of a run's folder: that of job 3 of instance 1 is `1-3`.
 pub(crate) fn root_name(alloc: Global, run: RunKey) -> Result<String, AllocError>
@@ -44,13 +45,11 @@ pub(crate) fn beside_path(
 }
 
 /// What has these names from the folder of a run on.
-pub(crate) fn node_path(
-    alloc: Global,
-    run: RunKey,
-    names: &[String],
-) -> Result<String, AllocError> {
+pub(crate) fn node_path(alloc: Global, run: RunKey, names: &[RcStr]) -> Result<String, AllocError> {
     let mut path = root_name(alloc, run)?;
-    add_names(&mut path, names)?;
+    for name in names {
+        add(&mut path, name)?;
+    }
     Ok(path)
 }
 
@@ -64,7 +63,9 @@ pub(crate) fn left_path(
     let mut whole = root_name(alloc, place.run)?;
     add(&mut whole, place.directory.as_str())?;
     add(&mut whole, path)?;
-    add_names(&mut whole, names)?;
+    for name in names {
+        add(&mut whole, name.as_str())?;
+    }
     Ok(whole)
 }
 
@@ -83,13 +84,6 @@ pub(crate) fn output_path(
 /// The path of what a path leads to is in, and its name there.
 pub(crate) fn parted(path: &str) -> (&str, &str) {
     path.rsplit_once('/').unwrap_or(("", path))
-}
-
-fn add_names(whole: &mut String, names: &[String]) -> Result<(), AllocError> {
-    for name in names {
-        add(whole, name.as_str())?;
-    }
-    Ok(())
 }
 
 fn add(whole: &mut String, path: &str) -> Result<(), AllocError> {

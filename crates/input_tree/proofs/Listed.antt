@@ -9,7 +9,8 @@ use Rattle.digest.specs.Naming.{same_digest}
 use Rattle.digest.proofs.Same.{same_equal}
 use Rattle.input_tree.specs.declared.error.TreeRefusal.{TreeRefusal}
 use Rattle.input_tree.specs.declared.error.TreeRefusal.TheVariants.{TooMany}
-use Rattle.input_tree.specs.Listing.{Lookup, AreDue, AreNone, children, children_of_each, with_children, listed_along}
+use Rattle.input_tree.specs.Listing.{Lookup, children, with_children, listed_along}
+use Rattle.input_tree.specs.ListingSteps.{AreDue, AreNone, children_of_each}
 
 any_last : (test : Digest → Bool) (ks : List Digest) (d : Digest) → list_any test (ks ++ d ∷ []) ≡ true → list_any test ks ≡ false → test d ≡ true
 any_last test [] d h none = go (test d) refl h where

@@ -1,6 +1,8 @@
 pub mod Names
+pub mod NameSteps
 pub mod Directories
 pub mod Listing
+pub mod ListingSteps
 pub mod Answers
 pub mod Texts
 pub mod Pages

@@ -1,10 +1,8 @@
 -- The directories of a tree, as GetTree lists them (remote_execution.proto,
 -- ContentAddressableStorage).
-use Rattle.std.specs.Prelude.{◌≡◌, ◌≤◌, true, ℕ, ◌+◌, zero, suc, List, [], ◌∷◌, ◌++◌, Option, Some, None, Result, Ok, Err, is_some, length, map, drop, slice_get, unwrap_or, if◌then◌else◌}
+use Rattle.std.specs.Prelude.{ℕ, ◌+◌, zero, suc, List, [], ◌∷◌, ◌++◌, Option, Some, None, Result, Ok, Err, is_some, slice_get, unwrap_or, if◌then◌else◌}
 use Rattle.std.specs.List.{list_any}
 use Rattle.std.specs.Option.{option_map_or}
-use Rattle.std.specs.declared.alloc.Global.{Global}
-use Rattle.std.specs.declared.vec.Vec.{Vec}
 use Rattle.digest.specs.declared.Digest.{Digest}
 use Rattle.digest.specs.Naming.{same_digest}
 use Rattle.input_tree.specs.Directories.{children_in}
@@ -54,16 +52,3 @@ listed_from most look root (Some text) =
 -- unless it is listed
 abbrev pub tree_list : Lookup → Digest → Result (List Digest) TreeRefusal
 tree_list look root = listed_from MOST_DIRECTORIES look root (look root)
-
--- none of the digests is one of a directory
-abbrev pub AreNone : Lookup → List Digest → Type 0
-AreNone look ds = (d : Digest) → list_any (same_digest d) ds ≡ true → children look d ≡ None
-
--- what is in the directory of each digest; nothing where it has none
-abbrev pub children_of_each : Lookup → List Digest → List (List Digest)
-children_of_each look ds = map (λ d. unwrap_or (children look d) []) ds
-
--- lists have what is in each directory of a list from a place on
-abbrev pub AreDue : Lookup → ℕ → List Digest → List (Vec Digest Global) → Type 0
-AreDue look place ds due =
-    (place ≤ length ds) × (children_of_each look (drop place ds) ≡ map (λ v. v.items) due)

@@ -2,7 +2,8 @@
 
 ghost use Rattle.std.specs.Prelude.{◌≡◌, ℕ, Ok, IfErr, OnOk};
 ghost use Rattle.input_tree.specs.Answers.{Fails, Lists};
-ghost use Rattle.input_tree.specs.Listing.{AreDue, AreNone, children, listed_along, tree_list, with_listed, with_all_listed};
+ghost use Rattle.input_tree.specs.Listing.{children, listed_along, tree_list, with_listed, with_all_listed};
+ghost use Rattle.input_tree.specs.ListingSteps.{AreDue, AreNone};
 ghost use Rattle.input_tree.specs.Texts.{texts_of};
 
 use crate::directory::children;

@@ -10,7 +10,7 @@ use Rattle.digest.proofs.Same.{same_equal, same_refl}
 use Rattle.instance_view.specs.Visible.{Blob, visible_text}
 use Rattle.quota_evict.proofs.Seen.{named_by}
 use Rattle.job_queue.proofs.Orders.{all-weaker}
-use Rattle.actions.specs.Nodes.{NodeKindValue, PlanNodeValue, file, symlink, directory}
+use Rattle.actions.specs.Nodes.{PlanKindValue, PlanNodeValue, file, symlink, directory}
 use Rattle.actions.specs.Walk.{Nodes, nodes_met, nodes_unless_missing, digest_of_node, digests_met, missing_among, plan_of, walk}
 use Rattle.execution_messages.specs.Statuses.{distinct}
 use Rattle.execution_messages.proofs.EachOnce.{among, same-ones}
@@ -107,7 +107,7 @@ HasFile texts n = HasContent texts n.kind
 have_files : (texts : List Blob) (nodes : List PlanNodeValue) → AllByRecursion (IsKept texts) (filter_map digest_of_node nodes) → AllByRecursion (HasFile texts) nodes
 have_files texts [] h = tt
 have_files texts (n ∷ nodes) h = go n.kind h (λ later. have_files texts nodes later) where
-  go : (kind : NodeKindValue) → AllByRecursion (IsKept texts) (filter_map digest_of_node (record { name = n.name; level = n.level; kind = kind } ∷ nodes)) → (AllByRecursion (IsKept texts) (filter_map digest_of_node nodes) → AllByRecursion (HasFile texts) nodes) → HasContent texts kind × AllByRecursion (HasFile texts) nodes
+  go : (kind : PlanKindValue) → AllByRecursion (IsKept texts) (filter_map digest_of_node (record { name = n.name; level = n.level; kind = kind } ∷ nodes)) → (AllByRecursion (IsKept texts) (filter_map digest_of_node nodes) → AllByRecursion (HasFile texts) nodes) → HasContent texts kind × AllByRecursion (HasFile texts) nodes
   go (file d e) h later = (h.0, later h.1)
   go (symlink target) h later = (tt, later h)
   go (directory d) h later = (tt, later h.1)

@@ -6,7 +6,7 @@ use Rattle.digest.specs.Naming.{Names, is_empty_digest}
 use Rattle.digest.specs.Text.{hash_text}
 use Rattle.instance_view.specs.Visible.{Blob}
 use Rattle.rpc.specs.Messages.{message_length_limit}
-use Rattle.actions.specs.Nodes.{NodeKindValue, PlanNodeValue, file, symlink, directory}
+use Rattle.actions.specs.Nodes.{PlanKindValue, PlanNodeValue, file, symlink, directory}
 use Rattle.execution_messages.specs.Once.{IsEachOnce}
 use Rattle.job_queue.specs.Jobs.{Jobs}
 use Rattle.execution.specs.Job.{JobValue, TaskValue}
@@ -18,7 +18,7 @@ pub record HasText (texts : List Blob) (d : Digest) : Type 0 where
   pub there : Contains texts (d, text)
 
 -- a file of a plan is empty, or its text is there
-abbrev pub HasContent : List Blob → NodeKindValue → Type 0
+abbrev pub HasContent : List Blob → PlanKindValue → Type 0
 HasContent texts (file d is_executable) = (is_empty_digest d ≡ true) ⊎ HasText texts d
 HasContent texts (symlink target) = Unit {0}
 HasContent texts (directory d) = Unit {0}

@@ -50,8 +50,8 @@ pub fn on_head(
 }
 
 /// A whole message of a request comes: that of a `Write` is carried out, the first of another
-/// method is kept.
-fn take_message(
+/// method is kept. It is counted.
+pub fn on_message(
     alloc: Global,
     settings: &Settings,
     contents: &mut Contents,
@@ -83,9 +83,10 @@ fn take_message(
     let Some(call) = calls.find(id) else {
         return Ok(Vec::new(alloc));
     };
+    let method = call.method();
     match call.progress() {
         Progress::Waits => {
-            let method = call.method();
+            calls.count_message(method, message.len());
             match method {
                 Method::Write => {
                     let replies = on_first_part(
@@ -100,8 +101,14 @@ fn take_message(
                 }
             }
         }
-        Progress::Has(_) => finish(alloc, calls, id, Err(Refusal::MoreThanOneMessage)),
-        Progress::Watches(_) => Ok(Vec::new(alloc)),
+        Progress::Has(_) => {
+            calls.count_message(method, message.len());
+            finish(alloc, calls, id, Err(Refusal::MoreThanOneMessage))
+        }
+        Progress::Watches(_) => {
+            calls.count_message(method, message.len());
+            Ok(Vec::new(alloc))
+        }
         Progress::Writes(write) => {
             let terms = Terms {
                 quota: settings.quota,
@@ -116,45 +123,11 @@ fn take_message(
                 write,
                 &message,
             );
+            calls.count_message(method, message.len());
             let_go(message);
             settle_next(alloc, calls, id, outcome)
         }
     }
-}
-
-/// A whole message of a request comes: that of a `Write` is carried out, the first of another
-/// method is kept. It is counted.
-pub fn on_message(
-    alloc: Global,
-    settings: &Settings,
-    contents: &mut Contents,
-    pool: &mut Pool,
-    calls: &mut Calls,
-    id: CallId,
-    message: Vec<u8>,
-) -> Result<Vec<Reply>, AllocError>
-    requires request { IsShortRequest message.items }
-    requires kept { AreContentsInPool settings.now pool.old contents.old }
-    ensures replies { (jobs : Jobs JobValue) (p : Slots) →
-        let old = contents_state settings.now pool.old contents.old
-        (record { jobs = jobs; calls = calls.old }) in
-        Gives p result (message_answer old id message.items (call_at id calls.old)).replies }
-    ensures given { (k : ℕ) → result_holders result k ≡ 0 }
-    ensures changed { (jobs : Jobs JobValue) →
-        let old = contents_state settings.now pool.old contents.old
-        (record { jobs = jobs; calls = calls.old }) in
-        let new = contents_state settings.now pool.new contents.new
-        (record { jobs = jobs; calls = calls.new }) in
-        Makes result (message_answer old id message.items (call_at id calls.old)).changes old new }
-    ensures executions { contents.new.executions ≡ contents.old.executions }
-    ensures moves { Moves pool.old pool.new (holders contents.old.view)
-        (holders contents.new.view) }
-    ensures within { AreContentsWithin settings.now pool.new contents.new }
-    ensures results { contents.new.results ≡ contents.old.results }
-    ensures calls { AreInCourse calls.new }
-{
-    calls.count_message(id, message.len());
-    take_message(alloc, settings, contents, pool, calls, id, message)
 }
 
 /// The data of a request are no sequence of messages.

@@ -126,11 +126,13 @@ fn count_end(counts: &mut CallCounts, method: Method, code: usize) {
 
 /// Counts what a call of the method is given.
 fn count_sent(counts: &mut CallCounts, method: Method, replies: &[Reply]) {
+    let mut bytes: u64 = 0;
     for reply in replies {
         for item in reply.items.iter() {
-            counts.add_sent(method, length_of(item));
+            bytes = bytes.saturating_add(length_of(item));
         }
     }
+    counts.add_sent(method, bytes);
 }
 
 /// How many bytes of messages an item of a reply has.
@@ -190,35 +192,18 @@ impl Calls {
         &self.counts
     }
 
-    /// Counts a message of this many bytes of a request.
-    pub fn count_message(&mut self, id: CallId, bytes: usize)
+    /// Counts a message of this many bytes of a request of the method.
+    pub fn count_message(&mut self, method: Method, bytes: usize)
         ensures same { self.new ≡ self.old }
     {
-        if let Some(call) = self.by_id.get(&id) {
-            let method = call.method();
-            self.counts.add_received(method, bytes);
-        }
+        self.counts.add_received(method, bytes);
     }
 
-    /// Counts that the call of that name ends with these replies.
-    fn count_finished(&mut self, id: CallId, replies: &[Reply])
+    /// Counts that nobody waits any more for a call of the method.
+    fn count_cancelled(&mut self, method: Method)
         ensures same { self.new ≡ self.old }
     {
-        if let Some(call) = self.by_id.get(&id) {
-            let method = call.method();
-            count_sent(&mut self.counts, method, replies);
-            count_end(&mut self.counts, method, status_of(replies));
-        }
-    }
-
-    /// Counts that nobody waits for the call of that name any more.
-    fn count_cancelled(&mut self, id: CallId)
-        ensures same { self.new ≡ self.old }
-    {
-        if let Some(call) = self.by_id.get(&id) {
-            let method = call.method();
-            self.counts.add_end(method, CANCELLED);
-        }
+        self.counts.add_end(method, CANCELLED);
     }
 
     /// Counts what a call was answered, which ends, or watches a job from now on.
@@ -252,12 +237,20 @@ impl Calls {
         Ok(())
     }
 
+    /// Takes out the call of that name, where there is one. The others keep their order.
+    fn take_out(&mut self, id: CallId) -> Option<Call>
+        ensures ended { self.new ≡ without_call id self.old }
+        ensures calls { AreInCourse self.new }
+    {
+        self.by_id.shift_remove(&id)
+    }
+
     /// Takes out the call of that name. The others keep their order.
     pub fn end(&mut self, id: CallId)
         ensures ended { self.new ≡ without_call id self.old }
         ensures calls { AreInCourse self.new }
     {
-        if let Some(call) = self.by_id.shift_remove(&id) {
+        if let Some(call) = self.take_out(id) {
             call.let_go();
         }
     }
@@ -268,8 +261,10 @@ impl Calls {
         ensures ended { self.new ≡ without_call id self.old }
         ensures calls { AreInCourse self.new }
     {
-        self.count_finished(id, replies);
-        self.end(id);
+        if let Some(call) = self.take_out(id) {
+            self.count_answer(call.method(), false, replies);
+            call.let_go();
+        }
     }
 
     /// Takes out the call of that name, for which nobody waits any more, and counts it. The others
@@ -278,8 +273,10 @@ impl Calls {
         ensures ended { self.new ≡ without_call id self.old }
         ensures calls { AreInCourse self.new }
     {
-        self.count_cancelled(id);
-        self.end(id);
+        if let Some(call) = self.take_out(id) {
+            self.count_cancelled(call.method());
+            call.let_go();
+        }
     }
 
     /// The call of that name, which is in course, watches the job of a number from now on.

@@ -1,83 +1,85 @@
 //! The nodes of a task's tree.
 
 ghost use Rattle.std.specs.Prelude.{◌≡◌, map, IfOk};
-ghost use Rattle.actions.specs.Shown.{nodes_shown};
-ghost use Rattle.actions.specs.Shown as plans;
-ghost use Rattle.job_runs.specs.Tasks.{kind_of, kind_shown, node_of, node_shown};
-ghost use Rattle.execution.specs.Numbers.{AreNumbers, kept_digests};
+ghost use Rattle.tree_nodes.specs.Nodes.{kind_by, kind_shown, node_shown, nodes_shown};
+ghost use Rattle.job_runs.specs.Tasks.{node_of};
+ghost use Rattle.execution.specs.Numbers.{AreNumbers, digest_number, kept_digests};
 
-use actions::{NodeKind as PlanKind, PlanNode};
+use actions::PlanNode;
 use digest::Digest;
 use execution::{KeptText, number_of, text_numbers};
 use indexmap::IndexMap;
-use runner::{NodeKind, TaskNode};
+use runner::TaskNode;
 use std::alloc::{AllocError, Global};
 use std::collections::VecDeque;
+use tree_nodes::{Node, NodeKind};
 
-/// What is to be made at a node.
+/// What is to be made at a node. It shares the target of a link.
 fn kind_of(
-    alloc: Global,
     texts: &[KeptText],
     numbers: &IndexMap<Digest, usize>,
-    kind: &PlanKind,
-) -> Result<NodeKind, AllocError>
+    kind: &NodeKind<Digest>,
+) -> Result<NodeKind<usize>, AllocError>
     requires { AreNumbers (kept_digests texts.now) numbers.now.entries }
     ensures { IfOk result (λ made. kind_shown made
-        ≡ kind_of (kept_digests texts.now) (plans.kind_shown kind.now)) }
+        ≡ kind_by (digest_number (kept_digests texts.now)) (kind_shown kind.now)) }
 {
     match kind {
-        PlanKind::File {
-            digest,
+        NodeKind::File {
+            text,
             is_executable,
         } => {
-            let text = number_of(texts, numbers, digest);
+            let text = number_of(texts, numbers, text);
             Ok(NodeKind::File {
                 text,
                 is_executable: *is_executable,
             })
         }
-        PlanKind::Symlink { target } => {
-            let target = String::from_str(alloc, target)?;
+        NodeKind::Symlink { target } => {
+            let target = target.clone()?;
             Ok(NodeKind::Symlink { target })
         }
-        PlanKind::Directory { .. } => Ok(NodeKind::Directory),
+        NodeKind::Directory { text } => {
+            let text = number_of(texts, numbers, text);
+            Ok(NodeKind::Directory { text })
+        }
     }
 }
 
+/// A node as a run makes it. It shares the name.
 fn node_of(
-    alloc: Global,
     texts: &[KeptText],
     numbers: &IndexMap<Digest, usize>,
     node: &PlanNode,
 ) -> Result<TaskNode, AllocError>
     requires { AreNumbers (kept_digests texts.now) numbers.now.entries }
     ensures { IfOk result (λ made. node_shown made
-        ≡ node_of (kept_digests texts.now) (plans.node_shown node.now)) }
+        ≡ node_of (kept_digests texts.now) (node_shown node.now)) }
 {
-    let name = String::from_str(alloc, &node.name)?;
-    let kind = kind_of(alloc, texts, numbers, &node.kind)?;
-    Ok(TaskNode {
+    let name = node.name.clone()?;
+    let kind = kind_of(texts, numbers, &node.kind)?;
+    Ok(Node {
         name,
         level: node.level,
         kind,
     })
 }
 
-/// The nodes of a plan, as a run makes them: a file's text has the number of the first text that has
-/// its digest, or, where none has it, of none.
+/// The nodes of a plan, as a run makes them: a text has the number of the first text that has its
+/// digest, or, where none has it, of none. Names and targets of links are shared with the plan.
 pub(crate) fn nodes_of(
     alloc: Global,
     texts: &[KeptText],
     nodes: &[PlanNode],
 ) -> Result<VecDeque<TaskNode>, AllocError>
-    ensures { IfOk result (λ made. map node_shown made.items
+    ensures { IfOk result (λ made. nodes_shown made.items
         ≡ map (node_of (kept_digests texts.now)) (nodes_shown nodes.now)) }
 {
     let numbers = text_numbers(alloc, texts)?;
     let mut made = VecDeque::with_capacity(alloc, nodes.len())?;
     let mut left = nodes;
     'nodes: while let [first, rest @ ..] = left {
-        let node = node_of(alloc, texts, &numbers, first)?;
+        let node = node_of(texts, &numbers, first)?;
         made.push_back(node)?;
         left = rest;
     }

@@ -11,7 +11,7 @@ use Rattle.tree_messages.specs.Directories.{DirectoryNodeValue, DirectoryValue, 
 use Rattle.input_tree.specs.Directories.{is_directory, valid_directory, written_digest}
 use Rattle.input_tree.specs.Listing.{Lookup}
 use Rattle.job_queue.proofs.Orders.{all-append}
-use Rattle.actions.specs.Nodes.{NodeKindValue, PlanNodeValue, directory, directory_at, file, file_at, nodes_of, symlink, symlink_at}
+use Rattle.actions.specs.Nodes.{PlanKindValue, PlanNodeValue, directory, directory_at, file, file_at, nodes_of, symlink, symlink_at}
 use Rattle.actions.specs.Walk.{Nodes, bad_directory, digest_of_node, digests_met, directory_nodes, missing, missing_among, nodes_below, nodes_inside, nodes_met, nodes_of_text, nodes_or_fault, nodes_unless_missing, too_deep, too_many, walk, walk_along}
 use Rattle.operation_sizes.specs.Short.{HasForm}
 use Rattle.operation_sizes.proofs.Forms.{IsDirectoryRead, IsRead, directory_read, written_form}
@@ -120,7 +120,7 @@ below_known look most level d = go (nat_le most level) where
 
 inside_known : (look : Lookup) (n : PlanNodeValue) → AreKnown (nodes_inside look n)
 inside_known look n = go n.level n.kind where
-  go : (level : ℕ) (kind : NodeKindValue) → AreKnown (nodes_below look level kind)
+  go : (level : ℕ) (kind : PlanKindValue) → AreKnown (nodes_below look level kind)
   go level (file d e) = tt
   go level (symlink target) = tt
   go level (directory d) = below_known look 64 level d

@@ -16,7 +16,8 @@ use Rattle.std.proofs.lemmas.Bool.{and_parts}
 use Rattle.actions.specs.declared.walking.TheConstants.{MOST_NODES}
 use Rattle.outcomes.specs.declared.gathering.Gathering.{Gathering}
 use Rattle.outcomes.specs.Gathering.{IsGathered, down_to, open_shown}
-use Rattle.outcomes.specs.Trees.{are_walked, below_root, children_of, is_shallow, keeps_walk, root_of, tree_of}
+use Rattle.outcomes.specs.Trees.{are_walked, below_root, children_of, is_shallow, keeps_walk, root_of}
+use Rattle.outcomes.specs.TreeOf.{tree_of}
 use Rattle.outcomes.proofs.Gathered.{root_found}
 use Rattle.outcomes.proofs.Walked.{first_low}
 use Rattle.outcomes.proofs.Collected.{all_collected}

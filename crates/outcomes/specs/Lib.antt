@@ -1,6 +1,7 @@
 pub mod Asked
 pub mod Naming
 pub mod Trees
+pub mod TreeOf
 pub mod Results
 pub mod Gathering
 pub mod Completing

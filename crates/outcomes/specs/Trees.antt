@@ -1,5 +1,5 @@
 -- The message Tree of an output directory (remote_execution.proto, Directory and Tree).
-use Rattle.std.specs.Prelude.{ℕ, ◌+◌, Bool, true, false, List, [], ◌∷◌, ◌++◌, length, nat_eq, nat_le, nat_lt, ◌==◌, ◌&&◌, Option, Some, None, if◌then◌else◌}
+use Rattle.std.specs.Prelude.{ℕ, ◌+◌, Bool, true, false, List, [], ◌∷◌, ◌++◌, length, nat_eq, nat_le, nat_lt, ◌==◌, ◌&&◌, Some, if◌then◌else◌}
 use Rattle.std.specs.List.{list_all, list_any}
 use lib.Pointwise.{pointwise}
 use Rattle.message_fields.specs.Parts.{text_for}
@@ -135,7 +135,3 @@ abbrev pub is_tree : Digest → List OutputNodeValue → Bool
 is_tree like nodes =
     keeps_walk nodes &&
     (is_directory (root_of like nodes) && list_all is_directory (below_root like nodes))
-
--- the text of a tree that is taken
-abbrev pub tree_of : Digest → List OutputNodeValue → Option (List ℕ)
-tree_of like nodes = if is_tree like nodes then Some (tree_text like nodes) else None

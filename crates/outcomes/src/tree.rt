@@ -6,7 +6,8 @@ ghost use Rattle.message_fields.specs.Parts.{text_for};
 ghost use Rattle.tree_messages.specs.Directories.{directory_shown, tree_records};
 ghost use Rattle.outcomes.specs.Gathering.{HaveTexts, folder_shown};
 ghost use Rattle.run_outcomes.specs.Shown.{node_shown, nodes_shown};
-ghost use Rattle.outcomes.specs.Trees.{are_walked, has_place, is_shallow, keeps_walk, level_behind, tree_of, with_child, with_children};
+ghost use Rattle.outcomes.specs.Trees.{are_walked, has_place, is_shallow, keeps_walk, level_behind, with_child, with_children};
+ghost use Rattle.outcomes.specs.TreeOf.{tree_of};
 
 use crate::folder::{Folder, directory_message, folder_text, is_taken};
 use crate::gathering::{gather_nodes, take_open};

@@ -1,7 +1,9 @@
 //! The tests, by the crates that they try.
 
 mod cases;
+mod command_line_mistakes;
 mod command_line_tests;
+mod command_lines;
 mod digest_tests;
 mod instance_tests;
 mod metrics_tests;

@@ -8,7 +8,8 @@ use Rattle.std.proofs.lemmas.Bool.Decides.{nat_tests}
 use Rattle.digest.specs.declared.Digest.{Digest}
 use Rattle.digest.specs.Naming.{Names, same_digest, is_empty_digest}
 use Rattle.digest.proofs.Same.{same_symm}
-use Rattle.instance_view.specs.Visible.{Blob, visible_text, visible_after_use, with_match_first, blobs_length, visible_after_insertion}
+use Rattle.instance_view.specs.Visible.{Blob, visible_text, visible_after_use, with_match_first, blobs_length}
+use Rattle.instance_view.specs.Insertion.{visible_after_insertion}
 use Rattle.instance_view.proofs.Visibles.{blobs_length-with_match_first, length-with_match_first}
 use Rattle.quota_evict.specs.Admission.{longest_front, visible_after_admission}
 use Rattle.quota_evict.specs.Within.{AreBlobsWithin}

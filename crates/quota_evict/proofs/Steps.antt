@@ -7,7 +7,8 @@ use Rattle.digest.specs.Naming.{Names}
 use Rattle.blob_pool.specs.Slots.{Slots, count_at}
 use Rattle.blob_pool.specs.Moves.{Moves}
 use Rattle.blob_pool.proofs.Moves.{held_after}
-use Rattle.instance_view.specs.Visible.{Blob, visible_text, visible_after_use, blobs_length, visible_after_insertion, without_oldest}
+use Rattle.instance_view.specs.Visible.{Blob, visible_text, visible_after_use, blobs_length, without_oldest}
+use Rattle.instance_view.specs.Insertion.{visible_after_insertion}
 use Rattle.instance_view.specs.Shown.{ViewEntry, ViewValue, blobs_in, visible_in, holders, sizes}
 use Rattle.quota_evict.specs.Admission.{longest_front, visible_after_admission}
 use Rattle.quota_evict.specs.Within.{AreBlobsWithin}

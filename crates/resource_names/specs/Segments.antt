@@ -1,5 +1,5 @@
 -- The segments of a resource name: what stands between its slashes.
-use Rattle.std.specs.Prelude.{◌≡◌, ℕ, ◌==◌, Bool, List, [], ◌∷◌, ◌++◌, Option, Some, None, if◌then◌else◌}
+use Rattle.std.specs.Prelude.{ℕ, ◌==◌, Bool, List, [], ◌∷◌, ◌++◌, Option, Some, None, if◌then◌else◌}
 use Rattle.std.specs.Borrow.{Bor}
 use Rattle.std.specs.List.{slice_split, join_with_byte}
 
@@ -34,8 +34,3 @@ division_after passed divides (segment ∷ segments) =
 
 abbrev pub division_of : (List ℕ → Bool) → List (List ℕ) → Option DivisionValue
 division_of divides segments = division_after [] divides segments
-
--- a text ends with these bytes, which begin a segment
-pub record IsRest (text rest : List ℕ) : Type 0 where
-  pub passed : List (List ℕ)
-  pub front : segments_of text ≡ passed ++ segments_of rest

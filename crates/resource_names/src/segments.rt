@@ -2,7 +2,8 @@
 
 ghost use Rattle.std.specs.Prelude.{◌≡◌, ◌∷◌, ◌++◌, ℕ, List};
 ghost use Rattle.std.specs.Option.{option_map, option_copied};
-ghost use Rattle.resource_names.specs.Segments.{segments_of, segments_left, division_of, joined_segments, IsRest};
+ghost use Rattle.resource_names.specs.Segments.{segments_of, segments_left, division_of, joined_segments};
+ghost use Rattle.resource_names.specs.Rest.{IsRest};
 ghost use Rattle.resource_names.specs.Shown.{division_shown, divides};
 
 /// Which segment a name is divided at.

@@ -1,10 +1,11 @@
 -- What is gathered and told, one thing after another.
 use Rattle.std.proofs.Common.{◌≡◌, ℕ, ◌+◌, ◌-◌, List, [], ◌∷◌, ◌++◌, take, length, refl, ap, sym, ◌∙◌, append-nil, append_assoc, length-append, arith}
 use Rattle.std.specs.Prelude.{string_bytes}
+use Rattle.std.specs.Rc.{rc_str_bytes}
 use Rattle.runner.specs.declared.task.RunKey.{RunKey}
-use Rattle.runner.specs.declared.task.NodeKind.{NodeKind}
-use Rattle.runner.specs.declared.task.NodeKind.TheVariants as node_kinds
-use Rattle.runner.specs.declared.task.TaskNode.{TaskNode}
+use Rattle.tree_nodes.specs.declared.node.NodeKind.{NodeKind}
+use Rattle.tree_nodes.specs.declared.node.NodeKind.TheVariants as node_kinds
+use Rattle.runner.specs.Values.{TaskNode}
 use Rattle.runner.specs.declared.programs.Stream.{Stream}
 use Rattle.run_outcomes.specs.declared.outcome.OutputNode.{OutputNode}
 use Rattle.run_outcomes.specs.declared.outcome.Output.{Output}
@@ -59,10 +60,10 @@ all_but_last xs x =
     let e : length (xs ++ x ∷ []) - 1 ≡ length xs = omega (arith, length-append xs (x ∷ [])) in
     ap (λ k. take k (xs ++ x ∷ [])) e ∙ front xs (x ∷ [])
 
-pub behind_is_then : (above names : List (List ℕ)) (n : TaskNode) (kind : NodeKind) → names ≡ names_at above n.level (string_bytes n.name) → above_behind names kind ≡ above_then above n kind
-behind_is_then above names n (node_kinds.File number is_executable) is = ap (λ ns. take (length ns - 1) ns) is ∙ all_but_last (take (n.level - 1) above) (string_bytes n.name)
-behind_is_then above names n (node_kinds.Symlink target) is = ap (λ ns. take (length ns - 1) ns) is ∙ all_but_last (take (n.level - 1) above) (string_bytes n.name)
-behind_is_then above names n node_kinds.Directory is = is
+pub behind_is_then : (above names : List (List ℕ)) (n : TaskNode) (kind : NodeKind ℕ) → names ≡ names_at above n.level (rc_str_bytes n.name) → above_behind names kind ≡ above_then above n kind
+behind_is_then above names n (node_kinds.File number is_executable) is = ap (λ ns. take (length ns - 1) ns) is ∙ all_but_last (take (n.level - 1) above) (rc_str_bytes n.name)
+behind_is_then above names n (node_kinds.Symlink target) is = ap (λ ns. take (length ns - 1) ns) is ∙ all_but_last (take (n.level - 1) above) (rc_str_bytes n.name)
+behind_is_then above names n (node_kinds.Directory number) is = is
 
 pub output_added : (place : PlaceValue) (old new : List Output) (o : Output) → new ≡ old ++ o ∷ [] → output_items place new ≡ output_items place old ++ kind_items place (string_bytes o.path) o.kind
 output_added place old new o pushed = ap (output_items place) pushed ∙ output_items_append place old o

@@ -1,16 +1,17 @@
 -- A list and its first, and what steps of making and reading add.
 use Rattle.std.proofs.Common.{◌≡◌, ℕ, ◌+◌, ◌-◌, Bool, List, [], ◌∷◌, ◌++◌, map, take, drop, length, refl, ap, sym, ◌∙◌, append-nil, append_assoc, arith}
-use Rattle.std.specs.Prelude.{ℤ, Option, Some, None, Result, Ok, Err, string_bytes}
+use Rattle.std.specs.Prelude.{ℤ, Option, Some, None, Result, Ok, Err}
+use Rattle.std.specs.Rc.{rc_str_bytes}
 use Rattle.std.specs.Option.{option_to_list}
 use Rattle.std.specs.Global.{Vec}
 use Rattle.std.proofs.lemmas.List.{map-append, take-map}
 use Rattle.std.specs.declared.io.Error.{Error}
 use Rattle.runner.specs.declared.task.RunKey.{RunKey}
-use Rattle.runner.specs.declared.task.TaskNode.{TaskNode}
 use Rattle.runner.specs.declared.fault.RunFault.{RunFault}
 use Rattle.runner.specs.declared.programs.Stream.{Stream}
 use Rattle.runner.specs.declared.programs.Stream.TheVariants as streams
-use Rattle.runner.specs.Values.{PlaceValue, kind_shown}
+use Rattle.runner.specs.Values.{PlaceValue, TaskNode}
+use Rattle.tree_nodes.specs.Nodes.{kind_shown}
 use Rattle.runner.specs.Faults.{FolderAnswered, ProgramsAnswered}
 use Rattle.std.specs.declared.io.ErrorKind.{ErrorKind}
 use Rattle.runner.specs.Calls.{ProgramQuestion, ProgramAnswer, kill_asked, read_asked, bytes_asked, killed, killed_of, bytes_of, folder_bytes_of}
@@ -51,11 +52,11 @@ named f above cut pushed name k level push trunc is =
 
 -- a node was made
 pub node_step : (text : ℕ → List ℕ) (run : RunKey) (above names : List (List ℕ)) (n : TaskNode) (all rest : List TaskNode) (tail making : List MadeItem)
-    → all ≡ n ∷ rest → names ≡ names_at above n.level (string_bytes n.name)
+    → all ≡ n ∷ rest → names ≡ names_at above n.level (rc_str_bytes n.name)
     → making ≡ kind_made text run names n.kind ++ (nodes_made text run (above_behind names n.kind) rest ++ tail)
     → nodes_made text run above all ++ tail ≡ node_item run names (kind_shown n.kind) ∷ making
 node_step text run above names n all rest tail making all_is names_is making_is =
-    let at : List (List ℕ) = names_at above n.level (string_bytes n.name) in
+    let at : List (List ℕ) = names_at above n.level (rc_str_bytes n.name) in
     let one : List (List ℕ) → List MadeItem = λ m. kind_made text run m n.kind in
     ap (λ ns. nodes_made text run above ns ++ tail) all_is
     ∙ ap (λ m. node_item run m (kind_shown n.kind) ∷ ((one m ++ nodes_made text run (above_then above n n.kind) rest) ++ tail)) (sym names_is)

@@ -152,6 +152,18 @@ pub programs_failed : {X A : Type 0} (r : Result X RunFault) (answer : Result A 
 programs_failed r answer result given S gives answered is of fails stops =
     stops_with r S gives (λ y same. stops y (programs_gives answer result y of fails answered (is ∙ ap Err (sym same))))
 
+-- before a call
+pub memory_refused : {X : Type 0} (r : Result X RunFault) (place : PlaceValue) (from : Stage) (f : Option (List FolderCall))
+    → IsErrAnd r (λ y. y ≡ NoMemory) → IfErr r (λ fault. FolderStops place from fault f f)
+memory_refused r place from f gives = stops_with r _ gives (λ y same text p. record {
+  calls = [];
+  folder_asked = adds_none f;
+  programs_asked = adds_none p;
+  asks = tt;
+  is_true = is_true y (held from) [] (no_memory y same);
+  is_of = memory_own y same;
+})
+
 -- and once a call had answered
 pub memory_failed : {X : Type 0} (r : Result X RunFault) (S : RunFault → Type 0) (a : Result FolderAnswer ErrorKind) (x : FolderAnswer)
     → a ≡ Ok x → IsErrAnd r (λ y. y ≡ NoMemory) → ((fault : RunFault) → IsOfFolder fault a → S fault) → IfErr r S

@@ -1,6 +1,7 @@
 -- What the calls of a run come to, from a stage to its exit.
 use Rattle.std.proofs.Common.{◌≡◌, ℕ, List, [], ◌∷◌, ◌++◌, map, refl, sym, ap, subst, ◌∙◌, append-nil, inl, inr}
 use Rattle.std.specs.Prelude.{Option, Some, None, string_bytes}
+use Rattle.std.specs.Rc.{rc_str_bytes}
 use Rattle.runner.specs.declared.folder.Place.{Place}
 use Rattle.run_outcomes.specs.declared.outcome.Exited.{Exited}
 use Rattle.runner.specs.declared.task.Task.{Task}
@@ -87,7 +88,7 @@ whole text place task (stages.Making (makings.Root n)) calls e h g =
     let ps : program_calls g.calls ≡ program_calls calls = sym (added [] (program_calls calls) (program_calls g.calls) g.programs_asked) in
     record {
       makes = ap made (sym fs) ∙ sym (append-nil (made (folder_calls g.calls))) ∙ sym g.makes
-          ∙ ap (λ above. root_item place.run ∷ (nodes_made text place.run (map string_bytes above) n.left.items ++ directory_item place ∷ map (λ o. parents_item place (string_bytes o)) n.next.outputs.items)) h.0
+          ∙ ap (λ above. root_item place.run ∷ (nodes_made text place.run (map rc_str_bytes above) n.left.items ++ directory_item place ∷ map (λ o. parents_item place (string_bytes o)) n.next.outputs.items)) h.0
           ∙ ap (λ left. root_item place.run ∷ (nodes_made text place.run [] left.items ++ directory_item place ∷ map (λ o. parents_item place (string_bytes o)) n.next.outputs.items)) h.1
           ∙ ap (λ outputs. root_item place.run ∷ (nodes_made text place.run [] task.nodes.items ++ directory_item place ∷ map (λ o. parents_item place (string_bytes o)) outputs.items)) h.3;
       starts_once = ap starts (sym ps) ∙ sym (append-nil (starts (program_calls g.calls))) ∙ sym g.starts_it ∙ ap (λ command. start_asked place (command_shown command) ∷ []) h.2;

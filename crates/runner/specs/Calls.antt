@@ -10,15 +10,16 @@ use Rattle.runner.specs.declared.folder.Found.{Found}
 use Rattle.runner.specs.declared.folder.FileFacts.{FileFacts}
 use Rattle.runner.specs.declared.folder.Entry.{Entry}
 use Rattle.runner.specs.declared.programs.Stream.{Stream}
-use Rattle.runner.specs.Values.{KindValue, PlaceValue, CommandValue, EntryValue, entry_shown}
+use Rattle.runner.specs.Values.{PlaceValue, CommandValue, EntryValue, entry_shown}
+use Rattle.tree_nodes.specs.Nodes.{NodeKindValue}
 
 -- ---- of folders
 
 pub data FolderQuestion : Type 0 where
   -- to make the folder of a run
   root_asked : RunKey → FolderQuestion
-  -- to make a node in it, which has these names from the root on
-  node_asked : RunKey → List (List ℕ) → KindValue → FolderQuestion
+  -- to make a node in it, which has these names from the root on; a file is empty
+  node_asked : RunKey → List (List ℕ) → NodeKindValue ℕ → FolderQuestion
   -- to add bytes to a file that was made
   text_asked : RunKey → List (List ℕ) → List ℕ → FolderQuestion
   -- to make the directory in which its program runs

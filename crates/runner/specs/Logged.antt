@@ -1,5 +1,6 @@
 -- What logs of folders and of programs say.
 use Rattle.std.specs.Prelude.{List, map, string_bytes, Option, Result, Ok, Err}
+use Rattle.std.specs.Rc.{rc_str_bytes}
 use Rattle.std.specs.Option.{option_map}
 use Rattle.std.specs.Global.{Vec}
 use Rattle.std.specs.declared.io.ErrorKind.{ErrorKind}
@@ -14,16 +15,17 @@ use Rattle.runner.specs.declared.logged_programs.ProgramAnswered.{ProgramAnswere
 use Rattle.runner.specs.declared.logged_programs.ProgramAnswered.TheVariants as program_answered
 use Rattle.runner.specs.declared.logged_programs.ProgramRecord.{ProgramRecord}
 use Rattle.runner.specs.Calls.{FolderCall, FolderQuestion, FolderAnswer, root_asked, node_asked, text_asked, directory_asked, parents_asked, look_asked, file_asked, list_asked, bytes_asked, removal_asked, done, found, facts, entries, file_bytes, gone, ProgramCall, ProgramQuestion, ProgramAnswer, start_asked, end_asked, kill_asked, length_asked, read_asked, forget_asked, program_done, state_shown, killed, written, bytes}
-use Rattle.runner.specs.Values.{kind_shown, place_shown, entry_shown, command_shown}
+use Rattle.tree_nodes.specs.Nodes.{kind_shown}
+use Rattle.runner.specs.Values.{place_shown, entry_shown, command_shown}
 
 -- ---- of folders
 
 abbrev pub folder_question : FolderAsked → FolderQuestion
 folder_question (asked.Root run) = root_asked run
 folder_question (asked.Node run names kind) =
-    node_asked run (map string_bytes names.items) (kind_shown kind)
+    node_asked run (map rc_str_bytes names.items) (kind_shown kind)
 folder_question (asked.Text run names text) =
-    text_asked run (map string_bytes names.items) text.items
+    text_asked run (map rc_str_bytes names.items) text.items
 folder_question (asked.Directory place) = directory_asked (place_shown place)
 folder_question (asked.Parents place path) = parents_asked (place_shown place) (string_bytes path)
 folder_question (asked.Look place path) = look_asked (place_shown place) (string_bytes path)

@@ -1,16 +1,17 @@
 -- What is made of a task's tree: the nodes in walk order, each once, with the bytes of files.
-use Rattle.std.specs.Prelude.{ℕ, ◌-◌, List, [], ◌∷◌, ◌++◌, map, take, string_bytes}
+use Rattle.std.specs.Prelude.{ℕ, ◌-◌, List, [], ◌∷◌, ◌++◌, map, take}
+use Rattle.std.specs.Rc.{rc_str_bytes}
 use Rattle.runner.specs.declared.task.RunKey.{RunKey}
-use Rattle.runner.specs.declared.task.NodeKind.{NodeKind}
-use Rattle.runner.specs.declared.task.NodeKind.TheVariants.{File, Symlink, Directory}
-use Rattle.runner.specs.declared.task.TaskNode.{TaskNode}
-use Rattle.runner.specs.Values.{KindValue, PlaceValue, kind_shown}
+use Rattle.tree_nodes.specs.declared.node.NodeKind.{NodeKind}
+use Rattle.tree_nodes.specs.declared.node.NodeKind.TheVariants.{File, Symlink, Directory}
+use Rattle.tree_nodes.specs.Nodes.{NodeKindValue, kind_shown}
+use Rattle.runner.specs.Values.{PlaceValue, TaskNode}
 use Rattle.runner.specs.Calls.{FolderCall, FolderQuestion, root_asked, node_asked, text_asked, directory_asked, parents_asked, look_asked, file_asked, list_asked, bytes_asked, removal_asked, collect}
 
 pub data MadeItem : Type 0 where
   root_item : RunKey → MadeItem
-  -- a node, by its names from the root on
-  node_item : RunKey → List (List ℕ) → KindValue → MadeItem
+  -- a node, by its names from the root on; a file is empty
+  node_item : RunKey → List (List ℕ) → NodeKindValue ℕ → MadeItem
   -- a byte at the end of a file
   byte_item : RunKey → List (List ℕ) → ℕ → MadeItem
   directory_item : PlaceValue → MadeItem
@@ -39,16 +40,16 @@ made calls = collect (λ c. made_by c.question) calls
 abbrev pub names_at : List (List ℕ) → ℕ → List ℕ → List (List ℕ)
 names_at above level name = take (level - 1) above ++ name ∷ []
 
-abbrev pub kind_made : (ℕ → List ℕ) → RunKey → List (List ℕ) → NodeKind → List MadeItem
+abbrev pub kind_made : (ℕ → List ℕ) → RunKey → List (List ℕ) → NodeKind ℕ → List MadeItem
 kind_made text run names (File number is_executable) = map (byte_item run names) (text number)
 kind_made text run names (Symlink target) = []
-kind_made text run names Directory = []
+kind_made text run names (Directory number) = []
 
 -- the directory that is reached with a node
-abbrev pub above_then : List (List ℕ) → TaskNode → NodeKind → List (List ℕ)
+abbrev pub above_then : List (List ℕ) → TaskNode → NodeKind ℕ → List (List ℕ)
 above_then above n (File number is_executable) = take (n.level - 1) above
 above_then above n (Symlink target) = take (n.level - 1) above
-above_then above n Directory = names_at above n.level (string_bytes n.name)
+above_then above n (Directory number) = names_at above n.level (rc_str_bytes n.name)
 
 abbrev pub node_made : (ℕ → List ℕ) → RunKey → List (List ℕ) → TaskNode → List MadeItem
 node_made text run names n = node_item run names (kind_shown n.kind) ∷ kind_made text run names n.kind
@@ -57,5 +58,5 @@ node_made text run names n = node_item run names (kind_shown n.kind) ∷ kind_ma
 abbrev pub nodes_made : (ℕ → List ℕ) → RunKey → List (List ℕ) → List TaskNode → List MadeItem
 nodes_made text run above [] = []
 nodes_made text run above (n ∷ ns) =
-    node_made text run (names_at above n.level (string_bytes n.name)) n
+    node_made text run (names_at above n.level (rc_str_bytes n.name)) n
     ++ nodes_made text run (above_then above n n.kind) ns

@@ -1,5 +1,6 @@
 -- A run that is not over: what is still to be done of it, what it has gathered, and what a call adds.
 use Rattle.std.specs.Prelude.{◌≡◌, ℕ, ◌-◌, List, [], ◌∷◌, ◌++◌, map, take, drop, length, string_bytes, Option}
+use Rattle.std.specs.Rc.{rc_str_bytes}
 use Rattle.run_outcomes.specs.declared.outcome.Exited.{Exited}
 use Rattle.runner.specs.declared.programs.Stream.TheVariants as streams
 use Rattle.runner.specs.declared.stage.Prepared.{Prepared}
@@ -13,8 +14,8 @@ use Rattle.runner.specs.declared.stage.Stage.TheVariants as stages
 use Rattle.runner.specs.declared.stage.Step.{Step}
 use Rattle.runner.specs.declared.stage.Step.TheVariants as steps
 use Rattle.runner.specs.declared.tree.Tree.{Tree}
-use Rattle.runner.specs.declared.task.NodeKind.{NodeKind}
-use Rattle.runner.specs.declared.task.NodeKind.TheVariants as node_kinds
+use Rattle.tree_nodes.specs.declared.node.NodeKind.{NodeKind}
+use Rattle.tree_nodes.specs.declared.node.NodeKind.TheVariants as node_kinds
 use Rattle.runner.specs.Values.{PlaceValue, command_shown}
 use Rattle.runner.specs.Calls.{FolderCall, FolderQuestion, ProgramCall, ProgramQuestion, start_asked, look_asked, root_asked, node_asked, text_asked, directory_asked, parents_asked, file_asked, list_asked, bytes_asked, removal_asked, RunCall, folder_calls, program_calls, Adds, collect}
 use Rattle.runner.specs.Made.{MadeItem, root_item, byte_item, directory_item, parents_item, nodes_made, made}
@@ -34,10 +35,10 @@ nodes_left text place above n = nodes_made text place.run above n.left.items ++ 
 
 abbrev pub making_left : (ℕ → List ℕ) → PlaceValue → Making → List MadeItem
 making_left text place (makings.Root n) =
-    root_item place.run ∷ nodes_left text place (map string_bytes n.above.items) n
-making_left text place (makings.Nodes n) = nodes_left text place (map string_bytes n.above.items) n
+    root_item place.run ∷ nodes_left text place (map rc_str_bytes n.above.items) n
+making_left text place (makings.Nodes n) = nodes_left text place (map rc_str_bytes n.above.items) n
 making_left text place (makings.Writing w) =
-    let names : List (List ℕ) = map string_bytes w.nodes.above.items in
+    let names : List (List ℕ) = map rc_str_bytes w.nodes.above.items in
     map (byte_item place.run names) (drop w.from (text w.text))
     ++ nodes_left text place (take (length names - 1) names) w.nodes
 making_left text place (makings.Directory p) = prepared_left place p
@@ -53,10 +54,10 @@ making_starts place (makings.Parents p) = start_asked place (command_shown p.com
 making_starts place (makings.Starting p) = start_asked place (command_shown p.command) ∷ []
 
 -- the directory that is reached with a node of these names
-abbrev pub above_behind : List (List ℕ) → NodeKind → List (List ℕ)
+abbrev pub above_behind : List (List ℕ) → NodeKind ℕ → List (List ℕ)
 above_behind names (node_kinds.File number is_executable) = take (length names - 1) names
 above_behind names (node_kinds.Symlink target) = take (length names - 1) names
-above_behind names node_kinds.Directory = names
+above_behind names (node_kinds.Directory number) = names
 
 abbrev pub making_outputs : Making → List (List ℕ)
 making_outputs (makings.Root n) = map string_bytes n.next.outputs.items

@@ -2,20 +2,15 @@
 use Rattle.std.specs.Int.{w32}
 use Rattle.std.specs.Prelude.{FitsSigned, ℤ, ℕ, Bool, List, map, string_bytes}
 use Rattle.runner.specs.declared.task.RunKey.{RunKey}
-use Rattle.runner.specs.declared.task.NodeKind.{NodeKind}
-use Rattle.runner.specs.declared.task.NodeKind.TheVariants as kinds
 use Rattle.runner.specs.declared.task.Variable.{Variable}
 use Rattle.runner.specs.declared.task.Command.{Command}
 use Rattle.runner.specs.declared.folder.Place.{Place}
 use Rattle.runner.specs.declared.folder.Entry.{Entry}
+use Rattle.tree_nodes.specs.declared.node.Node.{Node}
 
--- what is made at a node
-pub data KindValue : Type 0 where
-  -- empty, and whether it may be executed
-  file : Bool → KindValue
-  -- to a target
-  symlink : List ℕ → KindValue
-  directory : KindValue
+-- a node of a task's tree, which names texts by their numbers
+abbrev pub TaskNode : Type 0
+TaskNode = Node ℕ
 
 pub record PlaceValue : Type 0 where
   pub run : RunKey
@@ -32,11 +27,6 @@ pub record CommandValue : Type 0 where
 pub record EntryValue : Type 0 where
   pub name : List ℕ
   pub is_directory : Bool
-
-abbrev pub kind_shown : NodeKind → KindValue
-kind_shown (kinds.File text is_executable) = file is_executable
-kind_shown (kinds.Symlink target) = symlink (string_bytes target)
-kind_shown kinds.Directory = directory
 
 abbrev pub place_shown : Place → PlaceValue
 place_shown p = record { run = p.run; directory = string_bytes p.directory }

@@ -1,11 +1,13 @@
 //! Copies of what calls name and answer, for logs.
 
 ghost use Rattle.std.specs.Prelude.{◌≡◌, IfOk, map, string_bytes};
-ghost use Rattle.runner.specs.Values.{command_shown, entry_shown, kind_shown, place_shown, variable_shown};
+ghost use Rattle.std.specs.Rc.{rc_str_bytes};
+ghost use Rattle.runner.specs.Values.{command_shown, entry_shown, place_shown, variable_shown};
 
 use crate::folder::{Entry, Place};
-use crate::task::{Command, NodeKind, Variable};
+use crate::task::{Command, Variable};
 use std::alloc::{AllocError, Global};
+use std::rc::RcStr;
 
 pub(crate) fn copied_bytes(alloc: Global, bytes: &[u8]) -> Result<Vec<u8>, AllocError>
     ensures { IfOk result (λ copy. copy.items ≡ bytes.now) }
@@ -25,6 +27,19 @@ pub(crate) fn copied_names(alloc: Global, names: &[String]) -> Result<Vec<String
     Ok(copy)
 }
 
+/// The same names, which share their texts.
+pub(crate) fn shared_names(alloc: Global, names: &[RcStr]) -> Result<Vec<RcStr>, AllocError>
+    ensures { IfOk result (λ same. map rc_str_bytes same.items ≡ map rc_str_bytes names.now) }
+{
+    let mut same = Vec::new(alloc);
+    let mut left = names;
+    while let [first, rest @ ..] = left {
+        same.push(first.clone()?)?;
+        left = rest;
+    }
+    Ok(same)
+}
+
 pub(crate) fn copied_place(alloc: Global, place: &Place) -> Result<Place, AllocError>
     ensures { IfOk result (λ copy. place_shown copy ≡ place_shown place.now) }
 {
@@ -34,25 +49,6 @@ pub(crate) fn copied_place(alloc: Global, place: &Place) -> Result<Place, AllocE
         directory,
         function: place.function,
     })
-}
-
-pub(crate) fn copied_kind(alloc: Global, kind: &NodeKind) -> Result<NodeKind, AllocError>
-    ensures { IfOk result (λ copy. kind_shown copy ≡ kind_shown kind.now) }
-{
-    match kind {
-        NodeKind::File {
-            text,
-            is_executable,
-        } => Ok(NodeKind::File {
-            text: *text,
-            is_executable: *is_executable,
-        }),
-        NodeKind::Symlink { target } => {
-            let target = String::from_str(alloc, target)?;
-            Ok(NodeKind::Symlink { target })
-        }
-        NodeKind::Directory => Ok(NodeKind::Directory),
-    }
 }
 
 fn copied_entry(alloc: Global, entry: &Entry) -> Result<Entry, AllocError>

@@ -2,9 +2,11 @@
 
 ghost use Rattle.std.specs.Prelude.{◌≡◌, ◌≤◌, ℕ, List, Option, None, IfOk, length};
 
-use crate::task::{NodeKind, RunKey};
+use crate::task::RunKey;
 use digest::HashFunction;
 use std::io;
+use std::rc::RcStr;
+use tree_nodes::NodeKind;
 
 /// A run, the directory in its folder in which its program runs, and how what it leaves is hashed.
 #[derive(Drop)]
@@ -46,8 +48,10 @@ pub struct Entry {
 /// output, from the working directory on, and its names below that.
 pub trait Folder {
     ghost use Rattle.std.specs.Prelude.{map, string_bytes};
+    ghost use Rattle.std.specs.Rc.{rc_str_bytes};
+    ghost use Rattle.tree_nodes.specs.Nodes.{kind_shown};
     ghost use Rattle.runner.specs.Calls.{FolderCall, root_asked, node_asked, text_asked, directory_asked, parents_asked, look_asked, file_asked, list_asked, bytes_asked, removal_asked, Adds, done_of, found_of, facts_of, entries_of, folder_bytes_of, gone_of, call};
-    ghost use Rattle.runner.specs.Values.{kind_shown, place_shown};
+    ghost use Rattle.runner.specs.Values.{place_shown};
     ghost use Rattle.runner.specs.Faults.{Counts};
 
     // All that was asked, in order, and what was answered, where it is known.
@@ -63,16 +67,16 @@ pub trait Folder {
         ensures counts { Counts result (failures self.old) (failures self.new) };
 
     /// Makes an empty file, a symbolic link or a directory, whose own directory is there.
-    fn make_node(&mut self, run: RunKey, names: &[String], kind: &NodeKind) -> io::Result<()>
+    fn make_node(&mut self, run: RunKey, names: &[RcStr], kind: &NodeKind<usize>) -> io::Result<()>
         ensures adds { Adds (asked self.old) (asked self.new)
-            (call (node_asked run (map string_bytes names.now) (kind_shown kind.now))
+            (call (node_asked run (map rc_str_bytes names.now) (kind_shown kind.now))
             (done_of result)) }
         ensures counts { Counts result (failures self.old) (failures self.new) };
 
     /// Adds bytes to the end of a file that was made.
-    fn write(&mut self, run: RunKey, names: &[String], bytes: &[u8]) -> io::Result<()>
+    fn write(&mut self, run: RunKey, names: &[RcStr], bytes: &[u8]) -> io::Result<()>
         ensures adds { Adds (asked self.old) (asked self.new)
-            (call (text_asked run (map string_bytes names.now) bytes.now)
+            (call (text_asked run (map rc_str_bytes names.now) bytes.now)
             (done_of result)) }
         ensures counts { Counts result (failures self.old) (failures self.new) };
 

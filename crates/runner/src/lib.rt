@@ -28,5 +28,5 @@ pub use logged_folder::{FolderAnswered, FolderAsked, FolderRecord, LoggedFolder}
 pub use logged_programs::{LoggedPrograms, ProgramAnswered, ProgramAsked, ProgramRecord};
 pub use programs::{Programs, Stream};
 pub use runs::Runner;
-pub use task::{Command, NodeKind, RunKey, Task, TaskNode, Variable};
+pub use task::{Command, RunKey, Task, TaskNode, Variable};
 pub use texts::Texts;

@@ -1,22 +1,26 @@
 //! Folders with a log of all that was asked of them.
 
 ghost use Rattle.std.specs.Prelude.{◌≡◌, [], Some, IfOk, map, string_bytes};
+ghost use Rattle.std.specs.Rc.{rc_str_bytes};
+ghost use Rattle.tree_nodes.specs.Nodes.{kind_shown};
 ghost use Rattle.runner.specs.Calls.{Adds, call, node_asked, text_asked, directory_asked, parents_asked, look_asked, file_asked, list_asked, bytes_asked, done_of, found_of, facts_of, entries_of, folder_bytes_of, gone_of};
 ghost use Rattle.runner.specs.Logged.{folder_log, folder_question, folder_result};
-ghost use Rattle.runner.specs.Values.{kind_shown, place_shown};
+ghost use Rattle.runner.specs.Values.{place_shown};
 
-use crate::copies::{copied_bytes, copied_entries, copied_kind, copied_names, copied_place};
+use crate::copies::{copied_bytes, copied_entries, copied_names, copied_place, shared_names};
 use crate::folder::{Entry, FileFacts, Folder, Found, Place};
-use crate::task::{NodeKind, RunKey};
+use crate::task::RunKey;
 use std::alloc::{AllocError, Global};
 use std::io::{self, ErrorKind};
+use std::rc::RcStr;
+use tree_nodes::NodeKind;
 
 /// What is asked of folders (`Folder`).
 #[derive(Drop)]
 pub enum FolderAsked {
     Root(RunKey),
-    Node(RunKey, Vec<String>, NodeKind),
-    Text(RunKey, Vec<String>, Vec<u8>),
+    Node(RunKey, Vec<RcStr>, NodeKind<usize>),
+    Text(RunKey, Vec<RcStr>, Vec<u8>),
     Directory(Place),
     Parents(Place, String),
     Look(Place, String),
@@ -76,27 +80,27 @@ fn add(
 fn node(
     alloc: Global,
     run: RunKey,
-    names: &[String],
-    kind: &NodeKind,
+    names: &[RcStr],
+    kind: &NodeKind<usize>,
 ) -> Result<FolderAsked, AllocError>
     ensures { IfOk result (λ asked. folder_question asked
-        ≡ node_asked run (map string_bytes names.now) (kind_shown kind.now)) }
+        ≡ node_asked run (map rc_str_bytes names.now) (kind_shown kind.now)) }
 {
-    let names = copied_names(alloc, names)?;
-    let kind = copied_kind(alloc, kind)?;
+    let names = shared_names(alloc, names)?;
+    let kind = kind.shared()?;
     Ok(FolderAsked::Node(run, names, kind))
 }
 
 fn text(
     alloc: Global,
     run: RunKey,
-    names: &[String],
+    names: &[RcStr],
     bytes: &[u8],
 ) -> Result<FolderAsked, AllocError>
     ensures { IfOk result (λ asked. folder_question asked
-        ≡ text_asked run (map string_bytes names.now) bytes.now) }
+        ≡ text_asked run (map rc_str_bytes names.now) bytes.now) }
 {
-    let names = copied_names(alloc, names)?;
+    let names = shared_names(alloc, names)?;
     let bytes = copied_bytes(alloc, bytes)?;
     Ok(FolderAsked::Text(run, names, bytes))
 }
@@ -269,7 +273,12 @@ impl<F: Folder> Folder for LoggedFolder<F> {
         answer
     }
 
-    fn make_node(&mut self, run: RunKey, names: &[String], kind: &NodeKind) -> io::Result<()> {
+    fn make_node(
+        &mut self,
+        run: RunKey,
+        names: &[RcStr],
+        kind: &NodeKind<usize>,
+    ) -> io::Result<()> {
         let answer = self.folder.make_node(run, names, kind);
         match node(self.alloc, run, names, kind) {
             Ok(asked) => add(&mut self.log, asked, done_answer(&answer)),
@@ -278,7 +287,7 @@ impl<F: Folder> Folder for LoggedFolder<F> {
         answer
     }
 
-    fn write(&mut self, run: RunKey, names: &[String], bytes: &[u8]) -> io::Result<()> {
+    fn write(&mut self, run: RunKey, names: &[RcStr], bytes: &[u8]) -> io::Result<()> {
         let answer = self.folder.write(run, names, bytes);
         match text(self.alloc, run, names, bytes) {
             Ok(asked) => add(&mut self.log, asked, done_answer(&answer)),

@@ -1,6 +1,7 @@
 //! Making the folder of a run, and starting its program there, step by step.
 
 ghost use Rattle.std.specs.Prelude.{◌≡◌, ◌++◌, ◌-◌, ◌∷◌, [], ℕ, List, Option, IfErr, IfOk, length, map, take, string_bytes};
+ghost use Rattle.std.specs.Rc.{rc_str_bytes};
 ghost use Rattle.runner.specs.Values.{PlaceValue, place_shown, command_shown};
 ghost use Rattle.runner.specs.Calls.{ProgramCall, start_asked};
 ghost use Rattle.runner.specs.Made.{kind_made};
@@ -15,8 +16,8 @@ use crate::fault::{RunFault, of_folder, of_programs};
 use crate::folder::{Folder, Place};
 use crate::programs::Programs;
 use crate::stage::{Making, Nodes, Parents, Prepared, Stage, Step, Writing};
-use crate::task::{NodeKind, TaskNode};
 use crate::texts::Texts;
+use tree_nodes::{Node, NodeKind};
 
 /// How many bytes of a file are written or read at most by a step.
 pub(crate) const PIECE: u32 = 65_536;
@@ -48,11 +49,11 @@ fn make_root<F: Folder>(folder: &mut F, place: &Place, nodes: Nodes) -> Result<S
 }
 
 /// What follows a node that was made, whose names stand in `nodes.above`.
-fn after_node(nodes: Nodes, kind: NodeKind) -> Making
+fn after_node(nodes: Nodes, kind: NodeKind<usize>) -> Making
     ensures left { (text : ℕ → List ℕ) → (place : PlaceValue) →
         making_left text place result
-        ≡ kind_made text place.run (map string_bytes nodes.above.items) kind
-        ++ nodes_left text place (above_behind (map string_bytes nodes.above.items) kind) nodes }
+        ≡ kind_made text place.run (map rc_str_bytes nodes.above.items) kind
+        ++ nodes_left text place (above_behind (map rc_str_bytes nodes.above.items) kind) nodes }
     ensures starts { (place : PlaceValue) → making_starts place result
         ≡ start_asked place (command_shown nodes.next.command) ∷ [] }
     ensures outputs { making_outputs result ≡ map string_bytes nodes.next.outputs.items }
@@ -64,16 +65,16 @@ fn after_node(nodes: Nodes, kind: NodeKind) -> Making
             nodes,
         }),
         NodeKind::Symlink { .. } => Making::Nodes(left_above(nodes)),
-        NodeKind::Directory => Making::Nodes(nodes),
+        NodeKind::Directory { .. } => Making::Nodes(nodes),
     }
 }
 
 /// The names of the directory above in place of a node's own.
 fn left_above(nodes: Nodes) -> Nodes
     ensures left { (text : ℕ → List ℕ) → (place : PlaceValue) →
-        nodes_left text place (map string_bytes result.above.items) result
-        ≡ nodes_left text place (take (length (map string_bytes nodes.above.items) - 1)
-        (map string_bytes nodes.above.items)) nodes }
+        nodes_left text place (map rc_str_bytes result.above.items) result
+        ≡ nodes_left text place (take (length (map rc_str_bytes nodes.above.items) - 1)
+        (map rc_str_bytes nodes.above.items)) nodes }
     ensures next { result.next ≡ nodes.next }
 {
     let mut nodes = nodes;
@@ -94,7 +95,7 @@ fn make_node<F: Folder>(folder: &mut F, place: &Place, nodes: Nodes) -> Result<S
     let Some(node) = nodes.left.pop_front() else {
         return Ok(Step::Goes(Stage::Making(Making::Directory(nodes.next())), 1));
     };
-    let TaskNode { name, level, kind } = node;
+    let Node { name, level, kind } = node;
     nodes.above.truncate(level.saturating_sub(1));
     nodes.above.push(name)?;
     of_folder(folder.make_node(place.run, &nodes.above, &kind))?;

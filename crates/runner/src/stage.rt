@@ -16,6 +16,7 @@ use crate::tree::Tree;
 use crate::wanted::Wanted;
 use run_outcomes::{Content, Exited, Output, OutputKind};
 use std::collections::VecDeque;
+use std::rc::RcStr;
 
 /// What is to be done once a tree is made.
 pub(crate) struct Prepared {
@@ -62,7 +63,7 @@ impl Prepared {
 /// A tree that is being made.
 pub(crate) struct Nodes {
     /// The names of the directory that was reached.
-    pub(crate) above: Vec<String>,
+    pub(crate) above: Vec<RcStr>,
     /// Those that are still to be made.
     pub(crate) left: VecDeque<TaskNode>,
     pub(crate) next: Prepared,

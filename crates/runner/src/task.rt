@@ -2,6 +2,7 @@
 
 use digest::HashFunction;
 use std::collections::VecDeque;
+use tree_nodes::Node;
 
 /// A run: a job of an instance.
 #[derive(Clone, Copy, Debug, PartialEq, Eq)]
@@ -11,24 +12,9 @@ pub struct RunKey {
     pub job: u64,
 }
 
-/// What a node is.
-#[derive(Drop)]
-pub enum NodeKind {
-    /// A file, by the number of its text among those that are lent (`Texts`).
-    File { text: usize, is_executable: bool },
-    Symlink { target: String },
-    Directory,
-}
-
-/// A node of a task's tree.
-#[derive(Drop)]
-pub struct TaskNode {
-    /// Its name in the directory that it stands in.
-    pub name: String,
-    /// The number of directories from the root on in which it stands: 1 in the root itself.
-    pub level: usize,
-    pub kind: NodeKind,
-}
+/// A node of a task's tree, which names texts by their numbers among those that are lent (`Texts`). The
+/// text of a directory is not looked at.
+pub type TaskNode = Node<usize>;
 
 /// A variable of the environment.
 #[derive(Drop)]

@@ -8,7 +8,8 @@ use Rattle.conn_core.specs.Past.{Past}
 use Rattle.conn_core.specs.StandsFor.{ConnectionValue}
 use Rattle.served_instance.specs.Connections.{LoneConnection, AreApart, open_ones, open_at}
 use Rattle.served_instance.specs.declared.open_connection.OpenConnection.{OpenConnection}
-use Rattle.served_instance.specs.StandsFor.{AreServed, connection_at}
+use Rattle.served_instance.specs.StandsFor.{AreServed}
+use Rattle.served_instance.specs.Places.{connection_at}
 use Rattle.served_instance.specs.Shown.{connection_shown}
 use Rattle.served_instance.proofs.Opens.{first_past, open_at_is}
 

@@ -7,7 +7,7 @@ use Rattle.std.proofs.lemmas.Iterator.Adapters.{position_from-zero}
 use Rattle.conn_core.specs.StandsFor.{ConnectionValue}
 use Rattle.served_instance.specs.declared.open_connection.OpenConnection.{OpenConnection}
 use Rattle.served_instance.specs.Present.{is_numbered, StayInPlace}
-use Rattle.served_instance.specs.StandsFor.{connection_at}
+use Rattle.served_instance.specs.Places.{connection_at}
 use Rattle.served_instance.specs.Shown.{connection_shown}
 
 -- the place of the first of this number

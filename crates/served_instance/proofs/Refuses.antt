@@ -27,7 +27,8 @@ use Rattle.execution.specs.declared.orders.Order.{Order}
 use Rattle.instance_core.specs.Turns.{AreOrders}
 use Rattle.served_instance.specs.declared.instance.TheConstants.{CONNECTION_LIMIT}
 use Rattle.served_instance.specs.Refusals.{refusal_of, refusal_of_what, after_event_unless, lone_step, orders_unless, lone_orders, IsRefusalOutcome}
-use Rattle.served_instance.specs.StandsFor.{ServedConnection, ServedState, IsServedInstance, AreSettled, connection_at}
+use Rattle.served_instance.specs.StandsFor.{ServedConnection, ServedState, IsServedInstance, AreSettled}
+use Rattle.served_instance.specs.Places.{connection_at}
 use Rattle.served_instance.specs.declared.open_connection.OpenConnection.{OpenConnection}
 use Rattle.served_instance.specs.Slots.{ServedSlots, served_state_in}
 use Rattle.served_instance.specs.Acts.{StandsBy, slots_of}

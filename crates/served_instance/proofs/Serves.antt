@@ -7,7 +7,8 @@ use Rattle.grpc_sending.specs.StoredSending.{SourceTexts}
 use Rattle.conn_core.specs.Past.{Past, with_pumped}
 use Rattle.conn_core.specs.StandsFor.{ConnectionValue, IsConnection}
 use Rattle.served_instance.specs.Connections.{LoneConnection, open_ones, at_all_open, open_at}
-use Rattle.served_instance.specs.StandsFor.{ServedConnection, AreServed, connection_at, IsSettledConnection}
+use Rattle.served_instance.specs.StandsFor.{ServedConnection, AreServed, IsSettledConnection}
+use Rattle.served_instance.specs.Places.{connection_at}
 use Rattle.served_instance.specs.Shown.{connection_shown}
 use Rattle.served_instance.specs.declared.open_connection.OpenConnection.{OpenConnection}
 use Rattle.grpc_sending.proofs.Settles.{pump_settles as the_pump_settles}

@@ -11,7 +11,8 @@ use Rattle.instance_core.specs.State.{InstanceState}
 use Rattle.served_instance.specs.declared.open_connection.OpenConnection.{OpenConnection}
 use Rattle.served_instance.specs.Connections.{open_at, open_ones}
 use Rattle.served_instance.specs.Lone.{LoneInstance, after_reading_on, orders_of_what}
-use Rattle.served_instance.specs.StandsFor.{AreServed, connection_at}
+use Rattle.served_instance.specs.StandsFor.{AreServed}
+use Rattle.served_instance.specs.Places.{connection_at}
 use Rattle.served_instance.specs.Ranges.{AllKeepRanges, sources_at}
 use Rattle.served_instance.specs.Slots.{ServedSlots}
 use Rattle.std.specs.declared.alloc.Global.{Global}

@@ -4,6 +4,7 @@ pub mod Codes
 pub mod Lone
 pub mod Refusals
 pub mod StandsFor
+pub mod Places
 pub mod Ranges
 pub mod OwedReplies
 pub mod Slots

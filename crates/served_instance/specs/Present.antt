@@ -9,7 +9,8 @@ use Rattle.served_instance.specs.declared.open_connection.OpenConnection.{OpenCo
 use Rattle.served_instance.specs.declared.refusal.EventRefusal.{EventRefusal}
 use Rattle.served_instance.specs.declared.refusal.EventRefusal.TheVariants.{TimeWentBack, ConnectionExists, TooManyConnections, NoSuchConnection, TookTooMuch, NoSuchJob}
 use Rattle.served_instance.specs.declared.instance.TheConstants.{CONNECTION_LIMIT}
-use Rattle.served_instance.specs.StandsFor.{ServedConnection, connection_at}
+use Rattle.served_instance.specs.StandsFor.{ServedConnection}
+use Rattle.served_instance.specs.Places.{connection_at}
 use Rattle.served_instance.specs.Slots.{ServedSlots}
 
 abbrev pub is_numbered : ℕ → OpenConnection → Bool

@@ -1,5 +1,5 @@
 -- What is kept of an instance stands for all that happened to it by itself.
-use Rattle.std.specs.Prelude.{◌≡◌, ◌≤◌, ◌==◌, ℕ, if◌then◌else◌, List, [], ◌∷◌, length, Option, Some, None}
+use Rattle.std.specs.Prelude.{◌≡◌, ◌≤◌, ℕ, List, [], ◌∷◌, length}
 use Rattle.std.specs.List.{AllByRecursion, flat_map}
 use Rattle.grpc_sending.specs.Settled.{IsSettled}
 use Rattle.grpc_sending.specs.Owed.{ranges_left}
@@ -71,7 +71,3 @@ IsSettledConnection k = IsSettled k.past.history k.past.owed
 
 abbrev pub AreSettled : LoneInstance → Type 0
 AreSettled l = AllByRecursion IsSettledConnection (open_ones l.connections)
-
-abbrev pub connection_at : ℕ → List ServedConnection → Option ConnectionValue
-connection_at c [] = None
-connection_at c (v ∷ vs) = if v.number == c then Some v.connection else connection_at c vs

@@ -8,7 +8,8 @@ ghost use Rattle.served_instance.specs.Cuts.{KeepsOthers};
 ghost use Rattle.served_instance.specs.Shown.{connection_shown};
 ghost use Rattle.served_instance.specs.Present.{is_numbered, IsPlaceOf, StayInPlace};
 ghost use Rattle.served_instance.specs.Connections.{LoneConnection, AreApart, open_ones};
-ghost use Rattle.served_instance.specs.StandsFor.{AreServed, connection_at};
+ghost use Rattle.served_instance.specs.StandsFor.{AreServed};
+ghost use Rattle.served_instance.specs.Places.{connection_at};
 
 use conn_core::{CallEvent, Connection};
 use std::alloc::AllocError;

@@ -22,7 +22,8 @@ use Rattle.cas_service.specs.declared.error.CallError.{CallError}
 use Rattle.cas_service.specs.Answers.{Fails}
 use Rattle.cas_service.specs.Changes.{Use, visible_after_changes, uses}
 use Rattle.tree_calls.specs.Asking.{TreeAskedValue, action_asked, tree_asked}
-use Rattle.tree_calls.specs.GetTree.{texts_seen, tree_error, of_tree, pages_asked, directories_used, get_tree_replies, get_tree_changes}
+use Rattle.tree_calls.specs.GetTree.{texts_seen, of_tree, pages_asked, directories_used, get_tree_replies, get_tree_changes}
+use Rattle.tree_calls.specs.TreeErrors.{tree_error}
 use Rattle.tree_calls.specs.Results.{get_action_result_changes}
 
 pub all_changed : (limit quota : ℕ) (ds : List Digest) (visible : List Blob) → visible_after_uses ds visible ≡ visible_after_changes limit quota (map Use ds) visible

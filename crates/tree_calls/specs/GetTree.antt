@@ -9,9 +9,7 @@ use Rattle.digest.specs.declared.Digest.{Digest}
 use Rattle.instance_view.specs.Visible.{Blob, visible_text}
 use Rattle.input_tree.specs.declared.error.TreeRefusal.{TreeRefusal}
 use Rattle.input_tree.specs.declared.error.TreeRefusal.TheVariants.{NotFound, BadDirectory, TooMany, BadPage}
-use Rattle.input_tree.specs.declared.error.GetTreeError.{GetTreeError}
 use Rattle.input_tree.specs.declared.error.GetTreeError.TheVariants as Tree
-use Rattle.cas_service.specs.declared.error.CallError.{CallError}
 use Rattle.cas_service.specs.declared.error.CallError.TheVariants as Call
 use Rattle.input_tree.specs.Listing.{Lookup, tree_list}
 use Rattle.input_tree.specs.Pages.{get_tree_reply}
@@ -27,11 +25,6 @@ tree_refusal NotFound = BlobNotFound
 tree_refusal BadDirectory = Refused.BadDirectory
 tree_refusal TooMany = TreeTooLarge
 tree_refusal BadPage = Refused.BadPage
-
--- the same of a call, whose want of memory stays what it is
-abbrev pub tree_error : GetTreeError → CallError
-tree_error (Tree.Refused refusal) = Call.Refused (tree_refusal refusal)
-tree_error Tree.NoMemory = Call.NoMemory
 
 abbrev pub of_tree : {A : Type 0} → Result A TreeRefusal → Result A Refusal
 of_tree (Ok x) = Ok x

@@ -1,5 +1,6 @@
 pub mod Asking
 pub mod GetTree
+pub mod TreeErrors
 pub mod Results
 pub mod Lists
 pub mod Pages

@@ -7,7 +7,8 @@ ghost use Rattle.instance_view.specs.Sight.{seen_in, sight_of};
 ghost use Rattle.cas_service.specs.InPool.{IsViewInPool};
 ghost use Rattle.cas_service.specs.Answers.{Answers, IfAnswered};
 ghost use Rattle.cas_service.specs.Changes.{visible_after_changes};
-ghost use Rattle.tree_calls.specs.GetTree.{tree_error, tree_refusal, get_tree_replies, get_tree_changes};
+ghost use Rattle.tree_calls.specs.GetTree.{tree_refusal, get_tree_replies, get_tree_changes};
+ghost use Rattle.tree_calls.specs.TreeErrors.{tree_error};
 
 use crate::asking::tree_asked;
 use blob_pool::Pool;

@@ -8,7 +8,8 @@ use Rattle.digest.proofs.Same.{same_refl}
 use Rattle.uploads.specs.declared.error.UploadError.{UploadError}
 use Rattle.uploads.specs.declared.error.UploadError.TheVariants.{Offset, Size, Hash, TooMany, OverQuota, NoMemory}
 use Rattle.uploads.specs.Uploads.{KeyValue, UploadValue, UploadList, same_upload, upload_at, with_upload, without_upload, uploads_length, text_in, text_so_far, is_recent, uploads_at, AreUploadsWithin}
-use Rattle.uploads.specs.Writing.{PieceValue, is_place, if_ok, piece_answer, may_begin, begin_answer, append_answer, call_answer, after_piece, Fits, Answers}
+use Rattle.uploads.specs.Writing.{PieceValue, is_place, if_ok, piece_answer, may_begin, begin_answer, append_answer, call_answer, after_piece, Answers}
+use Rattle.uploads.specs.Fitting.{Fits}
 
 same_bytes : (bs : List ℕ) → pointwise nat_eq bs bs ≡ true
 same_bytes [] = refl

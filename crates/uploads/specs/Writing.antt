@@ -1,8 +1,7 @@
 -- What a piece of an upload is answered, and what becomes of the uploads (bytestream.proto,
 -- `Write`).
-use Rattle.std.specs.Prelude.{◌≡◌, ℕ, ℤ, pos, negsuc, ◌+◌, ◌≤◌, Bool, false, ◌&&◌, ◌==◌, not, nat_le, nat_lt, is_some, if◌then◌else◌, List, ◌++◌, length, Result, Ok, Err}
+use Rattle.std.specs.Prelude.{◌≡◌, ℕ, ℤ, pos, negsuc, ◌+◌, Bool, false, ◌&&◌, ◌==◌, not, nat_le, nat_lt, is_some, if◌then◌else◌, List, ◌++◌, length, Result, Ok, Err}
 use Rattle.digest.specs.Naming.{is_digest_of}
-use Rattle.blob_pool.specs.TextConstants.{MOST_BYTES}
 use Rattle.uploads.specs.declared.error.UploadError.{UploadError}
 use Rattle.uploads.specs.declared.error.UploadError.TheVariants.{Offset, Size, Hash, TooMany, OverQuota, NoMemory}
 use Rattle.uploads.specs.declared.steps.TheConstants.{MOST_UPLOADS}
@@ -31,11 +30,6 @@ piece_answer quota key piece uploads =
     then Err Size
     else (if nat_lt quota (uploads_length uploads + length piece.bytes) then Err OverQuota
     else Ok tt))
-
--- a piece leaves room for itself
-pub record Fits (key : KeyValue) (bytes : List ℕ) (uploads : UploadList) : Type 0 where
-  pub named : length (text_so_far key uploads) + length bytes ≤ key.digest.size
-  pub short : length (text_so_far key uploads) + length bytes ≤ MOST_BYTES
 
 -- an upload is no larger than the quota, and there are MOST_UPLOADS at most
 abbrev pub may_begin : ℕ → KeyValue → UploadList → Result Unit UploadError

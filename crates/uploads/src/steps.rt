@@ -9,7 +9,8 @@ ghost use Rattle.quota_evict.specs.Admission.{visible_after_admission};
 ghost use Rattle.quota_evict.specs.InPool.{IsViewInPool};
 ghost use Rattle.uploads.specs.Uploads.{uploads_length, upload_at, with_upload, text_so_far, AreUploadsWithin};
 ghost use Rattle.uploads.specs.Writing as writing;
-ghost use Rattle.uploads.specs.Writing.{Answers, Fits, piece_answer, call_answer, finish_answer, after_piece, after_finish, may_begin};
+ghost use Rattle.uploads.specs.Writing.{Answers, piece_answer, call_answer, finish_answer, after_piece, after_finish, may_begin};
+ghost use Rattle.uploads.specs.Fitting.{Fits};
 ghost use Rattle.uploads.specs.Shown.{key_shown, upload_shown, entry_shown, piece_shown, IsWhole, AreWhole};
 ghost use Rattle.quota_evict.specs.Within.{most_stored_bytes};
 

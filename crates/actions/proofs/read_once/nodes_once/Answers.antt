@@ -2,8 +2,7 @@ use Rattle.std.proofs.Common.{◌≡◌, List, Some, ap, sym, ◌∙◌, rules}
 use Rattle.std.specs.Prelude.{Ok}
 use Rattle.std.specs.Map.{lookup}
 use Rattle.digest.specs.Naming.{same_digest}
-use Rattle.actions.specs.declared.node.PlanNode.{PlanNode}
-use Rattle.actions.specs.Nodes.{PlanNodeValue}
+use Rattle.actions.specs.Nodes.{PlanNode, PlanNodeValue}
 use Rattle.actions.specs.Shown.{nodes_shown}
 use Rattle.actions.specs.ReadOnce.{at_level}
 use Rattle.actions.specs.Walk.{Nodes}

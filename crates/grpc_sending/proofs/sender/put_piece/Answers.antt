@@ -1,6 +1,7 @@
 use Rattle.std.proofs.Common.{subst, ◌≤◌, ◌∷◌, length, []}
 use Rattle.grpc_sending.specs.declared.piece.StoredPiece.{StoredPiece}
-use Rattle.grpc_sending.specs.StoredSending.{EndsWithinText, front_bytes}
+use Rattle.grpc_sending.specs.StoredSending.{EndsWithinText}
+use Rattle.grpc_sending.specs.SendingSteps.{front_bytes}
 use Rattle.grpc_sending.proofs.Stored.{block_there}
 use Rattle.grpc_sending.proofs.sender.put_piece.Goals as goal
 

@@ -1,7 +1,8 @@
 use Rattle.std.proofs.Common.{◌≡◌, length, ◌+◌, ◌-◌, ◌<◌, ◌∷◌, List, is_some, sym, ap, subst, ◌∙◌, arith, rules}
 use Rattle.std.proofs.lemmas.Bool.Decides.{nat_tests}
 use Rattle.digest.specs.declared.Digest.{Digest}
-use Rattle.input_tree.specs.Listing.{AreDue, listed_along, with_all_listed}
+use Rattle.input_tree.specs.Listing.{listed_along, with_all_listed}
+use Rattle.input_tree.specs.ListingSteps.{AreDue}
 use Rattle.input_tree.specs.Texts.{texts_of}
 use Rattle.input_tree.proofs.Listed.{along_end, along_full, along_next, due_next, none_due}
 use Rattle.input_tree.proofs.listing.list_along.Goals as goal

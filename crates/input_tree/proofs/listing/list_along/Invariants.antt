@@ -1,5 +1,6 @@
 use Rattle.std.proofs.Common.{◌≡◌, ◌-◌, ◌≤◌}
-use Rattle.input_tree.specs.Listing.{AreDue, AreNone, listed_along}
+use Rattle.input_tree.specs.Listing.{listed_along}
+use Rattle.input_tree.specs.ListingSteps.{AreDue, AreNone}
 use Rattle.input_tree.specs.Texts.{texts_of}
 use Rattle.input_tree.proofs.listing.list_along.Given as goal
 

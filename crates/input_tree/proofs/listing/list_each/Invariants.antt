@@ -1,5 +1,6 @@
 use Rattle.std.proofs.Common.{◌≡◌, ℕ, length}
-use Rattle.input_tree.specs.Listing.{AreDue, AreNone, with_all_listed}
+use Rattle.input_tree.specs.Listing.{with_all_listed}
+use Rattle.input_tree.specs.ListingSteps.{AreDue, AreNone}
 use Rattle.input_tree.specs.Texts.{texts_of}
 use Rattle.input_tree.proofs.listing.list_each.Given as goal
 

@@ -1,7 +1,7 @@
 use Rattle.std.proofs.Common.{◌≡◌, List, map, sym, ap, subst, ◌∙◌}
 use Rattle.digest.specs.declared.Digest.{Digest}
-use Rattle.actions.specs.declared.node.PlanNode.{PlanNode}
-use Rattle.actions.specs.Shown.{nodes_shown}
+use Rattle.actions.specs.Nodes.{PlanNode}
+use Rattle.tree_nodes.specs.Nodes.{nodes_shown}
 use Rattle.execution_messages.specs.Actions.{CommandValue, command_shown}
 use Rattle.instance_view.specs.Visible.{Blob}
 use Rattle.instance_view.specs.Shown.{blobs_in}

@@ -5,7 +5,8 @@ use Rattle.http2_frames.specs.declared.frame.Frame.TheVariants.{Data}
 use Rattle.http2_frames.specs.Writing.{text_of}
 use Rattle.grpc_sending.specs.declared.queue.StoredQueue.{StoredQueue}
 use Rattle.grpc_sending.specs.declared.turn.Due.TheVariants.{Opens, Gives}
-use Rattle.grpc_sending.specs.StoredSending.{StoredSending, QueuesEndWithin, sending_in, stored_on, front_bytes, next_due}
+use Rattle.grpc_sending.specs.StoredSending.{StoredSending, QueuesEndWithin, sending_in, stored_on}
+use Rattle.grpc_sending.specs.SendingSteps.{front_bytes, next_due}
 use Rattle.grpc_sending.proofs.Stored.{fit_removed, fit_taken}
 use Rattle.grpc_sending.proofs.Dues.{given, puts_given, rests_undue, opens_lives, HasOpened, opens_block, opens_last}
 use Rattle.grpc_sending.proofs.Keeping.{keeps_by}

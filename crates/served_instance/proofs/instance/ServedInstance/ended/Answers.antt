@@ -1,7 +1,7 @@
 use Rattle.std.proofs.Common.{◌≡◌, ap, ◌∙◌, List}
 use Rattle.std.specs.Prelude.{map, Some, None, option_map}
 use Rattle.conn_core.specs.StandsFor.{ConnectionValue}
-use Rattle.served_instance.specs.StandsFor.{connection_at}
+use Rattle.served_instance.specs.Places.{connection_at}
 use Rattle.served_instance.specs.Slots.{ServedSlots}
 use Rattle.served_instance.specs.Shown.{connection_shown}
 use Rattle.served_instance.specs.declared.open_connection.OpenConnection.{OpenConnection}

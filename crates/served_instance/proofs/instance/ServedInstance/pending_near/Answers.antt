@@ -2,7 +2,8 @@ use Rattle.std.proofs.Common.{◌≡◌, ap, ◌∙◌, subst, sym}
 use Rattle.std.specs.Prelude.{map, Some, None, option_map}
 use Rattle.conn_core.specs.StandsFor.{ConnectionValue}
 use Rattle.served_instance.specs.Connections.{open_ones}
-use Rattle.served_instance.specs.StandsFor.{AreServed, connection_at}
+use Rattle.served_instance.specs.StandsFor.{AreServed}
+use Rattle.served_instance.specs.Places.{connection_at}
 use Rattle.served_instance.specs.Slots.{ServedSlots}
 use Rattle.served_instance.specs.Shown.{connection_shown}
 use Rattle.blob_pool.specs.Slots.{text_at}

@@ -1,0 +1,109 @@
+//! What a command line is to come to.
+
+use crate::tests::cases::Case;
+use crate::tests::command_lines::Wanted::{Asks, Ends};
+use command_line::*;
+use std::alloc::{AllocError, Global};
+use std::fmt::Display;
+use std::test::*;
+
+/// Adds the words of a command line, with one space between two.
+fn add_words(alloc: Global, words: &mut Vec<String>, line: &str) -> Result<(), AllocError> {
+    for word in line.split(' ') {
+        words.push(String::from_str(alloc, word)?)?;
+    }
+    Ok(())
+}
+
+/// What comes of a command line.
+pub enum Wanted {
+    Asks(Task),
+    /// The status with which it ends, where it asks for nothing, and all that it says.
+    Ends(u8, &'static str),
+}
+
+/// The invocation that a command line asks for.
+pub struct Task {
+    pub kind: &'static str,
+    /// Its file or folder.
+    pub file: Option<&'static str>,
+    /// The port, the count and the turns of a probe, the turns of serving, or the port and the
+    /// seconds of a check; zeros for the rest.
+    pub numbers: (u64, u64, u64),
+    /// The address, the file of the figures and the file that ends a server, or the address and the
+    /// instance of a check; an empty text where there is none.
+    pub others: &'static [&'static str],
+    pub instances: &'static [&'static str],
+}
+
+impl Task {
+    fn is(
+        &self,
+        kind: &str,
+        file: Option<&str>,
+        numbers: (u64, u64, u64),
+        others: &[&str],
+    ) -> bool {
+        self.kind == kind && self.file == file && self.numbers == numbers && self.others == others
+    }
+
+    fn is_service(&self, service: &Service<'_>) -> bool {
+        let others = [
+            service.listen,
+            service.metrics.unwrap_or(""),
+            service.stop.unwrap_or(""),
+        ];
+        let kind = service.launcher.unwrap_or("serve");
+        self.is(kind, Some(service.work), (service.turns, 0, 0), &others)
+            && self.instances == service.instances.as_slice()
+    }
+
+    fn is_check(&self, question: Question<'_>) -> bool {
+        let others = [question.host, question.instance.unwrap_or("")];
+        let numbers = (u64::from(question.port), question.seconds, 0);
+        self.is("check", None, numbers, &others)
+    }
+
+    fn is_invocation(&self, invocation: &Invocation<'_>) -> bool {
+        match invocation {
+            Invocation::Unary { file } => self.is("unary", *file, (0, 0, 0), &[]),
+            Invocation::Replay { file } => self.is("replay", Some(*file), (0, 0, 0), &[]),
+            Invocation::Probe {
+                port,
+                send,
+                want,
+                turns,
+            } => self.is("probe", Some(*send), (u64::from(*port), *want, *turns), &[]),
+            Invocation::Serve(service) => self.is_service(service),
+            Invocation::Check(question) => self.is_check(*question),
+        }
+    }
+}
+
+/// Whether this is all that is shown of a value.
+fn is_text<D: Display>(alloc: Global, shown: &D, text: &str) -> bool {
+    match format!(in alloc; "{shown}") {
+        Ok(all) => all.as_str() == text,
+        Err(_) => false,
+    }
+}
+
+impl Wanted {
+    fn is(&self, alloc: Global, outcome: &Result<Invocation<'_>, CommandLineError>) -> bool {
+        match (self, outcome) {
+            (Asks(task), Ok(invocation)) => task.is_invocation(invocation),
+            (Ends(number, text), Err(CommandLineError::Answered(error))) => {
+                status(error) == *number && is_text(alloc, error, text)
+            }
+            _ => false,
+        }
+    }
+}
+
+impl Case for Wanted {
+    fn holds(&self, host: &HostRuntime, line: &str) -> bool {
+        let alloc = host.alloc();
+        let mut words = Vec::new(alloc);
+        add_words(alloc, &mut words, line).is_ok() && self.is(alloc, &parse(alloc, &words))
+    }
+}

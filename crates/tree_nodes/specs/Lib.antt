@@ -1,0 +1,2 @@
+-- Nodes of a tree.
+pub mod Nodes

@@ -20,7 +20,7 @@ import messages as m
 from executing import GET_RESULT
 from proxy import channel, code, config_here, expect, make_certificates
 from server import free_ports
-from watching import DEPLOY, UPDATE_RESULT, figures_of, key, within
+from watched import DEPLOY, UPDATE_RESULT, figures_of, key, within
 
 UNIT = (DEPLOY / "remoted.service").read_text()
 

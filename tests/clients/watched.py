@@ -1,0 +1,53 @@
+"""What the parts of watching.py share: a server with further words, its figures, and what is expected of it."""
+
+import pathlib
+import re
+import time
+
+from server import Server
+
+DEPLOY = pathlib.Path(__file__).resolve().parents[2] / "deploy"
+UPDATE_RESULT = "/build.bazel.remote.execution.v2.ActionCache/UpdateActionResult"
+SAMPLE = re.compile(r"^(\w+)(?:\{(.*)\})? (\S+)$")
+LABEL = re.compile(r'(\w+)="((?:[^"\\]|\\.)*)"')
+
+
+def expect(holds, what, found=None):
+    if not holds:
+        raise SystemExit(f"not so: {what}" + ("" if found is None else f": {found}"))
+    print(f"ok {what}", flush=True)
+
+
+def within(seconds, test):
+    """What the test gives once it gives something, or what it gives at the end."""
+    end = time.monotonic() + seconds
+    while not (found := test()) and time.monotonic() < end:
+        time.sleep(0.05)
+    return found
+
+
+def figures_of(text):
+    """The samples of a text: numbers by name and labels."""
+    found = {}
+    for line in text.splitlines():
+        if not line.startswith("#"):
+            name, labels, value = SAMPLE.match(line).groups()
+            found[(name, *sorted(LABEL.findall(labels or "")))] = float(value)
+    return found
+
+
+def key(name, **labels):
+    return (f"remoted_{name}", *sorted(labels.items()))
+
+
+class Watched(Server):
+    """A server with further words."""
+
+    def __init__(self, program, instances, words, **more):
+        self.words = words
+        super().__init__(program, instances, turns="endless", extra=words, **more)
+
+
+def told_by(server):
+    """The lines on standard error, but for those that say what begins."""
+    return [line for line in server.said() if not re.search(r" begins with \d+ instances$|\d+ bytes, \d+ slots$", line)]

@@ -1,6 +1,6 @@
 //! Which actions are taken.
 
-ghost use Rattle.std.specs.Prelude.{◌≡◌, ◌≤◌, IfOk, IfSome, option_map};
+ghost use Rattle.std.specs.Prelude.{◌≡◌, ◌≤◌, IfSome, option_map};
 ghost use Rattle.protobuf_wire.specs.Reading.{records_of};
 ghost use Rattle.input_tree.specs.NodeTexts.{with_left};
 ghost use Rattle.execution_messages.specs.Actions.{action_shown, duration_shown};
@@ -9,11 +9,9 @@ ghost use Rattle.actions.specs.Actions.{action_in, action_taken, duration_of_num
 ghost use Rattle.actions.specs.Shown.{action_taken_shown};
 
 use crate::action_text::action_in;
-use crate::command_text::Untaken;
 use digest::Digest;
 use execution_messages::{Action, Duration};
 use input_tree::digest_written;
-use std::alloc::{AllocError, Global};
 
 /// How long an action may run at most, in milliseconds.
 const LONGEST: u64 = 3_600_000;
@@ -85,23 +83,20 @@ fn taken(action: &Action<'_>) -> Option<ActionTaken>
 }
 
 /// The action that a text spells, where it is taken.
-fn read_taken(text: &[u8]) -> Result<Option<ActionTaken>, AllocError>
-    ensures { IfOk result (λ found. option_map action_taken_shown found
-        ≡ taken_action (with_left action_after no_action (records_of text.now))) }
+fn read_taken(text: &[u8]) -> Option<ActionTaken>
+    ensures { option_map action_taken_shown result
+        ≡ taken_action (with_left action_after no_action (records_of text.now)) }
 {
-    match action_in(text) {
-        Ok(action) => Ok(taken(&action)),
-        Err(Untaken::Bad) => Ok(None),
-        Err(Untaken::NoMemory) => Err(AllocError),
-    }
+    let action = action_in(text)?;
+    taken(&action)
 }
 
 /// The action that a text spells, where it is taken: its digests have their form, and its timeout,
 /// where it has one, is not negative and at most an hour. It is read in one pass, which ends at the
-/// first fault.
+/// first fault, and no memory is taken.
 #[tactic(auto, using(crate::proofs::ActionRecords::action_taken_is))]
-pub fn read_action(_alloc: Global, text: &[u8]) -> Result<Option<ActionTaken>, AllocError>
-    ensures { IfOk result (λ found. option_map action_taken_shown found ≡ action_in text.now) }
+pub fn read_action(text: &[u8]) -> Option<ActionTaken>
+    ensures { option_map action_taken_shown result ≡ action_in text.now }
 {
     read_taken(text)
 }

@@ -1,6 +1,7 @@
-//! Actions, read while their texts are gone over. It takes no memory.
+//! Actions, read while their texts are gone over. No memory is taken, and where a text cannot be
+//! read there is `None`.
 
-ghost use Rattle.std.specs.Prelude.{◌≡◌, nat_lt, option_map};
+ghost use Rattle.std.specs.Prelude.{◌≡◌, Some, nat_lt, option_map};
 ghost use Rattle.std.specs.Int.{w64, cast_signed};
 ghost use Rattle.protobuf_wire.specs.Reading.{records_of};
 ghost use Rattle.protobuf_wire.specs.Shown.{record_shown};
@@ -9,9 +10,8 @@ ghost use Rattle.reapi_messages.specs.Digests.{digest_shown};
 ghost use Rattle.input_tree.specs.NodeTexts.{with_left};
 ghost use Rattle.execution_messages.specs.Actions.{action_shown, duration_shown};
 ghost use Rattle.actions.specs.ActionTexts.{number_after, digest_after, digest_field_after, duration_after, duration_field_after, action_after, no_action};
-ghost use Rattle.actions.specs.Texts.{Takes};
 
-use crate::command_text::{Untaken, string_after};
+use crate::command_text::string_after;
 use execution_messages::{Action, Duration};
 use input_tree::payload_of;
 use message_fields::{Content, Field};
@@ -65,11 +65,11 @@ fn int32_after(last: i32, entry: &Field<'_>, field: u32) -> i32
 }
 
 /// A digest with one more record of it.
-fn digest_after<'a>(digest: Digest<'a>, entry: &Field<'a>) -> Result<Digest<'a>, Untaken>
-    ensures { Takes digest_shown result
-        (digest_after (digest_shown digest.entry) (record_shown entry.now)) }
+fn digest_after<'a>(digest: Digest<'a>, entry: &Field<'a>) -> Option<Digest<'a>>
+    ensures { option_map digest_shown result
+        ≡ digest_after (digest_shown digest.entry) (record_shown entry.now) }
 {
-    Ok(Digest {
+    Some(Digest {
         hash: string_after(digest.hash, entry, 1)?,
         size_bytes: int64_after(digest.size_bytes, entry, 2),
     })
@@ -77,16 +77,16 @@ fn digest_after<'a>(digest: Digest<'a>, entry: &Field<'a>) -> Result<Digest<'a>,
 
 /// A digest with the records of one more text.
 #[tactic(auto, using(input_tree::proofs::NodeRecords::node_left_next))]
-fn with_digest_text<'a>(digest: Digest<'a>, text: &'a [u8]) -> Result<Digest<'a>, Untaken>
-    ensures { Takes digest_shown result
-        (with_left digest_after (digest_shown digest.entry) (records_of text.now)) }
+fn with_digest_text<'a>(digest: Digest<'a>, text: &'a [u8]) -> Option<Digest<'a>>
+    ensures { option_map digest_shown result
+        ≡ with_left digest_after (digest_shown digest.entry) (records_of text.now) }
 {
     let mut digest = digest;
     let mut reader = Reader::new(text);
-    'records: while let Some(entry) = reader.next()? {
+    'records: while let Some(entry) = reader.next().ok()? {
         digest = digest_after(digest, &entry)?;
     }
-    Ok(digest)
+    Some(digest)
 }
 
 /// A digest that may be there, with one more record of the action.
@@ -94,44 +94,44 @@ fn digest_field_after<'a>(
     digest: Option<Digest<'a>>,
     entry: &Field<'a>,
     field: u32,
-) -> Result<Option<Digest<'a>>, Untaken>
-    ensures { Takes (option_map digest_shown) result
-        (digest_field_after field (option_map digest_shown digest.entry)
-        (record_shown entry.now)) }
+) -> Option<Option<Digest<'a>>>
+    ensures { option_map (option_map digest_shown) result
+        ≡ digest_field_after field (option_map digest_shown digest.entry)
+        (record_shown entry.now) }
 {
     let Some(payload) = payload_of(entry, field) else {
-        return Ok(digest);
+        return Some(digest);
     };
     let digest = digest.unwrap_or(Digest {
         hash: "",
         size_bytes: 0,
     });
-    Ok(Some(with_digest_text(digest, payload)?))
+    Some(Some(with_digest_text(digest, payload)?))
 }
 
 /// A time with one more record of it.
-fn duration_after(duration: Duration, entry: &Field<'_>) -> Result<Duration, Untaken>
-    ensures { Takes duration_shown result
-        (duration_after (duration_shown duration) (record_shown entry.now)) }
+fn duration_after(duration: Duration, entry: &Field<'_>) -> Duration
+    ensures { Some (duration_shown result)
+        ≡ duration_after (duration_shown duration) (record_shown entry.now) }
 {
-    Ok(Duration {
+    Duration {
         seconds: int64_after(duration.seconds, entry, 1),
         nanos: int32_after(duration.nanos, entry, 2),
-    })
+    }
 }
 
 /// A time with the records of one more text.
 #[tactic(auto, using(input_tree::proofs::NodeRecords::node_left_next))]
-fn with_duration_text(duration: Duration, text: &[u8]) -> Result<Duration, Untaken>
-    ensures { Takes duration_shown result
-        (with_left duration_after (duration_shown duration) (records_of text.now)) }
+fn with_duration_text(duration: Duration, text: &[u8]) -> Option<Duration>
+    ensures { option_map duration_shown result
+        ≡ with_left duration_after (duration_shown duration) (records_of text.now) }
 {
     let mut duration = duration;
     let mut reader = Reader::new(text);
-    'records: while let Some(entry) = reader.next()? {
-        duration = duration_after(duration, &entry)?;
+    'records: while let Some(entry) = reader.next().ok()? {
+        duration = duration_after(duration, &entry);
     }
-    Ok(duration)
+    Some(duration)
 }
 
 /// A time that may be there, with one more record of the action.
@@ -139,38 +139,41 @@ fn duration_field_after(
     duration: Option<Duration>,
     entry: &Field<'_>,
     field: u32,
-) -> Result<Option<Duration>, Untaken>
-    ensures { Takes (option_map duration_shown) result
-        (duration_field_after field (option_map duration_shown duration)
-        (record_shown entry.now)) }
+) -> Option<Option<Duration>>
+    ensures { option_map (option_map duration_shown) result
+        ≡ duration_field_after field (option_map duration_shown duration)
+        (record_shown entry.now) }
 {
     let Some(payload) = payload_of(entry, field) else {
-        return Ok(duration);
+        return Some(duration);
     };
     let duration = duration.unwrap_or(Duration {
         seconds: 0,
         nanos: 0,
     });
-    Ok(Some(with_duration_text(duration, payload)?))
+    Some(Some(with_duration_text(duration, payload)?))
 }
 
-/// An action with one more record of it.
-fn action_after<'a>(action: Action<'a>, entry: &Field<'a>) -> Result<Action<'a>, Untaken>
-    ensures { Takes action_shown result
-        (action_after (action_shown action.entry) (record_shown entry.now)) }
+/// Adds what a record of an action says.
+fn add_record<'a>(action: &mut Action<'a>, entry: &Field<'a>) -> Option<()>
+    ensures { option_map (λ _. action_shown action.new) result
+        ≡ action_after (action_shown action.old) (record_shown entry.now) }
 {
-    Ok(Action {
-        command_digest: digest_field_after(action.command_digest, entry, 1)?,
-        input_root_digest: digest_field_after(action.input_root_digest, entry, 2)?,
-        timeout: duration_field_after(action.timeout, entry, 6)?,
-        do_not_cache: flag_after(action.do_not_cache, entry, 7),
-    })
+    match entry.number {
+        1 => action.command_digest = digest_field_after(action.command_digest, entry, 1)?,
+        2 => action.input_root_digest = digest_field_after(action.input_root_digest, entry, 2)?,
+        6 => action.timeout = duration_field_after(action.timeout, entry, 6)?,
+        7 => action.do_not_cache = flag_after(action.do_not_cache, entry, 7),
+        _ => {}
+    }
+    Some(())
 }
 
 /// The action that a text spells. It is read in one pass, which ends at the first fault.
 #[tactic(auto, using(input_tree::proofs::NodeRecords::node_left_next))]
-pub fn action_in(text: &[u8]) -> Result<Action<'_>, Untaken>
-    ensures { Takes action_shown result (with_left action_after no_action (records_of text.now)) }
+pub fn action_in(text: &[u8]) -> Option<Action<'_>>
+    ensures { option_map action_shown result
+        ≡ with_left action_after no_action (records_of text.now) }
 {
     let mut action = Action {
         command_digest: None,
@@ -179,8 +182,8 @@ pub fn action_in(text: &[u8]) -> Result<Action<'_>, Untaken>
         do_not_cache: false,
     };
     let mut reader = Reader::new(text);
-    'records: while let Some(entry) = reader.next()? {
-        action = action_after(action, &entry)?;
+    'records: while let Some(entry) = reader.next().ok()? {
+        add_record(&mut action, &entry)?;
     }
-    Ok(action)
+    Some(action)
 }

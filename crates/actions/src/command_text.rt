@@ -1,6 +1,6 @@
 //! Commands, read while their texts are gone over.
 
-ghost use Rattle.std.specs.Prelude.{◌≡◌, map};
+ghost use Rattle.std.specs.Prelude.{◌≡◌, map, option_map};
 ghost use Rattle.protobuf_wire.specs.Reading.{records_of};
 ghost use Rattle.protobuf_wire.specs.Shown.{record_shown};
 ghost use Rattle.input_tree.specs.NodeTexts.{with_left};
@@ -39,21 +39,22 @@ impl<T: Drop> From<AllocFailed<T>> for Untaken {
     }
 }
 
-fn text_of(payload: &[u8]) -> Result<&str, Untaken>
-    ensures { Takes (λ s. s.now) result (string_in payload.now) }
+fn text_of(payload: &[u8]) -> Option<&str>
+    ensures { option_map (λ s. s.now) result ≡ string_in payload.now }
 {
     match str::from_utf8(payload) {
-        Ok(text) => Ok(text),
-        Err(_) => Err(Untaken::Bad),
+        Ok(text) => Some(text),
+        Err(_) => None,
     }
 }
 
 /// The string of a record, where it is one of the field, and else the one before.
-pub fn string_after<'a>(last: &'a str, entry: &Field<'a>, field: u32) -> Result<&'a str, Untaken>
-    ensures { Takes (λ s. s.now) result (string_after field last.now (record_shown entry.now)) }
+pub fn string_after<'a>(last: &'a str, entry: &Field<'a>, field: u32) -> Option<&'a str>
+    ensures { option_map (λ s. s.now) result
+        ≡ string_after field last.now (record_shown entry.now) }
 {
     match payload_of(entry, field) {
-        None => Ok(last),
+        None => Some(last),
         Some(payload) => text_of(payload),
     }
 }
@@ -66,7 +67,7 @@ fn add_string<'a>(texts: &mut Vec<&'a str>, entry: &Field<'a>, field: u32) -> Re
     let Some(payload) = payload_of(entry, field) else {
         return Ok(());
     };
-    texts.push(text_of(payload)?)?;
+    texts.push(text_of(payload).ok_or(Untaken::Bad)?)?;
     Ok(())
 }
 
@@ -74,30 +75,30 @@ fn add_string<'a>(texts: &mut Vec<&'a str>, entry: &Field<'a>, field: u32) -> Re
 fn variable_after<'a>(
     variable: EnvironmentVariable<'a>,
     entry: &Field<'a>,
-) -> Result<EnvironmentVariable<'a>, Untaken>
-    ensures { Takes environment_variable_shown result
-        (variable_after (environment_variable_shown variable.entry) (record_shown entry.now)) }
+) -> Option<EnvironmentVariable<'a>>
+    ensures { option_map environment_variable_shown result
+        ≡ variable_after (environment_variable_shown variable.entry) (record_shown entry.now) }
 {
-    Ok(EnvironmentVariable {
+    Some(EnvironmentVariable {
         name: string_after(variable.name, entry, 1)?,
         value: string_after(variable.value, entry, 2)?,
     })
 }
 
-/// The variable that a text spells. It takes no memory.
+/// The variable that a text spells.
 #[tactic(auto, using(input_tree::proofs::NodeRecords::node_left_next, crate::proofs::Records::variable_text_is))]
-fn read_variable(text: &[u8]) -> Result<EnvironmentVariable<'_>, Untaken>
-    ensures { Takes environment_variable_shown result (variable_in text.now) }
+fn read_variable(text: &[u8]) -> Option<EnvironmentVariable<'_>>
+    ensures { option_map environment_variable_shown result ≡ variable_in text.now }
 {
     let mut variable = EnvironmentVariable {
         name: "",
         value: "",
     };
     let mut reader = Reader::new(text);
-    'records: while let Some(entry) = reader.next()? {
+    'records: while let Some(entry) = reader.next().ok()? {
         variable = variable_after(variable, &entry)?;
     }
-    Ok(variable)
+    Some(variable)
 }
 
 /// Adds the variable of a record, where it is one of the field.
@@ -113,7 +114,7 @@ fn add_variable<'a>(
     let Some(payload) = payload_of(entry, field) else {
         return Ok(());
     };
-    variables.push(read_variable(payload)?)?;
+    variables.push(read_variable(payload).ok_or(Untaken::Bad)?)?;
     Ok(())
 }
 
@@ -122,12 +123,19 @@ fn add_record<'a>(command: &mut Command<'a>, entry: &Field<'a>) -> Result<(), Un
     ensures { Takes (λ _. command_shown command.new) result
         (command_after (command_shown command.old) (record_shown entry.now)) }
 {
-    add_string(&mut command.arguments, entry, 1)?;
-    add_variable(&mut command.environment_variables, entry, 2)?;
-    add_string(&mut command.output_files, entry, 3)?;
-    add_string(&mut command.output_directories, entry, 4)?;
-    command.working_directory = string_after(command.working_directory, entry, 6)?;
-    add_string(&mut command.output_paths, entry, 7)
+    match entry.number {
+        1 => add_string(&mut command.arguments, entry, 1),
+        2 => add_variable(&mut command.environment_variables, entry, 2),
+        3 => add_string(&mut command.output_files, entry, 3),
+        4 => add_string(&mut command.output_directories, entry, 4),
+        6 => {
+            let directory = string_after(command.working_directory, entry, 6);
+            command.working_directory = directory.ok_or(Untaken::Bad)?;
+            Ok(())
+        }
+        7 => add_string(&mut command.output_paths, entry, 7),
+        _ => Ok(()),
+    }
 }
 
 /// The command that a text spells. It is read in one pass, which ends at the first fault, and

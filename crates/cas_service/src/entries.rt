@@ -7,6 +7,7 @@ ghost use Rattle.std.specs.Prelude.{◌≡◌, ◌<◌, option_map, IfOk, IsSome
 ghost use Rattle.std.specs.Option.{option_copied};
 ghost use Rattle.protobuf_wire.specs.Reading.{count_left};
 ghost use Rattle.reapi_messages.specs.Shown.{record_shown};
+ghost use Rattle.reapi_messages.specs.Answers.{Means};
 ghost use Rattle.reapi_messages.specs.Fields.{value_of_text, payload_in, number_in, int32_of, utf8};
 ghost use Rattle.cas_service.specs.Answers.{Answers};
 ghost use Rattle.cas_service.specs.Requests.{message_or_refusal};
@@ -16,7 +17,7 @@ use crate::error::CallError;
 use crate::requests::{asked_function, check_instance};
 use digest::HashFunction;
 use protobuf_wire::{Content, Reader};
-use reapi_messages::{Field, Message};
+use reapi_messages::{Field, Message, MessageError};
 use rpc::Refusal;
 use std::alloc::Global;
 
@@ -113,13 +114,25 @@ pub fn admit_head(own: &str, head: &Head<'_>) -> Result<Option<HashFunction>, Re
     asked_function(head.digest_function)
 }
 
+/// The message that a payload spells. In an empty one no record is looked for: a request may have
+/// two million of them.
+#[tactic(auto, unfolding(message_fields::specs::Fields::records_in))]
+fn message_in<'a, M: Message<'a>>(alloc: Global, payload: &'a [u8]) -> Result<M, MessageError>
+    ensures { Means M.shown result (value_of_text M.value_of payload.now) }
+{
+    if payload.is_empty() {
+        return M::of_fields(alloc, &[]);
+    }
+    M::decode(alloc, payload)
+}
+
 /// The entry of a record, where it has one.
 fn entry_of<'a, M: Message<'a>>(alloc: Global, found: &Field<'a>) -> Result<Option<M>, CallError>
     ensures { Answers (option_map M.shown) result
         (entry_in M.value_of (payload_in 2 (record_shown found.now))) }
 {
     match payload_of(found, 2) {
-        Some(payload) => Ok(Some(M::decode(alloc, payload)?)),
+        Some(payload) => Ok(Some(message_in(alloc, payload)?)),
         None => Ok(None),
     }
 }

@@ -146,6 +146,9 @@ fn put_response(
         (embedded_field update_blob_response_records 1
         (Some (response_shown sent.now status.now)))) }
 {
+    if sent.is_none() {
+        return reply.payload_part(status.response_without_digest());
+    }
     let length = response_len(sent, status)?;
     reply.payload_head(1, length)?;
     write_response(reply, sent, status)

@@ -32,7 +32,7 @@ pub use laws::{
 };
 pub use numbering::{number_of, text_numbers};
 pub use orders::{Order, Told, task_of};
-pub use reading::{FoundTexts, TaskRead, read_task, read_task_command};
+pub use reading::{TaskRead, read_task, read_task_command};
 pub use steps::{Step, end_steps, start_steps, tick_steps};
 pub use taking::{forget_job, take_steps};
 pub use waiting::wait;

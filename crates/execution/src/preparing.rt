@@ -107,7 +107,7 @@ fn find_action(
         return Err(missing(digests));
     };
     let text = copy_of(alloc, pool, seen)?;
-    match read_action(alloc, &text)? {
+    match read_action(&text) {
         Some(action) => Ok(action),
         None => Err(fault_alone(alloc, Fault::BadAction)),
     }

@@ -98,7 +98,7 @@ fn action_among(
         return Ok(None);
     };
     let text = copy_of(alloc, pool, seen)?;
-    read_action(alloc, &text)
+    Ok(read_action(&text))
 }
 
 /// The text that an action names as its command.

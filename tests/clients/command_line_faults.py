@@ -19,7 +19,7 @@ import sys
 import tempfile
 import threading
 
-from server import OF_LEASES, Server, free_ports, lease_seconds
+from server import Server, free_ports
 
 PARTS = "it is not NAME:PORT:QUOTA:SLOTS[:PARENT]"
 PORT = "the port is not a number from 1 to 65535"
@@ -29,9 +29,6 @@ NAME = "the name is not 1 to 64 of a-z, 0-9 and -, or it is a word of resource n
 NAME_AGAIN = "an instance before it has the name"
 PARENT = "the parent is not another instance, or it has a parent itself"
 PORT_AGAIN = "an instance before it has the port"
-
-# What a start says that has slots and no launcher.
-SAID = f"{OF_LEASES}\n" if lease_seconds() else ""
 
 # Words for instances, the one that is bad, and why.
 BAD_WORDS = [
@@ -120,7 +117,7 @@ def ports(checks):
         told = f"remoted: cannot listen on {second}: Address already in use (os error 98)\n"
         checks.ends(checks.serve("taken", *words), 1, told)
     checks.tell("no folder was made", (0, os.path.lexists(os.path.join(checks.folder, "taken")), ""), (0, False, ""))
-    checks.ends(checks.serve("free", *words), 0, SAID, f"listening red {first}\nlistening blue {second}\n")
+    checks.ends(checks.serve("free", *words), 0, "", f"listening red {first}\nlistening blue {second}\n")
 
 
 def folders(checks):
@@ -170,9 +167,9 @@ def what_is_lacking(checks):
         "remoted: {} files may be open, and up to 133 are needed: raise the limit (ulimit -n 133, or LimitNOFILE=133)\n"
     )
     words = checks.serve("lacking", f"red:{port}:100:2")
-    checks.ends(words, 0, told.format(60) + SAID, listening, preexec_fn=few(60))
+    checks.ends(words, 0, told.format(60), listening, preexec_fn=few(60))
     checks.ends(words, 1, told.format(33), preexec_fn=few(33))
-    checks.ends(words, 0, SAID, listening, preexec_fn=few(133))
+    checks.ends(words, 0, "", listening, preexec_fn=few(133))
 
 
 def scripts(checks):

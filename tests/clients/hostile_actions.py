@@ -51,6 +51,8 @@ CASES = [
     host_programs.lines_unheard,
     host_programs.helper_stopped,
     host_programs.helper_killed,
+    host_programs.opener_stopped,
+    host_programs.opener_killed,
     host_programs.fork_bomb,
     host_programs.fork_bomb_alone,
     host_programs.long_path,

@@ -9,8 +9,8 @@ import messages as m
 import programs
 from execution_context import expect
 from executing import Link
-from server import lease_seconds
-from teams import LONGEST_WAIT, PYTHON, TOP, Skipped, listed, victim
+from server import has_leases
+from teams import PYTHON, TOP, Skipped, listed, victim
 
 SECRET = b"of somebody else"
 
@@ -42,18 +42,19 @@ for level in range(int(sys.argv[1])):
 open(b"\\xff", "w").close()
 """
 
-# Holds a lease on a file, which makes whoever opens it wait.
-LEASING = """import fcntl, os, signal, time
+# Leaves a daemon behind that holds a lease of a kind on a file, which makes whoever opens it wait.
+LEASING = """import fcntl, os, signal, sys, time
 signal.signal(signal.SIGIO, signal.SIG_IGN)
-file = os.open("o", os.O_RDWR | os.O_CREAT, 0o644)
-os.write(file, b"leased")
+with open("o", "wb") as file:
+    file.write(b"leased")
+file = os.open("o", os.O_RDONLY)
 if os.fork():
     time.sleep(0.3)
     os._exit(0)
 os.setsid()
 if os.fork():
     os._exit(0)
-fcntl.fcntl(file, fcntl.F_SETLEASE, fcntl.F_WRLCK)
+fcntl.fcntl(file, fcntl.F_SETLEASE, getattr(fcntl, sys.argv[1]))
 time.sleep(60)
 """
 
@@ -232,17 +233,19 @@ def removal_exchanged(stage):
 
 
 def leased(stage):
-    """A daemon holds a lease on an output, which keeps whoever opens that waiting, where the system has leases."""
-    seconds = lease_seconds()
-    with stage.serve(longest=seconds + 5 if seconds else LONGEST_WAIT) as (server, red):
-        expect(server.tells_of_leases(), seconds > 0, "whether a line of the start tells of leases")
-        done = red.execute(stage.action(python(LEASING), files=["o"]))
-        expect(done.status.code in (0, 13), True, f"status {done.status.code}")
+    """Daemons hold leases on outputs, which keep whoever opens those waiting, where the system has leases."""
+    waiting = 13 if has_leases() else 0
+    with stage.serve(slots=(8, 2)) as (server, red):
+        expect(server.said(), [], "what is said at the start")
+        for kind, code in [("F_WRLCK", waiting), ("F_RDLCK", 0)]:
+            numbers = [red.start(stage.action(python(LEASING, kind), files=["o"])) for _ in range(8)]
+            stage.blue_runs(server)
+            for number in numbers:
+                expect(red.operations(number)[-1].status.code, code, f"status at {kind}")
         stage.end_programs()
         stage.blue_runs(server)
-    if seconds:
-        return f"a known limit, which a line of the start tells: it may keep all waiting for {seconds} s"
-    return "the system has no leases, and nobody waits"
+        stage.nothing_left(server)
+    return "a run whose output has a write lease fails, and nobody waits" if waiting else "the system has no leases"
 
 
 # Outputs that are no files.

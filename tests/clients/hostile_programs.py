@@ -1,5 +1,6 @@
 """What `hostile_actions.py` tries with processes: lines that nobody reads, what ends sessions, and long paths."""
 
+import concurrent.futures
 import contextlib
 import fcntl
 import os
@@ -8,9 +9,11 @@ import resource
 import signal
 import time
 
+import messages as m
 import programs
 from execution_context import expect
 from hostile_folders import python
+from server import has_leases
 from teams import Skipped
 
 # The line of a run that failed, or one of another kind, as for lines that were dropped. None is within another one.
@@ -89,7 +92,7 @@ def helper_stopped(stage):
     """What ends sessions for the server is stopped (SIGSTOP)."""
     with stage.serve() as (server, red):
         stage.runs(red, "sleep 600 & printf abc")
-        helper = stage.helper(server)
+        helper = stage.helper(server, programs.ENDS_SESSIONS)
         told = programs.helpers(stage.folder, server.process.pid)[helper]
         os.kill(helper, signal.SIGSTOP)
         try:
@@ -111,7 +114,7 @@ def helper_killed(stage):
     """What ends sessions for the server is killed, again and again."""
     with stage.serve() as (server, red):
         stage.runs(red, "sleep 600 & printf abc")
-        stage.helper(server)
+        stage.helper(server, programs.ENDS_SESSIONS)
         killed, end = 0, time.monotonic() + 6
         number = red.start(stage.action("sleep 600 & (trap '' TERM; sleep 600) & sleep 5", seconds=60))
         while time.monotonic() < end:
@@ -126,6 +129,46 @@ def helper_killed(stage):
         stage.runs(red, "sleep 600 & printf abc")
         stage.nothing_left(server)
         expect(programs.settled(lambda: programs.running(stage.folder, server.process.pid), 10), {}, "programs")
+    return f"killed {killed} times, it is there again each time: blue's action then took {took:.1f} s"
+
+
+# What opens outputs.
+
+
+def opener_stopped(stage):
+    """What opens outputs for the server is stopped (SIGSTOP), again and again."""
+    if not has_leases():
+        raise Skipped("the system has no leases, so the server opens outputs itself")
+    with stage.serve() as (server, red):
+        for _ in range(3):
+            os.kill(stage.helper(server, programs.OPENS_OUTPUTS), signal.SIGSTOP)
+            result = stage.runs(red, "printf a > a; printf b > b", files=["a", "b"])
+            expect(result.files, {"a": (m.digest(b"a"), False), "b": (m.digest(b"b"), False)}, "output files")
+        took = stage.blue_runs(server)
+        stage.nothing_left(server)
+    return f"another one takes its place: blue's action then took {took:.1f} s"
+
+
+def opener_killed(stage):
+    """What opens outputs for the server is killed fifty times a second."""
+    if not has_leases():
+        raise Skipped("the system has no leases, so the server opens outputs itself")
+    names = [f"f{number}" for number in range(20)]
+    expected = {name: (m.digest(name.encode()), False) for name in names}
+    killed = 0
+    with stage.serve() as (server, red), concurrent.futures.ThreadPoolExecutor(1) as pool:
+        for _ in range(10):
+            action = stage.action(f"for n in {' '.join(names)}; do printf $n > $n; done", files=names)
+            done = pool.submit(red.execute, action)
+            while not done.done():
+                for helper in programs.helpers(stage.folder, server.process.pid, programs.OPENS_OUTPUTS):
+                    with contextlib.suppress(ProcessLookupError):
+                        os.kill(helper, signal.SIGKILL)
+                        killed += 1
+                time.sleep(0.02)
+            expect(done.result().result and done.result().result.files, expected, "output files")
+        took = stage.blue_runs(server)
+        stage.nothing_left(server)
     return f"killed {killed} times, it is there again each time: blue's action then took {took:.1f} s"
 
 

@@ -38,12 +38,16 @@ def running(folder, server=None):
     return found
 
 
-def helpers(folder, server):
-    """The children of a server that are no programs of actions: numbers and command lines."""
+# What the command line of the shell has that ends sessions, and that of the one that opens outputs.
+ENDS_SESSIONS, OPENS_OUTPUTS = "kill -s", "printf -"
+
+
+def helpers(folder, server, word=""):
+    """The children of a server that are no programs of actions and have the word: numbers and command lines."""
     children = [int(name) for name in os.listdir("/proc") if name.isdigit() and _state(name)[1] == server]
     actions = running(folder, server)
     told = {each: _read(f"/proc/{each}/cmdline").replace(b"\0", b" ").decode(errors="replace") for each in children}
-    return {each: text for each, text in told.items() if text and each not in actions}
+    return {each: text for each, text in told.items() if text and word in text and each not in actions}
 
 
 def zombies(server):

@@ -6,20 +6,10 @@ import subprocess
 import tempfile
 
 
-# What a server with slots and no launcher says at its start, where the system has leases.
-OF_LEASES = (
-    "remoted: an action can stop the server for 45 seconds (fs.lease-break-time) by a lease on each of its outputs: "
-    "end that by sysctl fs.leases-enable=0, or by --launcher sandbox"
-)
-
-
-def lease_seconds():
-    """For how long a lease of an action's keeps others waiting; 0 where the system has none."""
-    numbers = []
-    for name in ["leases-enable", "lease-break-time"]:
-        with open(f"/proc/sys/fs/{name}") as file:
-            numbers.append(int(file.read()))
-    return numbers[1] if numbers[0] else 0
+def has_leases():
+    """Whether a program can take a lease on a file, which keeps whoever opens that waiting."""
+    with open("/proc/sys/fs/leases-enable") as file:
+        return int(file.read()) != 0
 
 
 def free_ports(count):
@@ -102,13 +92,7 @@ class Server:
         return self.process.poll() is None
 
     def said(self):
-        """The lines on standard error so far, but for that on leases, which most hosts have."""
-        return [line for line in self._lines() if line != OF_LEASES]
-
-    def tells_of_leases(self):
-        return OF_LEASES in self._lines()
-
-    def _lines(self):
+        """The lines on standard error so far."""
         size = os.fstat(self.errors.fileno()).st_size
         return os.pread(self.errors.fileno(), size, 0).decode().splitlines()
 

@@ -201,12 +201,13 @@ class Stage:
         programs.settled(lambda: not holds(), seconds * self.slow)
         expect(bool(holds()), True, what)
 
-    def helper(self, server):
-        """The number of the process by which the server ends sessions, once there is one."""
-        found = programs.settled(lambda: not programs.helpers(self.folder, server.process.pid), 5 * self.slow)
-        helpers = programs.helpers(self.folder, server.process.pid)
+    def helper(self, server, word):
+        """The number of the server's helper whose command line has the word, once there is one."""
+        look = lambda: programs.helpers(self.folder, server.process.pid, word)
+        found = programs.settled(lambda: not look(), 5 * self.slow)
+        helpers = look()
         if found or not helpers:
-            raise Skipped("the server has no helper")
+            raise Skipped("the server has no such helper")
         return min(helpers)
 
     def end_programs(self):

@@ -137,6 +137,13 @@ impl Directory {
         Ok(path)
     }
 
+    /// A line that tells another process of this user a path to what has this name in this directory,
+    /// or to that itself, `.`, as long as it is open. The name has no line's end.
+    pub(crate) fn line_of(&self, alloc: Global, name: &str) -> Result<String, AllocError> {
+        let (process, descriptor) = (libc::getpid(), self.descriptor);
+        format!(in alloc; "/proc/{process}/fd/{descriptor}/{name}\n")
+    }
+
     fn path_of_bytes(&self, alloc: Global, name: &[u8]) -> io::Result<Vec<u8>> {
         if !is_of_entry(name) {
             return Err(io::Error::from(ErrorKind::InvalidFilename));

@@ -16,6 +16,9 @@ const EXECUTABLE_BITS: u32 = 0o111;
 /// At how many entries of a directory it is looked at most.
 const MOST_SEEN: u32 = 30_000;
 
+/// What a file is called for as long as it is opened by another name.
+pub(crate) const LINKED: &str = "linked";
+
 /// What is told of what stands at a path, a link not followed, where anything does.
 pub(crate) fn found_at<R: Files>(rt: &R, path: &str) -> io::Result<Option<Metadata>> {
     match fs::symlink_metadata(rt, path) {
@@ -72,7 +75,7 @@ pub(crate) fn open_to_read(
     rt: &HostRuntime,
     directory: &Directory,
     name: &str,
-    aside: &str,
+    aside: &Directory,
 ) -> io::Result<File> {
     let path = directory.path_of(rt.alloc(), name)?;
     match open_regular(rt, path.as_str(), OpenOptions::new().read(true).write(true)) {
@@ -107,10 +110,11 @@ pub(crate) fn open_regular(rt: &HostRuntime, path: &str, how: &OpenOptions) -> i
 
 /// Opens what stands at a path by another name for it, which it has for that time alone. That name
 /// is given to what stands there itself, and not to what a link leads to.
-fn open_linked(rt: &HostRuntime, path: &str, aside: &str) -> io::Result<File> {
-    fs::hard_link(rt, path, aside)?;
-    let answer = open_regular(rt, aside, OpenOptions::new().read(true));
-    fs::remove_file(rt, aside)?;
+fn open_linked(rt: &HostRuntime, path: &str, aside: &Directory) -> io::Result<File> {
+    let linked = aside.path_of(rt.alloc(), LINKED)?;
+    fs::hard_link(rt, path, linked.as_str())?;
+    let answer = open_regular(rt, linked.as_str(), OpenOptions::new().read(true));
+    fs::remove_file(rt, linked.as_str())?;
     answer
 }
 

@@ -8,6 +8,7 @@ use crate::entering::{Entered, Entrance};
 use crate::files::{
     Kept, again, found_at, is_absence, list_in, look_in, open_to_add, open_to_read, read_part,
 };
+use crate::opener::Opener;
 use crate::paths::{aside_name, left_path, node_path, parted, root_name};
 use crate::removing::Removal;
 use crate::work::Work;
@@ -23,15 +24,14 @@ const FILE_MODE: u32 = 0o644;
 
 const EXECUTABLE_MODE: u32 = 0o755;
 
-/// What a file is called for as long as it is opened by another name.
-const LINKED: &str = "linked";
-
 /// Folders in the folder of a start, and what is open there. Paths go from that on.
 #[derive(Drop)]
 struct Folders<'a> {
     rt: &'a HostRuntime,
     work: Work,
     entrance: Entrance<'a>,
+    /// What opens files that a run left, where a program may have leases on them.
+    opener: Option<Opener<'a>>,
     /// The file that was made last. It is closed before a program starts, as one that is open to be
     /// written cannot be executed.
     made: Option<Kept>,
@@ -229,8 +229,10 @@ impl<'a> Folders<'a> {
         let start = self.work.start()?;
         let entered = self.entrance.enter(start, above)?;
         let aside = start.open_in(aside_name(alloc, run)?.as_bytes())?;
-        let linked = aside.path_of(alloc, LINKED)?;
-        let answer = open_to_read(self.rt, &entered.directory, name, linked.as_str());
+        let answer = match &mut self.opener {
+            Some(opener) => opener.open(&entered.directory, name, &aside),
+            None => open_to_read(self.rt, &entered.directory, name, &aside),
+        };
         self.entrance.keep(entered);
         answer
     }
@@ -274,12 +276,24 @@ impl<'a> HostFolder<'a> {
                 rt,
                 work,
                 entrance: Entrance::new(rt),
+                opener: None,
                 made: None,
                 read: None,
                 moved: 0,
             },
             faults: 0,
         }
+    }
+
+    /// From now on no lease on a file that a run left keeps the server waiting, if that is possible
+    /// here. Whether it is.
+    pub fn guard_against_leases(&mut self) -> io::Result<bool> {
+        let mut opener = Opener::new(self.folders.rt);
+        let can_open = opener.can_open(self.folders.work.start()?)?;
+        if can_open {
+            self.folders.opener = Some(opener);
+        }
+        Ok(can_open)
     }
 
     /// Counts a call that failed.

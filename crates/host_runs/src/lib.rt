@@ -10,6 +10,7 @@ mod folder;
 mod host;
 mod launching;
 mod laws;
+mod opener;
 mod paths;
 mod processes;
 mod programs;

@@ -32,6 +32,7 @@ struct Known {
 struct Status {
     session: u32,
     is_alive: bool,
+    doing: Doing,
 }
 
 /// The processes that were found last, and the session of each.
@@ -147,6 +148,25 @@ fn is_gone(error: &io::Error) -> bool {
     error.kind() == ErrorKind::NotFound || error.raw_os_error() == Some(NO_PROCESS)
 }
 
+/// What a process does.
+#[derive(Clone, Copy, PartialEq, Eq)]
+pub(crate) enum Doing {
+    /// It runs, or would if it had a processor, or waits for a disk.
+    Runs,
+    /// It waits for somebody.
+    Waits,
+    /// It was stopped, or has ended.
+    Nothing,
+}
+
+/// What a process does now.
+pub(crate) fn doing_of(rt: &HostRuntime, process: u32) -> io::Result<Doing> {
+    match status_of(rt, process)? {
+        Some(status) => Ok(status.doing),
+        None => Ok(Doing::Nothing),
+    }
+}
+
 /// What is shown of a process, if it has not gone. One that is another user's may be hidden.
 fn status_of(rt: &HostRuntime, process: u32) -> io::Result<Option<Status>> {
     match read_status(rt, process) {
@@ -155,6 +175,7 @@ fn status_of(rt: &HostRuntime, process: u32) -> io::Result<Option<Status>> {
         Err(error) if error.kind() == ErrorKind::PermissionDenied => Ok(Some(Status {
             session: NO_SESSION,
             is_alive: false,
+            doing: Doing::Nothing,
         })),
         Err(error) => Err(error),
     }
@@ -182,7 +203,21 @@ fn status_by(line: &[u8]) -> Option<Status> {
     let state = words.next()?;
     let session = words.nth(2)?.parse::<u32>().ok()?;
     let is_alive = !matches!(state, "Z" | "X");
-    Some(Status { session, is_alive })
+    let doing = doing_by(state);
+    Some(Status {
+        session,
+        is_alive,
+        doing,
+    })
+}
+
+/// What a letter for a state tells.
+fn doing_by(state: &str) -> Doing {
+    match state {
+        "S" => Doing::Waits,
+        "R" | "D" | "I" => Doing::Runs,
+        _ => Doing::Nothing,
+    }
 }
 
 fn behind_name(line: &[u8]) -> Option<&str> {

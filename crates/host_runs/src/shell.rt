@@ -24,11 +24,12 @@ const MOST_ANSWERS: usize = 512;
 const MOST_SECONDS: u64 = 5;
 
 /// Whether a call failed since it would have had to wait.
-fn would_wait(error: &io::Error) -> bool {
+pub(crate) fn would_wait(error: &io::Error) -> bool {
     error.kind() == ErrorKind::WouldBlock
 }
 
-fn keep_from_waiting<P: AsRawFd>(end: &P) -> io::Result<()> {
+/// Makes calls on an end of a pipe fail where they would wait.
+pub(crate) fn keep_from_waiting<P: AsRawFd>(end: &P) -> io::Result<()> {
     if os::set_nonblocking(end.as_raw_fd(), true) == 0 {
         Ok(())
     } else {
@@ -36,9 +37,15 @@ fn keep_from_waiting<P: AsRawFd>(end: &P) -> io::Result<()> {
     }
 }
 
+/// Starts a shell with a script, and with pipes to it and from it.
+pub(crate) fn spawned(rt: &HostRuntime, script: &str) -> io::Result<Child> {
+    let mut command = Command::new(rt.alloc(), SESSION)?;
+    launch(rt, script, &mut command)
+}
+
 /// Starts the shell, as what `SESSION` is told to start.
-fn launch(rt: &HostRuntime, command: &mut Command) -> io::Result<Child> {
-    command.arg("--")?.arg(SHELL)?.arg("-c")?.arg(SCRIPT)?;
+fn launch(rt: &HostRuntime, script: &str, command: &mut Command) -> io::Result<Child> {
+    command.arg("--")?.arg(SHELL)?.arg("-c")?.arg(script)?;
     command.env_clear();
     command
         .stdin(Stdio::piped())
@@ -84,7 +91,7 @@ impl Drop for Shell {
 
 impl Shell {
     pub(crate) fn start(rt: &HostRuntime, now: Instant) -> io::Result<Shell> {
-        let mut child = Shell::spawned(rt)?;
+        let mut child = spawned(rt, SCRIPT)?;
         let (Some(questions), Some(answers)) = (child.stdin.take(), child.stdout.take()) else {
             return Err(io::Error::from(ErrorKind::BrokenPipe));
         };
@@ -101,11 +108,6 @@ impl Shell {
         keep_from_waiting(&shell.questions)?;
         keep_from_waiting(&shell.answers)?;
         Ok(shell)
-    }
-
-    fn spawned(rt: &HostRuntime) -> io::Result<Child> {
-        let mut command = Command::new(rt.alloc(), SESSION)?;
-        launch(rt, &mut command)
     }
 
     /// Whether it can be asked on: it has not ended, and leaves no question without an answer for

@@ -2,7 +2,8 @@
 
 use crate::serve_ports::is_memory;
 use host_runs::{
-    Complaint, Work, WorkFault, begin_work, has_leases, has_sessions, most_open, sees_ends,
+    Complaint, HostFolder, Work, WorkFault, begin_work, has_leases, has_sessions, most_open,
+    sees_ends,
 };
 use instance_words::Instances;
 use std::alloc::{AllocError, Global};
@@ -88,16 +89,25 @@ pub fn can_run<E: Write>(rt: &HostRuntime, errors: &mut E) -> io::Result<bool> {
     }
 }
 
-/// Tells where a program of an action can let the server wait.
-pub fn tell_leases<E: Write>(rt: &HostRuntime, errors: &mut E) -> io::Result<()> {
-    if has_leases(rt)? {
-        writeln!(
+/// Sees to it that no lease of a program of an action keeps the server waiting. Where that is not
+/// possible here, it is told.
+pub fn guard_against_leases<E: Write>(
+    rt: &HostRuntime,
+    folder: &mut HostFolder<'_>,
+    errors: &mut E,
+) -> io::Result<()> {
+    if !has_leases(rt)? {
+        return Ok(());
+    }
+    match folder.guard_against_leases() {
+        Ok(true) => Ok(()),
+        Err(error) if is_memory(&error) => Err(error),
+        _ => writeln!(
             errors,
             "remoted: an action can stop the server for 45 seconds (fs.lease-break-time) by a lease on \
              each of its outputs: end that by sysctl fs.leases-enable=0, or by --launcher sandbox"
-        )?;
+        ),
     }
-    Ok(())
 }
 
 /// A place for the runs of this start; where there is none, that is told, and there is no answer.

@@ -1,6 +1,8 @@
 //! `remoted serve`.
 
-use crate::beginning::{begin, can_open, can_run, keep_freed_memory, slots_of, tell_leases};
+use crate::beginning::{
+    begin, can_open, can_run, guard_against_leases, keep_freed_memory, slots_of,
+};
 use crate::operator::Operator;
 use crate::standard_error::StandardError;
 use crate::watching::{MetricsFile, StopFile};
@@ -130,22 +132,22 @@ fn place_of<E: Write>(
     if !can_run(rt, errors)? {
         return Ok(None);
     }
-    let work = begin(rt, service.work, errors)?;
-    if work.is_some() && service.launcher.is_none() {
-        tell_leases(rt, errors)?;
-    }
-    Ok(work)
+    begin(rt, service.work, errors)
 }
 
 /// Runs in this place, of the jobs of these instances.
-fn job_runner<'a>(
+fn job_runner<'a, E: Write>(
     rt: &'a HostRuntime,
     work: Work,
     launcher: Option<Launcher>,
     instances: &Instances,
+    errors: &mut E,
 ) -> io::Result<JobRunner<HostFolder<'a>, HostPrograms<'a>>> {
     let path = String::from_str(rt.alloc(), work.path())?;
-    let folder = HostFolder::new(rt, work);
+    let mut folder = HostFolder::new(rt, work);
+    if slots_of(instances) > 0 {
+        guard_against_leases(rt, &mut folder, errors)?;
+    }
     let programs = HostPrograms::new(rt, path, launcher);
     Ok(JobRunner::new(rt.alloc(), folder, programs, slots_of(instances))?)
 }
@@ -276,7 +278,7 @@ fn serve_instances<O: Write, E: Write>(
         return Ok(FAILED);
     };
     let start = String::from_str(rt.alloc(), work.path())?;
-    let mut runs = job_runner(rt, work, launcher, instances)?;
+    let mut runs = job_runner(rt, work, launcher, instances, errors)?;
     announce(instances, output)?;
     let ended = serve_turns(rt, instances, &mut sockets, &mut runs, service);
     remove_start(rt, start.as_str());

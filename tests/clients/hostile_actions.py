@@ -43,6 +43,7 @@ CASES = [
     folders.devices_exchanged,
     folders.removal_exchanged,
     folders.leased,
+    folders.starved,
     folders.deep_chain,
     folders.wide_folders,
     folders.names_of_removal,

@@ -59,6 +59,28 @@ time.sleep(60)
 """
 
 
+# Lets the shells that open outputs have idle processors alone, and leaves daemons behind that take all of them.
+STARVING = """import os, time
+for name in filter(str.isdigit, os.listdir("/proc")):
+    try:
+        with open(f"/proc/{name}/cmdline", "rb") as file:
+            words = file.read().split(b"\\0")
+        if words[0] == b"/bin/sh" and any(b"printf -" in word for word in words):
+            os.sched_setscheduler(int(name), os.SCHED_IDLE, os.sched_param(0))
+    except OSError:
+        pass
+open("o", "w").close()
+for _ in range(24):
+    if os.fork() == 0:
+        os.setsid()
+        end = time.monotonic() + 8
+        while time.monotonic() < end:
+            pass
+        os._exit(0)
+time.sleep(0.3)
+"""
+
+
 def python(script, *words):
     return [PYTHON, "-c", script, *map(str, words)]
 
@@ -246,6 +268,18 @@ def leased(stage):
         stage.blue_runs(server)
         stage.nothing_left(server)
     return "a run whose output has a write lease fails, and nobody waits" if waiting else "the system has no leases"
+
+
+def starved(stage):
+    """Programs take the processor from the shell that opens outputs."""
+    if not has_leases():
+        raise Skipped("the system has no leases, so the server opens outputs itself")
+    with stage.serve(longest=1.5) as (server, red):
+        codes = {red.execute(stage.action(python(STARVING), files=["o"])).status.code for _ in range(3)}
+        expect(codes <= {0, 13}, True, f"statuses {codes}")
+        stage.end_programs()
+        stage.blue_runs(server)
+    return "a known limit: it may keep all waiting for a second each time, and then the run fails"
 
 
 # Outputs that are no files.

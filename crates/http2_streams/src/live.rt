@@ -1,6 +1,6 @@
 //! The live streams as a list.
 
-ghost use Rattle.std.specs.Prelude.{◌≡◌, ◌≢◌, ◌<◌, ◌≤◌, ◌==◌, ◌&&◌, not, true, false, filter, length, map, vec_capacity};
+ghost use Rattle.std.specs.Prelude.{◌≡◌, ◌≢◌, ◌<◌, ◌≤◌, ◌==◌, ◌&&◌, not, true, false, length, map, vec_capacity};
 ghost use Rattle.std.specs.List.{list_any};
 ghost use Rattle.http2_flow.specs.Credit.{window_limit};
 ghost use Rattle.http2_streams.specs.Rules.{number_is, receives, overflows, is_above};
@@ -51,25 +51,17 @@ pub(crate) fn end_by(live: &mut Vec<Stream>, side: Side, number: u32)
     ensures few { length live.new.items ≤ length live.old.items }
     ensures room { vec_capacity live.new ≡ vec_capacity live.old }
 {
-    remove_ended(live, side.other(), number);
-    mark_ended(live, side, number);
-}
-
-fn remove_ended(live: &mut Vec<Stream>, side: Side, number: u32)
-    ensures list { live.new.items ≡ filter
-        (λ x. not (x.number == number && is_ended_by side x)) live.old.items }
-    ensures few { length live.new.items ≤ length live.old.items }
-    ensures room { vec_capacity live.new ≡ vec_capacity live.old }
-{
-    live.retain(|stream| !stream.is_ended(side, number));
-}
-
-fn mark_ended(live: &mut [Stream], side: Side, number: u32)
-    ensures { live.new ≡ map (with_end side number) live.old }
-{
-    for stream in live.iter_mut() {
-        stream.end_by(side, number);
-    }
+    let other = side.other();
+    live.retain_mut(
+        |stream: &mut Stream| -> bool
+            ensures { (result ≡ not (stream.old.number == number && is_ended_by other stream.old))
+                × (stream.new ≡ with_end side number stream.old) }
+        {
+            let is_over = stream.is_ended(other, number);
+            stream.end_by(side, number);
+            !is_over
+        },
+    );
 }
 
 pub(crate) fn grant(live: &mut [Stream], number: u32, increment: u32)

@@ -79,14 +79,17 @@ fn names_request_pseudo(name: &[u8]) -> bool
         || name == b":path".as_slice()
 }
 
+/// It is asked of each field of each request: names of other lengths are not gone over.
 fn names_connection_specific(name: &[u8]) -> bool
     ensures { result ≡ is_connection_specific name.now }
 {
-    name == b"connection".as_slice()
-        || name == b"proxy-connection".as_slice()
-        || name == b"keep-alive".as_slice()
-        || name == b"transfer-encoding".as_slice()
-        || name == b"upgrade".as_slice()
+    match name.len() {
+        7 => name == b"upgrade".as_slice(),
+        10 => name == b"connection".as_slice() || name == b"keep-alive".as_slice(),
+        16 => name == b"proxy-connection".as_slice(),
+        17 => name == b"transfer-encoding".as_slice(),
+        _ => false,
+    }
 }
 
 fn has_allowed_te(name: &[u8], value: &[u8]) -> bool

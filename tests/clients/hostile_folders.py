@@ -59,25 +59,33 @@ time.sleep(60)
 """
 
 
-# Lets the shells that open outputs have idle processors alone, and leaves daemons behind that take all of them.
+# Lets each shell that opens outputs have idle processors alone, for some seconds, and leaves daemons behind that take all
+# of them.
 STARVING = """import os, time
-for name in filter(str.isdigit, os.listdir("/proc")):
-    try:
-        with open(f"/proc/{name}/cmdline", "rb") as file:
-            words = file.read().split(b"\\0")
-        if words[0] == b"/bin/sh" and any(b"printf -" in word for word in words):
-            os.sched_setscheduler(int(name), os.SCHED_IDLE, os.sched_param(0))
-    except OSError:
-        pass
-open("o", "w").close()
+end = time.monotonic() + 8
+def forked():
+    if os.fork():
+        return False
+    os.setsid()
+    return True
 for _ in range(24):
-    if os.fork() == 0:
-        os.setsid()
-        end = time.monotonic() + 8
+    if forked():
         while time.monotonic() < end:
             pass
         os._exit(0)
-time.sleep(0.3)
+open("o", "w").close()
+if forked():
+    while time.monotonic() < end:
+        for name in filter(str.isdigit, os.listdir("/proc")):
+            try:
+                with open(f"/proc/{name}/cmdline", "rb") as file:
+                    words = file.read().split(b"\\0")
+                if words[0] == b"/bin/sh" and any(b"printf -" in word for word in words):
+                    os.sched_setscheduler(int(name), os.SCHED_IDLE, os.sched_param(0))
+            except OSError:
+                pass
+    os._exit(0)
+time.sleep(0.5)
 """
 
 
@@ -274,12 +282,14 @@ def starved(stage):
     """Programs take the processor from the shell that opens outputs."""
     if not has_leases():
         raise Skipped("the system has no leases, so the server opens outputs itself")
-    with stage.serve(longest=1.5) as (server, red):
-        codes = {red.execute(stage.action(python(STARVING), files=["o"])).status.code for _ in range(3)}
+    with stage.serve(slots=(8, 2)) as (server, red):
+        numbers = [red.start(stage.action(python(STARVING), files=["o"])) for _ in range(3)]
+        stage.blue_runs(server)
+        codes = {red.operations(number)[-1].status.code for number in numbers}
         expect(codes <= {0, 13}, True, f"statuses {codes}")
         stage.end_programs()
         stage.blue_runs(server)
-    return "a known limit: it may keep all waiting for a second each time, and then the run fails"
+    return "a run whose output cannot be opened fails, and nobody else waits"
 
 
 # Outputs that are no files.

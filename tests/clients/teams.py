@@ -34,9 +34,9 @@ class Skipped(Exception):
 class Neighbour:
     """Makes blue's calls again and again, and keeps what was wrong with them and how long the slowest waited."""
 
-    def __init__(self, port, slow, longest=LONGEST_WAIT):
-        self.port, self.slow, self.allowed = port, slow, longest
-        self.given_up = max(GIVEN_UP, 2 * longest) * slow
+    def __init__(self, port, slow):
+        self.port, self.slow = port, slow
+        self.given_up = GIVEN_UP * slow
         self.count, self.longest, self.wrong = 0, 0.0, None
         self.is_over = threading.Event()
         self.thread = threading.Thread(target=self._go, daemon=True)
@@ -84,8 +84,8 @@ class Neighbour:
 
     def check(self):
         expect(self.wrong, None, "blue's calls")
-        waited = f"blue waited {1000 * self.longest:.0f} ms of at most {1000 * self.allowed * self.slow:.0f} ms"
-        expect(self.longest <= self.allowed * self.slow, True, waited)
+        waited = f"blue waited {1000 * self.longest:.0f} ms of at most {1000 * LONGEST_WAIT * self.slow:.0f} ms"
+        expect(self.longest <= LONGEST_WAIT * self.slow, True, waited)
 
 
 class Stage:
@@ -113,12 +113,12 @@ class Stage:
         return {} if self.user is None else {"user": self.user, "group": self.user, "extra_groups": []}
 
     @contextlib.contextmanager
-    def serve(self, slots=(2, 2), heard=True, longest=LONGEST_WAIT, **more):
+    def serve(self, slots=(2, 2), heard=True, **more):
         """A server with both teams, a connection of red's, and blue's calls beside: all that goes on is looked at."""
         instances = [("red", 2 * 10**8, slots[0]), ("blue", 2 * 10**8, slots[1])]
         more.setdefault("environment", {"SECRET": "of the server"})
         with Server(self.program, instances, 2**62, folder=self.work, heard=heard, **self.as_user(), **more) as server:
-            neighbour = server.neighbour = self.neighbour = Neighbour(server.ports[1], self.slow, longest)
+            neighbour = server.neighbour = self.neighbour = Neighbour(server.ports[1], self.slow)
             try:
                 with neighbour, Peer(server.ports[0], 60 * self.slow) as red:
                     yield server, red

@@ -29,6 +29,8 @@ struct Node {
 pub struct FakeFolder {
     alloc: Global,
     nodes: Vec<Node>,
+    /// Whether the file that is read next was asked for.
+    was_asked: bool,
     pub calls: Calls,
 }
 
@@ -173,6 +175,7 @@ impl FakeFolder {
         FakeFolder {
             alloc,
             nodes: Vec::new(alloc),
+            was_asked: false,
             calls: Calls::new(failing),
         }
     }
@@ -270,6 +273,18 @@ impl Folder for FakeFolder {
         let mut entries = entries(self.alloc, &self.nodes, place.run, whole.as_str());
         entries.truncate(most);
         Ok(entries)
+    }
+
+    /// It is asked twice before each part is read.
+    fn is_ready(
+        &mut self,
+        _place: &Place,
+        _path: &str,
+        _above: &[String],
+        _name: Option<&str>,
+    ) -> bool {
+        self.was_asked = !self.was_asked;
+        !self.was_asked
     }
 
     fn read(

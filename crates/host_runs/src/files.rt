@@ -204,12 +204,16 @@ impl Kept {
     pub(crate) fn new(path: String, file: File) -> Kept {
         Kept { path, file }
     }
+
+    pub(crate) fn is_at(&self, path: &str) -> bool {
+        self.path.as_str() == path
+    }
 }
 
 /// The kept file, where it is that of a path.
 pub(crate) fn again(kept: Option<Kept>, path: &str) -> Option<File> {
     let kept = kept?;
-    if kept.path.as_str() == path {
+    if kept.is_at(path) {
         let Kept { path, file } = kept;
         drop(path);
         Some(file)

@@ -8,13 +8,13 @@ use crate::entering::{Entered, Entrance};
 use crate::files::{
     Kept, again, found_at, is_absence, list_in, look_in, open_to_add, open_to_read, read_part,
 };
-use crate::opener::Opener;
-use crate::paths::{aside_name, left_path, node_path, parted, root_name};
+use crate::opener::{Opener, Target};
+use crate::paths::{aside_name, file_path, left_path, node_path, parted, root_name};
 use crate::removing::Removal;
 use crate::work::Work;
 use runner::{Entry, FileFacts, Folder, Found, Place, RunKey};
 use std::fs::{File, OpenOptions, Permissions};
-use std::io::{self, Write};
+use std::io::{self, ErrorKind, Write};
 use std::os::unix::fs::{OpenOptionsExt, PermissionsExt, symlink};
 use std::rc::RcStr;
 use tree_nodes::NodeKind;
@@ -35,8 +35,10 @@ struct Folders<'a> {
     /// The file that was made last. It is closed before a program starts, as one that is open to be
     /// written cannot be executed.
     made: Option<Kept>,
-    /// The file of which a part was read last.
+    /// The file of which a part was read last, or is to be read next.
     read: Option<Kept>,
+    /// Why the file that is to be read next could not be opened, if it could not.
+    unopened: Option<io::Error>,
     /// How many directories were moved in order to be removed.
     moved: u64,
 }
@@ -199,6 +201,32 @@ impl<'a> Folders<'a> {
         answer
     }
 
+    /// Whether a file is open, where somebody else may keep whoever opens it waiting.
+    fn is_ready(
+        &mut self,
+        place: &Place,
+        path: &str,
+        above: &[String],
+        name: Option<&str>,
+    ) -> io::Result<bool> {
+        if self.opener.is_none() {
+            return Ok(true);
+        }
+        let path = file_path(self.rt.alloc(), place, path, above, name)?;
+        if self
+            .read
+            .as_ref()
+            .is_some_and(|kept| kept.is_at(path.as_str()))
+        {
+            return Ok(true);
+        }
+        let Some(file) = self.open_left(place.run, path.as_str())? else {
+            return Ok(false);
+        };
+        self.read = Some(Kept::new(path, file));
+        Ok(true)
+    }
+
     fn read(
         &mut self,
         place: &Place,
@@ -209,11 +237,17 @@ impl<'a> Folders<'a> {
     ) -> io::Result<Vec<u8>>
         ensures { IfOk result (λ bytes. length bytes.items ≤ most) }
     {
+        if let Some(error) = self.unopened.take() {
+            return Err(error);
+        }
         let alloc = self.rt.alloc();
         let path = left_path(alloc, place, path, names)?;
         let file = match again(self.read.take(), path.as_str()) {
             Some(file) => file,
-            None => self.open_left(place.run, path.as_str())?,
+            None => {
+                let opened = self.open_left(place.run, path.as_str())?;
+                opened.ok_or(io::Error::from(ErrorKind::WouldBlock))?
+            }
         };
         let bytes = read_part(alloc, &file, from, most)?;
         if !bytes.is_empty() {
@@ -222,16 +256,22 @@ impl<'a> Folders<'a> {
         Ok(bytes)
     }
 
-    /// Opens a file that a run left, to read it.
-    fn open_left(&mut self, run: RunKey, path: &str) -> io::Result<File> {
+    /// Opens a file that a run left, to read it, unless it is to be asked for again.
+    fn open_left(&mut self, run: RunKey, path: &str) -> io::Result<Option<File>> {
         let alloc = self.rt.alloc();
         let (above, name) = parted(path);
         let start = self.work.start()?;
         let entered = self.entrance.enter(start, above)?;
         let aside = start.open_in(aside_name(alloc, run)?.as_bytes())?;
         let answer = match &mut self.opener {
-            Some(opener) => opener.open(&entered.directory, name, &aside),
-            None => open_to_read(self.rt, &entered.directory, name, &aside),
+            Some(opener) => opener.open(Target {
+                run,
+                path,
+                directory: &entered.directory,
+                name,
+                aside: &aside,
+            }),
+            None => open_to_read(self.rt, &entered.directory, name, &aside).map(Some),
         };
         self.entrance.keep(entered);
         answer
@@ -240,6 +280,9 @@ impl<'a> Folders<'a> {
     fn remove(&mut self, run: RunKey) -> io::Result<bool> {
         self.made = None;
         self.read = None;
+        if let Some(opener) = &mut self.opener {
+            opener.forget(run)?;
+        }
         self.entrance.leave();
         self.work.clear_some(self.rt);
         let alloc = self.rt.alloc();
@@ -279,6 +322,7 @@ impl<'a> HostFolder<'a> {
                 opener: None,
                 made: None,
                 read: None,
+                unopened: None,
                 moved: 0,
             },
             faults: 0,
@@ -371,6 +415,25 @@ impl<'a> Folder for HostFolder<'a> {
         let answer = self.folders.list(place, path, names, most);
         self.count(&answer);
         answer
+    }
+
+    /// What cannot be opened is told by `read`.
+    fn is_ready(
+        &mut self,
+        place: &Place,
+        path: &str,
+        above: &[String],
+        name: Option<&str>,
+    ) -> bool {
+        let answer = self.folders.is_ready(place, path, above, name);
+        self.folders.unopened = None;
+        match answer {
+            Ok(is_ready) => is_ready,
+            Err(error) => {
+                self.folders.unopened = Some(error);
+                true
+            }
+        }
     }
 
     fn read(

@@ -11,6 +11,7 @@ mod host;
 mod launching;
 mod laws;
 mod opener;
+mod opening_shell;
 mod paths;
 mod processes;
 mod programs;

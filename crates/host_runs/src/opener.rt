@@ -2,173 +2,114 @@
 //! is given back, or for the seconds of `fs.lease-break-time`.
 //!
 //! So a shell opens each first. As long as the shell has it open, nobody gets a lease on it, and the
-//! server opens what the shell has open, which is done at once. The shell alone may have to wait.
+//! server opens what the shell has open, which is done at once. The shell alone may have to wait. The
+//! server asks again later, and serves others meanwhile.
 
 use crate::directory::Directory;
 use crate::files::{LINKED, is_absence};
-use crate::processes::{Doing, doing_of};
-use crate::shell::{keep_from_waiting, spawned, would_wait};
+use crate::opening_shell::{Answer, OpeningShell};
+use runner::RunKey;
 use std::alloc::AllocError;
-use std::fs::{self, File, Metadata, OpenOptions};
-use std::io::{self, ErrorKind, Read, Write};
-use std::os::unix::fs::MetadataExt;
-use std::process::{Child, ChildStdin, ChildStdout};
-use std::thread;
+use std::fs::{self, File, Metadata};
+use std::io::{self, ErrorKind};
+use std::process::Child;
 use std::time::{Duration, Instant};
 
-/// Opens the file at the path of a line, writes an empty line, and has the file open until the next
-/// line comes. Where it cannot open the file, it writes `-`. It starts no process.
-const SCRIPT: &str = "while IFS= read -r path; do
-  { echo; IFS= read -r path; } 9< \"$path\" || printf -
-done";
+/// How often it is looked for an answer at the server's start, where a file is asked for first, and
+/// later.
+const START_PAUSES: u32 = 10_000;
 
-/// The descriptor under which it has a file open.
-const HELD: u32 = 9;
+const FIRST_PAUSES: u32 = 20;
 
-/// Microseconds from one look for an answer to the next.
-const PAUSE: u64 = 20;
+const LATER_PAUSES: u32 = 1;
 
-/// After how many milliseconds without an answer the shell is looked at.
-const LOOKED_AT: u64 = 2;
-
-/// For how many milliseconds it may wait for somebody, and how many it has in all: it may get no
-/// processor for a while.
-const MOST_WAITING: u64 = 20;
-
+/// For how many milliseconds shells are asked to open a file.
 const MOST_MILLISECONDS: u64 = 1_000;
 
-/// How many shells are asked to open one file, where one after another is lost.
-const MOST_SHELLS: u32 = 8;
-
-/// How many are started in so many milliseconds: whoever runs programs can end each at once.
+/// How many shells are started in so many milliseconds: whoever runs programs can end each at once.
 const MOST_STARTS: u32 = 16;
 
 const STARTS_MILLISECONDS: u64 = 250;
 
-/// What the shell answers.
-#[derive(Clone, Copy, PartialEq, Eq)]
-enum Answer {
-    /// It has the file open.
-    Opened,
-    /// It cannot open the file.
-    Refused,
-    /// It waits for somebody.
-    Waits,
-    /// It was stopped or ended.
-    Lost,
+/// How many shells there may be that were killed and have not ended.
+const MOST_KILLED: usize = 16;
+
+/// A file that a run left, and where it stands.
+#[derive(Clone, Copy)]
+pub(crate) struct Target<'a> {
+    pub(crate) run: RunKey,
+    /// From the folder of the start on.
+    pub(crate) path: &'a str,
+    pub(crate) directory: &'a Directory,
+    /// Its name in that.
+    pub(crate) name: &'a str,
+    /// Where it may get another name.
+    pub(crate) aside: &'a Directory,
 }
 
-/// The shell, and the pipes to it and from it. It ends when the first is closed.
-struct OpeningShell {
-    child: Child,
-    questions: ChildStdin,
-    answers: ChildStdout,
+/// A file that is being opened.
+#[derive(Drop)]
+struct Request {
+    run: RunKey,
+    path: String,
+    /// What was found there.
+    found: Metadata,
+    /// The directory in which shells find it, which is open meanwhile.
+    directory: Directory,
+    /// What shells are told.
+    line: String,
+    /// Whether the file has another name in that directory, which is removed in the end.
+    is_linked: bool,
+    /// From when on a shell could be had for it.
+    since: Instant,
+    /// When the shell was told the line, if it was.
+    told: Option<Instant>,
 }
 
-// Written out, so that each exit of a function that owns it has one call in place of one for each
-// part.
-impl Drop for OpeningShell {
-    fn drop(self) {
-        let OpeningShell {
-            child,
-            questions,
-            answers,
-        } = self;
-        drop(child);
-        drop(questions);
-        drop(answers);
+impl Request {
+    fn is_for(&self, target: Target<'_>) -> bool {
+        self.run == target.run && self.path.as_str() == target.path
     }
-}
 
-impl OpeningShell {
-    fn start(rt: &HostRuntime) -> io::Result<OpeningShell> {
-        let mut child = spawned(rt, SCRIPT)?;
-        let (Some(questions), Some(answers)) = (child.stdin.take(), child.stdout.take()) else {
-            return Err(io::Error::from(ErrorKind::BrokenPipe));
+    fn is_late(&self, now: Instant) -> bool {
+        now.duration_since(self.since) >= Duration::from_millis(MOST_MILLISECONDS)
+    }
+
+    /// Opens a file that stands there.
+    fn new(rt: &HostRuntime, target: Target<'_>, now: Instant) -> io::Result<Request> {
+        let alloc = rt.alloc();
+        let path = target.directory.path_of(alloc, target.name)?;
+        let found = fs::symlink_metadata(rt, path.as_str())?;
+        if !found.is_file() {
+            return Err(io::Error::from(ErrorKind::InvalidInput));
+        }
+        // A name with a line's end cannot be told: the file gets another one for that time.
+        let is_linked = target.name.contains('\n');
+        let (directory, name) = if is_linked {
+            let linked = target.aside.path_of(alloc, LINKED)?;
+            fs::hard_link(rt, path.as_str(), linked.as_str())?;
+            (target.aside.again()?, LINKED)
+        } else {
+            (target.directory.again()?, target.name)
         };
-        keep_from_waiting(&questions)?;
-        keep_from_waiting(&answers)?;
-        Ok(OpeningShell {
-            child,
-            questions,
-            answers,
+        let line = directory.line_of(alloc, name)?;
+        Ok(Request {
+            run: target.run,
+            path: String::from_str(alloc, target.path)?,
+            found,
+            directory,
+            line,
+            is_linked,
+            since: now,
+            told: None,
         })
     }
 
-    fn kill(&mut self) {
-        // Where this fails, it has ended.
-        let _ = self.child.kill();
-    }
-
-    fn has_ended(&mut self) -> bool {
-        !matches!(self.child.try_wait(), Ok(None))
-    }
-
-    /// Tells it a line, whole or not at all. Whether it was told that.
-    fn tell(&mut self, line: &str) -> bool {
-        matches!(self.questions.write(line.as_bytes()), Ok(count) if count == line.len())
-    }
-
-    /// Has it open the file at a path.
-    fn open(&mut self, rt: &HostRuntime, line: &str) -> io::Result<Answer> {
-        if !self.tell(line) {
-            return Ok(Answer::Lost);
+    /// Takes the other name away that the file got. Where that fails, the removal of the run does.
+    fn unlink(&self) {
+        if self.is_linked {
+            let _ = self.directory.remove_file(LINKED.as_bytes());
         }
-        self.answer(rt)
-    }
-
-    /// What it answers, in the time that it has.
-    fn answer(&mut self, rt: &HostRuntime) -> io::Result<Answer> {
-        let asked = Instant::now(rt)?;
-        for _ in 0..u32::MAX {
-            if let Some(answer) = self.answer_now() {
-                return Ok(answer);
-            }
-            let time = Instant::now(rt)?.duration_since(asked);
-            if let Some(reason) = self.reason(rt, time)? {
-                // It may have answered just before.
-                return Ok(self.answer_now().unwrap_or(reason));
-            }
-            thread::sleep(rt, Duration::from_micros(PAUSE));
-        }
-        Ok(Answer::Waits)
-    }
-
-    /// Why it is not waited for any longer, if it is not.
-    fn reason(&self, rt: &HostRuntime, time: Duration) -> io::Result<Option<Answer>> {
-        if time < Duration::from_millis(LOOKED_AT) {
-            return Ok(None);
-        }
-        if time >= Duration::from_millis(MOST_MILLISECONDS) {
-            return Ok(Some(Answer::Waits));
-        }
-        match doing_of(rt, self.child.id())? {
-            Doing::Nothing => Ok(Some(Answer::Lost)),
-            Doing::Waits if time >= Duration::from_millis(MOST_WAITING) => Ok(Some(Answer::Waits)),
-            Doing::Waits | Doing::Runs => Ok(None),
-        }
-    }
-
-    fn answer_now(&mut self) -> Option<Answer> {
-        let mut room = [0u8; 1];
-        match self.answers.read(&mut room) {
-            Ok(0) => Some(Answer::Lost),
-            Ok(_) if room == [b'\n'] => Some(Answer::Opened),
-            Ok(_) => Some(Answer::Refused),
-            Err(error) if would_wait(&error) => None,
-            Err(_) => Some(Answer::Lost),
-        }
-    }
-
-    /// Opens what it has open, where that is the file that was found.
-    fn opened(&self, rt: &HostRuntime, found: &Metadata) -> io::Result<File> {
-        let process = self.child.id();
-        let path = format!(in rt.alloc(); "/proc/{process}/fd/{HELD}")?;
-        let held = fs::metadata(rt, path.as_str())?;
-        if !held.is_file() || held.dev() != found.dev() || held.ino() != found.ino() {
-            return Err(io::Error::from(ErrorKind::InvalidInput));
-        }
-        OpenOptions::new().read(true).open(rt, path.as_str())
     }
 }
 
@@ -177,13 +118,14 @@ fn is_of_ended(error: &io::Error) -> bool {
     is_absence(error) || error.kind() == ErrorKind::PermissionDenied
 }
 
-/// What opens files of programs.
+/// What opens files of programs, one after another.
 #[derive(Drop)]
 pub(crate) struct Opener<'a> {
     rt: &'a HostRuntime,
     shell: Option<OpeningShell>,
-    /// Those that were killed, until they have ended.
-    killed: Vec<OpeningShell>,
+    request: Option<Request>,
+    /// Shells that were killed, until they have ended.
+    killed: Vec<Child>,
     /// From when on it is counted how many are started.
     counted: Option<Instant>,
     starts: u32,
@@ -195,35 +137,23 @@ impl<'a> Opener<'a> {
         Opener {
             rt,
             shell: None,
+            request: None,
             killed: Vec::new(rt.alloc()),
             counted: None,
             starts: 0,
         }
     }
 
-    /// A new shell, unless too many were started just before.
-    fn started(&mut self) -> io::Result<OpeningShell> {
-        let now = Instant::now(self.rt)?;
-        let is_recent = |then: Instant| {
-            now.duration_since(then) < Duration::from_millis(STARTS_MILLISECONDS)
-        };
-        if !self.counted.is_some_and(is_recent) {
-            self.counted = Some(now);
-            self.starts = 0;
-        }
-        if self.starts >= MOST_STARTS {
-            return Err(io::Error::from(ErrorKind::BrokenPipe));
-        }
-        self.starts = self.starts.saturating_add(1);
-        OpeningShell::start(self.rt)
-    }
-
     /// Whether a shell opens what is open here: the system may not show it that.
     pub(crate) fn can_open(&mut self, directory: &Directory) -> io::Result<bool> {
-        let mut shell = self.started()?;
+        let mut shell = OpeningShell::start(self.rt)?;
         let line = directory.line_of(self.rt.alloc(), ".")?;
-        let answer = shell.open(self.rt, line.as_str())?;
-        if answer == Answer::Opened && shell.tell("\n") {
+        let answer = if shell.tell(line.as_str()) {
+            shell.answer(self.rt, START_PAUSES, Duration::ZERO)?
+        } else {
+            None
+        };
+        if answer == Some(Answer::Opened) && shell.tell("\n") {
             self.shell = Some(shell);
             return Ok(true);
         }
@@ -231,57 +161,104 @@ impl<'a> Opener<'a> {
         Ok(false)
     }
 
-    /// Opens the file of this name in a directory to read it.
-    pub(crate) fn open(
-        &mut self,
-        directory: &Directory,
-        name: &str,
-        aside: &Directory,
-    ) -> io::Result<File> {
-        if !name.contains('\n') {
-            return self.open_told(directory, name);
+    /// Opens a file to read it. There is none while it is being opened, and while another one is: it
+    /// is to be asked for again.
+    pub(crate) fn open(&mut self, target: Target<'_>) -> io::Result<Option<File>> {
+        let now = Instant::now(self.rt)?;
+        let mut request = match self.request.take() {
+            Some(request) if request.is_for(target) => request,
+            Some(request) if !request.is_late(now) => {
+                self.request = Some(request);
+                return Ok(None);
+            }
+            Some(request) => {
+                self.give_up(request)?;
+                Request::new(self.rt, target, now)?
+            }
+            None => Request::new(self.rt, target, now)?,
+        };
+        let answer = self.go_on(&mut request, now);
+        if matches!(answer, Ok(None)) {
+            self.request = Some(request);
+        } else {
+            request.unlink();
         }
-        // Such a name cannot be told: the file gets another one, which it has for that time alone.
-        let alloc = self.rt.alloc();
-        let path = directory.path_of(alloc, name)?;
-        let linked = aside.path_of(alloc, LINKED)?;
-        fs::hard_link(self.rt, path.as_str(), linked.as_str())?;
-        let answer = self.open_told(aside, LINKED);
-        fs::remove_file(self.rt, linked.as_str())?;
         answer
     }
 
-    fn open_told(&mut self, directory: &Directory, name: &str) -> io::Result<File> {
-        let alloc = self.rt.alloc();
-        let path = directory.path_of(alloc, name)?;
-        let found = fs::symlink_metadata(self.rt, path.as_str())?;
-        if !found.is_file() {
-            return Err(io::Error::from(ErrorKind::InvalidInput));
-        }
-        let line = directory.line_of(alloc, name)?;
-        for _ in 0..MOST_SHELLS {
-            if let Some(file) = self.try_open(&found, line.as_str())? {
-                return Ok(file);
+    /// Opens no file of this run any more.
+    pub(crate) fn forget(&mut self, run: RunKey) -> Result<(), AllocError> {
+        match self.request.take() {
+            Some(request) if request.run == run => self.give_up(request),
+            kept => {
+                self.request = kept;
+                Ok(())
             }
         }
-        Err(io::Error::from(ErrorKind::BrokenPipe))
     }
 
-    /// Opens a file that was found, unless the shell is lost.
-    fn try_open(&mut self, found: &Metadata, line: &str) -> io::Result<Option<File>> {
-        let mut shell = match self.shell.take() {
-            Some(shell) => shell,
-            None => self.started()?,
+    /// Lets go of a file that is being opened. A shell that may be waiting at it is ended.
+    fn give_up(&mut self, request: Request) -> Result<(), AllocError> {
+        request.unlink();
+        if request.told.is_some() {
+            self.end_shell()?;
+        }
+        Ok(())
+    }
+
+    /// Has a shell open a file, or looks whether it has.
+    fn go_on(&mut self, request: &mut Request, now: Instant) -> io::Result<Option<File>> {
+        if request.is_late(now) {
+            self.end_shell()?;
+            return Err(io::Error::from(ErrorKind::TimedOut));
+        }
+        let Some(mut shell) = self.standing(now) else {
+            // While none can be had, a run that has ended well waits.
+            request.since = now;
+            request.told = None;
+            return Ok(None);
         };
-        match shell.open(self.rt, line)? {
+        let pauses = match request.told {
+            Some(_) => LATER_PAUSES,
+            None => FIRST_PAUSES,
+        };
+        if request.told.is_none() && !shell.tell(request.line.as_str()) {
+            self.end(shell)?;
+            return Ok(None);
+        }
+        let told = request.told.unwrap_or(now);
+        request.told = Some(told);
+        match shell.answer(self.rt, pauses, now.duration_since(told)) {
+            Ok(None) => {
+                self.shell = Some(shell);
+                Ok(None)
+            }
+            Ok(Some(answer)) => self.answered(shell, request, answer),
+            Err(error) => {
+                self.end(shell)?;
+                Err(error)
+            }
+        }
+    }
+
+    /// The shell answered: the file, where it has that open. Where it is lost another one is asked.
+    fn answered(
+        &mut self,
+        shell: OpeningShell,
+        request: &mut Request,
+        answer: Answer,
+    ) -> io::Result<Option<File>> {
+        let mut shell = shell;
+        match answer {
             Answer::Opened => {
-                let answer = shell.opened(self.rt, found);
+                let opened = shell.opened(self.rt, &request.found);
                 if shell.tell("\n") {
                     self.shell = Some(shell);
                 } else {
                     self.end(shell)?;
                 }
-                match answer {
+                request.told = None;
+                match opened {
                     Ok(file) => Ok(Some(file)),
                     Err(error) if is_of_ended(&error) => Ok(None),
                     Err(error) => Err(error),
@@ -297,17 +274,44 @@ impl<'a> Opener<'a> {
             }
             Answer::Lost => {
                 self.end(shell)?;
+                request.told = None;
                 Ok(None)
             }
         }
     }
 
-    /// Ends a shell: stopped, or waiting for somebody, it would not end by itself.
+    /// The shell that stands, or a new one, unless none can be had or too many were started just
+    /// before.
+    fn standing(&mut self, now: Instant) -> Option<OpeningShell> {
+        if let Some(shell) = self.shell.take() {
+            return Some(shell);
+        }
+        let is_recent = |then: Instant| {
+            now.duration_since(then) < Duration::from_millis(STARTS_MILLISECONDS)
+        };
+        if !self.counted.is_some_and(is_recent) {
+            self.counted = Some(now);
+            self.starts = 0;
+        }
+        self.killed
+            .retain_mut(|child| matches!(child.try_wait(), Ok(None)));
+        if self.starts >= MOST_STARTS || self.killed.len() >= MOST_KILLED {
+            return None;
+        }
+        self.starts = self.starts.saturating_add(1);
+        OpeningShell::start(self.rt).ok()
+    }
+
+    /// Ends the shell that stands.
+    fn end_shell(&mut self) -> Result<(), AllocError> {
+        match self.shell.take() {
+            Some(shell) => self.end(shell),
+            None => Ok(()),
+        }
+    }
+
     fn end(&mut self, shell: OpeningShell) -> Result<(), AllocError> {
-        let mut shell = shell;
-        shell.kill();
-        self.killed.retain_mut(|shell| !shell.has_ended());
-        self.killed.push(shell)?;
+        self.killed.push(shell.killed())?;
         Ok(())
     }
 }

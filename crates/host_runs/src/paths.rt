@@ -69,7 +69,20 @@ pub(crate) fn left_path(
     Ok(whole)
 }
 
-/// The same as a whole path.
+/// The same of the file of an output, or of one in it, which has this name behind those above it.
+pub(crate) fn file_path(
+    alloc: Global,
+    place: &Place,
+    path: &str,
+    above: &[String],
+    name: Option<&str>,
+) -> Result<String, AllocError> {
+    let mut whole = left_path(alloc, place, path, above)?;
+    add(&mut whole, name.unwrap_or(""))?;
+    Ok(whole)
+}
+
+/// The path of what a run left as a whole path.
 pub(crate) fn output_path(
     alloc: Global,
     work: &str,

@@ -355,6 +355,16 @@ impl<F: Folder> Folder for LoggedFolder<F> {
         answer
     }
 
+    fn is_ready(
+        &mut self,
+        place: &Place,
+        path: &str,
+        above: &[String],
+        name: Option<&str>,
+    ) -> bool {
+        self.folder.is_ready(place, path, above, name)
+    }
+
     fn read(
         &mut self,
         place: &Place,

@@ -1,6 +1,6 @@
 //! What is done for a run in one call: steps, until they took some milliseconds.
 
-ghost use Rattle.std.specs.Prelude.{IfErr, IfOk};
+ghost use Rattle.std.specs.Prelude.{◌≡◌, IfErr, IfOk};
 ghost use Rattle.runner.specs.Values.{place_shown};
 ghost use Rattle.runner.specs.Steps.{Goes};
 ghost use Rattle.runner.specs.Faults.{Counted};
@@ -59,6 +59,54 @@ fn step<F: Folder, P: Programs, T: Texts>(
     }
 }
 
+/// Whether the next step of a run can be made at once.
+fn is_ready<F: Folder>(folder: &mut F, place: &Place, stage: &Stage) -> bool
+    ensures same { F.asked folder.new ≡ F.asked folder.old }
+    ensures fails { F.failures folder.new ≡ F.failures folder.old }
+{
+    match stage {
+        Stage::File(_, file) => folder.is_ready(place, file.path.as_str(), &[], None),
+        Stage::TreeFile(_, tree, file) => {
+            let (above, name) = (tree.nodes.above(), file.name.as_str());
+            folder.is_ready(place, tree.path.as_str(), above, Some(name))
+        }
+        Stage::Making(_)
+        | Stage::Running(_)
+        | Stage::Stopping(_)
+        | Stage::Measuring(_)
+        | Stage::Output(_, _)
+        | Stage::Error(_, _, _)
+        | Stage::Outputs(_)
+        | Stage::Listing(_, _)
+        | Stage::Tree(_, _) => true,
+    }
+}
+
+/// The next step of a run, or none where that would have to wait: the call ends then.
+fn step_if_ready<F: Folder, P: Programs, T: Texts>(
+    alloc: Global,
+    folder: &mut F,
+    programs: &mut P,
+    texts: &T,
+    place: &Place,
+    stage: Stage,
+) -> Result<Step, RunFault>
+    requires counted { IsCounted stage }
+    ensures goes { IfOk result (λ step. Goes (T.text_of texts.now) (place_shown place.now) stage step
+        (F.asked folder.old) (F.asked folder.new) (P.asked programs.old) (P.asked programs.new)) }
+    ensures faults { Counted result (F.failures folder.old) (F.failures folder.new)
+        (P.failures programs.old) (P.failures programs.new) }
+    ensures counted { IfOk result IsCountedThen }
+    ensures stops { IfErr result (λ fault. Stops (T.text_of texts.now) (place_shown place.now) stage
+        fault (F.asked folder.old) (F.asked folder.new)
+        (P.asked programs.old) (P.asked programs.new)) }
+{
+    if !is_ready(folder, place, &stage) {
+        return Ok(Step::Goes(stage, u32::MAX));
+    }
+    step(alloc, folder, programs, texts, place, stage)
+}
+
 /// What is done for a run in one call.
 pub(crate) fn turn<F: Folder, P: Programs, T: Texts>(
     alloc: Global,
@@ -81,7 +129,7 @@ pub(crate) fn turn<F: Folder, P: Programs, T: Texts>(
     let mut spent = 0u32;
     for _ in 0..MOST_COST {
         let ending = reached.ending();
-        let stepped = match step(alloc, folder, programs, texts, place, reached) {
+        let stepped = match step_if_ready(alloc, folder, programs, texts, place, reached) {
             Ok(stepped) => stepped,
             Err(fault) => return Err(Stopped { fault, ending }),
         };

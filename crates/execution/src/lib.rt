@@ -30,7 +30,7 @@ pub use laws::{
     each_start_is_ordered, names_are_read_so, no_slot_is_left_empty, steps_can_be_taken,
     steps_keep_jobs,
 };
-pub use numbering::{number_of, text_numbers};
+pub use numbering::number_of;
 pub use orders::{Order, Told, task_of};
 pub use reading::{TaskRead, read_task, read_task_command};
 pub use steps::{Step, end_steps, start_steps, tick_steps};

@@ -24,7 +24,7 @@ fn give_number(
 }
 
 /// The numbers of texts by their digests: of each digest that of the first.
-pub fn text_numbers(
+pub(crate) fn text_numbers(
     alloc: Global,
     texts: &[KeptText],
 ) -> Result<IndexMap<Digest, usize>, AllocError>

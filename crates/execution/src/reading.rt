@@ -28,7 +28,7 @@ use std::marker::Model;
 pub struct FoundTexts<'a> {
     texts: &'a [KeptText],
     /// Of each digest the number of its first text.
-    numbers: IndexMap<Digest, usize>,
+    numbers: &'a IndexMap<Digest, usize>,
 }
 
 impl<'a> Model for FoundTexts<'a> {
@@ -41,16 +41,16 @@ impl<'a> Model for FoundTexts<'a> {
 
     ghost view = { λ found. kept_entries found.texts.now };
 
-    ghost invariant = { λ found. AreNumbers (kept_digests found.texts.now) found.numbers.entries };
+    ghost invariant = { λ found. AreNumbers (kept_digests found.texts.now) found.numbers.now.entries };
 }
 
 impl<'a> FoundTexts<'a> {
-    /// Texts that a job keeps.
-    pub fn new(alloc: Global, texts: &'a [KeptText]) -> Result<FoundTexts<'a>, AllocError>
-        ensures { IfOk result (λ found. found ≡ kept_entries texts.now) }
+    /// Texts that a job keeps, with their numbers (`text_numbers`).
+    fn new(texts: &'a [KeptText], numbers: &'a IndexMap<Digest, usize>) -> FoundTexts<'a>
+        requires { AreNumbers (kept_digests texts.now) numbers.now.entries }
+        ensures { result ≡ kept_entries texts.now }
     {
-        let numbers = text_numbers(alloc, texts)?;
-        Ok(FoundTexts { texts, numbers })
+        FoundTexts { texts, numbers }
     }
 }
 
@@ -63,7 +63,7 @@ impl<'a> Finds for FoundTexts<'a> {
         if digest.is_empty() {
             return Some(Seen::Empty);
         }
-        seen_at(self.texts, &self.numbers, digest)
+        seen_at(self.texts, self.numbers, digest)
     }
 
     fn contains(&self, digest: &Digest) -> bool {
@@ -155,20 +155,29 @@ pub struct TaskRead {
     pub command: Vec<u8>,
     /// What stands in its input root.
     pub plan: Plan,
+    /// The numbers of its texts by their digests (`text_numbers`).
+    pub numbers: IndexMap<Digest, usize>,
 }
 
 /// What a task says, read off its texts in the pool.
 ///
 /// Err: a request for memory was refused.
 pub fn read_task(alloc: Global, pool: &Pool, task: &Task) -> Result<TaskRead, AllocError>
-    ensures { IfOk result (λ read. task_told
+    ensures says { IfOk result (λ read. task_told
         (blobs_in pool.now (kept_entries task.now.texts.items)) read ≡ task_in pool.now task.now) }
+    ensures numbers { IfOk result (λ read.
+        AreNumbers (kept_digests task.now.texts.items) read.numbers.entries) }
 {
-    let texts = FoundTexts::new(alloc, &task.texts)?;
+    let numbers = text_numbers(alloc, &task.texts)?;
+    let texts = FoundTexts::new(&task.texts, &numbers);
     let action = action_among(alloc, pool, &texts, &task.action)?;
     let command = command_among(alloc, pool, &texts, &action)?;
     let plan = plan_among(alloc, pool, &texts, &action)?;
-    Ok(TaskRead { command, plan })
+    Ok(TaskRead {
+        command,
+        plan,
+        numbers,
+    })
 }
 
 /// The text of a task's command, read off its texts in the pool.
@@ -177,7 +186,8 @@ pub fn read_task(alloc: Global, pool: &Pool, task: &Task) -> Result<TaskRead, Al
 pub fn read_task_command(alloc: Global, pool: &Pool, task: &Task) -> Result<Vec<u8>, AllocError>
     ensures { IfOk result (λ command. command.items ≡ (task_in pool.now task.now).command) }
 {
-    let texts = FoundTexts::new(alloc, &task.texts)?;
+    let numbers = text_numbers(alloc, &task.texts)?;
+    let texts = FoundTexts::new(&task.texts, &numbers);
     let action = action_among(alloc, pool, &texts, &task.action)?;
     let command = command_among(alloc, pool, &texts, &action)?;
     Ok(command)

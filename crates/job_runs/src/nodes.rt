@@ -7,7 +7,7 @@ ghost use Rattle.execution.specs.Numbers.{AreNumbers, digest_number, kept_digest
 
 use actions::PlanNode;
 use digest::Digest;
-use execution::{KeptText, number_of, text_numbers};
+use execution::{KeptText, number_of};
 use indexmap::IndexMap;
 use runner::TaskNode;
 use std::alloc::{AllocError, Global};
@@ -70,16 +70,17 @@ fn node_of(
 pub(crate) fn nodes_of(
     alloc: Global,
     texts: &[KeptText],
+    numbers: &IndexMap<Digest, usize>,
     nodes: &[PlanNode],
 ) -> Result<VecDeque<TaskNode>, AllocError>
+    requires { AreNumbers (kept_digests texts.now) numbers.now.entries }
     ensures { IfOk result (λ made. nodes_shown made.items
         ≡ map (node_of (kept_digests texts.now)) (nodes_shown nodes.now)) }
 {
-    let numbers = text_numbers(alloc, texts)?;
     let mut made = VecDeque::with_capacity(alloc, nodes.len())?;
     let mut left = nodes;
     'nodes: while let [first, rest @ ..] = left {
-        let node = node_of(texts, &numbers, first)?;
+        let node = node_of(texts, numbers, first)?;
         made.push_back(node)?;
         left = rest;
     }

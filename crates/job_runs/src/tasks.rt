@@ -34,7 +34,7 @@ pub fn run_task(alloc: Global, pool: &Pool, task: &JobTask) -> Result<Task, Allo
     ensures { IfOk result (λ run. IsTaskOf (task_in pool.now task.now) run) }
 {
     let read = read_task(alloc, pool, task)?;
-    let nodes = nodes_of(alloc, &task.texts, &read.plan.nodes)?;
+    let nodes = nodes_of(alloc, &task.texts, &read.numbers, &read.plan.nodes)?;
     let message = command_for(alloc, &read.command)?;
     let command = program_of(alloc, &message)?;
     let working_directory = String::from_str(alloc, message.working_directory)?;

@@ -112,12 +112,14 @@ fn write_part<F: Folder, T: Texts>(
 ) -> Result<Step, RunFault>
     ensures goes { IfOk result (λ step. (p : Option (List ProgramCall)) →
         Goes (T.text_of texts.now) (place_shown place.now)
-        (Stages.Making (Makings.Writing writing)) step (F.asked folder.old) (F.asked folder.new) p p) }
+        (Stages.Making (Makings.Writing writing)) step
+        (F.asked folder.old) (F.asked folder.new) p p) }
     ensures counts { FolderCounts result (F.failures folder.old) (F.failures folder.new) }
     ensures counted { IfOk result IsCountedThen }
     ensures stops { IfErr result (λ fault. (p : Option (List ProgramCall)) →
-        Stops (T.text_of texts.now) (place_shown place.now) (Stages.Making (Makings.Writing writing))
-        fault (F.asked folder.old) (F.asked folder.new) p p) }
+        Stops (T.text_of texts.now) (place_shown place.now)
+        (Stages.Making (Makings.Writing writing)) fault
+        (F.asked folder.old) (F.asked folder.new) p p) }
 {
     let Writing { text, from, nodes } = writing;
     let part = texts.part(text, from, PIECE);
@@ -143,7 +145,8 @@ fn make_directory<F: Folder>(
     ensures counts { FolderCounts result (F.failures folder.old) (F.failures folder.new) }
     ensures counted { IfOk result IsCountedThen }
     ensures stops { IfErr result (λ fault. FolderStops (place_shown place.now)
-        (Stages.Making (Makings.Directory prepared)) fault (F.asked folder.old) (F.asked folder.new)) }
+        (Stages.Making (Makings.Directory prepared)) fault
+        (F.asked folder.old) (F.asked folder.new)) }
 {
     of_folder(folder.make_working_directory(place))?;
     let parents = prepared.parents();
@@ -180,7 +183,8 @@ fn start<P: Programs>(programs: &mut P, place: &Place, prepared: Prepared) -> Re
     ensures counts { ProgramsCounts result (P.failures programs.old) (P.failures programs.new) }
     ensures counted { IfOk result IsCountedThen }
     ensures stops { IfErr result (λ fault. ProgramStops (place_shown place.now)
-        (Stages.Making (Makings.Starting prepared)) fault (P.asked programs.old) (P.asked programs.new)) }
+        (Stages.Making (Makings.Starting prepared)) fault
+        (P.asked programs.old) (P.asked programs.new)) }
 {
     of_programs(programs.start(place, &prepared.command))?;
     Ok(Step::Goes(Stage::Running(prepared.outputs()), u32::MAX))

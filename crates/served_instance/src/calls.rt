@@ -110,7 +110,8 @@ fn read_next(
     requires beside { IsServedBeside pool.old parent.now (slots_of instance.old connections.old) }
     ensures reads { OnOk result (LeadsIn parent.now pool.old instance.old connections.old
         pool.new instance.new connections.new (after_rest_on number) (after_rest_on number)) }
-    ensures ends { IfOk result (λ more. more ≡ false → ActsIn parent.now pool.old instance.old connections.old
+    ensures ends { IfOk result (λ more. more ≡ false → ActsIn
+        parent.now pool.old instance.old connections.old
         pool.new instance.new connections.new (after_rest_on number)) }
     ensures fewer { IfOk result (λ more. IsTrue more
         → unread_at number connections.new < unread_at number connections.old) }

@@ -44,6 +44,7 @@ CASES = [
     folders.removal_exchanged,
     folders.leased,
     folders.starved,
+    folders.held_up,
     folders.deep_chain,
     folders.wide_folders,
     folders.names_of_removal,

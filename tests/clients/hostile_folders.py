@@ -1,8 +1,10 @@
 """What `hostile_actions.py` tries with folders, links, outputs and what is left to be removed."""
 
+import contextlib
 import os
 import signal
 import subprocess
+import threading
 import time
 
 import messages as m
@@ -290,6 +292,46 @@ def starved(stage):
         stage.end_programs()
         stage.blue_runs(server)
     return "a run whose output cannot be opened fails, and nobody else waits"
+
+
+@contextlib.contextmanager
+def stalling(process):
+    """Stops a server for more than a second, again and again."""
+    is_over = threading.Event()
+
+    def stall():
+        while not is_over.wait(0.15):
+            process.send_signal(signal.SIGSTOP)
+            is_over.wait(1.1)
+            process.send_signal(signal.SIGCONT)
+
+    thread = threading.Thread(target=stall)
+    thread.start()
+    try:
+        yield
+    finally:
+        is_over.set()
+        thread.join()
+
+
+def held_up(stage):
+    """Outputs are to be opened while the server has no processor for a second, again and again, as by dear calls."""
+    with stage.serve(slots=(8, 2)) as (server, red):
+        busy = red.start(stage.action("for n in 1 2 3 4 5 6 7 8; do while :; do :; done & done; wait"))
+        # Blue's calls would wait for the server, too: its action is to be right.
+        server.neighbour.end()
+        with stalling(server.process):
+            for _ in range(4):
+                numbers = [red.start(stage.action("printf a > a; printf b > b", files=["a", "b"])) for _ in range(5)]
+                for number in numbers:
+                    done = red.operations(number)[-1]
+                    expect((done.status.code, done.status.text), (0, ""), "status")
+                    expect(sorted(done.result.files), ["a", "b"], "output files")
+            stage.blue_runs(server, 60)
+        stage.end_programs()
+        expect(red.operations(busy)[-1].result.code == 0, False, "the programs that were killed have ended well")
+        stage.nothing_left(server)
+    return "no run fails for it"
 
 
 # Outputs that are no files.

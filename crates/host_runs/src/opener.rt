@@ -1,5 +1,5 @@
-//! Opening files on which a program may have a lease: whoever opens such a file waits until the lease
-//! is given back, or for the seconds of `fs.lease-break-time`.
+//! Opening files on which a program may have a lease: whoever opens such a file waits until the
+//! lease is given back, or for the seconds of `fs.lease-break-time`.
 //!
 //! So a shell opens each first. As long as the shell has it open, nobody gets a lease on it, and the
 //! server opens what the shell has open, which is done at once. The shell alone may have to wait. The
@@ -26,7 +26,14 @@ const LATER_PAUSES: u32 = 1;
 /// For how many milliseconds shells are asked to open a file.
 const MOST_MILLISECONDS: u64 = 1_000;
 
-/// How many shells are started in so many milliseconds: whoever runs programs can end each at once.
+/// How many of them count between two looks: what held the server up meanwhile is not the file's.
+const MOST_BETWEEN: u64 = 50;
+
+/// After how many nobody asks for a file any more. A run that is over forgets its own.
+const MOST_UNASKED: u64 = 10_000;
+
+/// How many shells are started in so many milliseconds: whoever runs programs can end each at
+/// once.
 const MOST_STARTS: u32 = 16;
 
 const STARTS_MILLISECONDS: u64 = 250;
@@ -60,10 +67,12 @@ struct Request {
     line: String,
     /// Whether the file has another name in that directory, which is removed in the end.
     is_linked: bool,
-    /// From when on a shell could be had for it.
-    since: Instant,
-    /// When the shell was told the line, if it was.
-    told: Option<Instant>,
+    /// When it was asked for last.
+    asked: Instant,
+    /// For how long a shell could be had for it.
+    time: Duration,
+    /// For how long the shell has been told the line, if it has.
+    told: Option<Duration>,
 }
 
 impl Request {
@@ -71,8 +80,21 @@ impl Request {
         self.run == target.run && self.path.as_str() == target.path
     }
 
-    fn is_late(&self, now: Instant) -> bool {
-        now.duration_since(self.since) >= Duration::from_millis(MOST_MILLISECONDS)
+    fn is_late(&self) -> bool {
+        self.time >= Duration::from_millis(MOST_MILLISECONDS)
+    }
+
+    fn is_left(&self, now: Instant) -> bool {
+        now.duration_since(self.asked) >= Duration::from_millis(MOST_UNASKED)
+    }
+
+    /// It is asked for again.
+    fn ask(&mut self, now: Instant) {
+        let between = now.duration_since(self.asked);
+        let passed = between.min(Duration::from_millis(MOST_BETWEEN));
+        self.asked = now;
+        self.time = self.time.saturating_add(passed);
+        self.told = self.told.map(|time| time.saturating_add(passed));
     }
 
     /// Opens a file that stands there.
@@ -100,7 +122,8 @@ impl Request {
             directory,
             line,
             is_linked,
-            since: now,
+            asked: now,
+            time: Duration::ZERO,
             told: None,
         })
     }
@@ -167,7 +190,7 @@ impl<'a> Opener<'a> {
         let now = Instant::now(self.rt)?;
         let mut request = match self.request.take() {
             Some(request) if request.is_for(target) => request,
-            Some(request) if !request.is_late(now) => {
+            Some(request) if !request.is_left(now) => {
                 self.request = Some(request);
                 return Ok(None);
             }
@@ -177,13 +200,21 @@ impl<'a> Opener<'a> {
             }
             None => Request::new(self.rt, target, now)?,
         };
-        let answer = self.go_on(&mut request, now);
-        if matches!(answer, Ok(None)) {
-            self.request = Some(request);
-        } else {
-            request.unlink();
+        request.ask(now);
+        match self.go_on(&mut request, now) {
+            Ok(None) if request.is_late() => {
+                self.give_up(request)?;
+                Err(io::Error::from(ErrorKind::TimedOut))
+            }
+            Ok(None) => {
+                self.request = Some(request);
+                Ok(None)
+            }
+            answer => {
+                request.unlink();
+                answer
+            }
         }
-        answer
     }
 
     /// Opens no file of this run any more.
@@ -208,13 +239,9 @@ impl<'a> Opener<'a> {
 
     /// Has a shell open a file, or looks whether it has.
     fn go_on(&mut self, request: &mut Request, now: Instant) -> io::Result<Option<File>> {
-        if request.is_late(now) {
-            self.end_shell()?;
-            return Err(io::Error::from(ErrorKind::TimedOut));
-        }
         let Some(mut shell) = self.standing(now) else {
             // While none can be had, a run that has ended well waits.
-            request.since = now;
+            request.time = Duration::ZERO;
             request.told = None;
             return Ok(None);
         };
@@ -226,9 +253,9 @@ impl<'a> Opener<'a> {
             self.end(shell)?;
             return Ok(None);
         }
-        let told = request.told.unwrap_or(now);
+        let told = request.told.unwrap_or(Duration::ZERO);
         request.told = Some(told);
-        match shell.answer(self.rt, pauses, now.duration_since(told)) {
+        match shell.answer(self.rt, pauses, told) {
             Ok(None) => {
                 self.shell = Some(shell);
                 Ok(None)

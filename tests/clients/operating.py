@@ -46,9 +46,9 @@ class Service:
         changes = {"/usr/local/bin/remoted": self.program, "/var/lib/remoted": f"{self.folder}/work"}
         changes |= {"/run/remoted": str(self.folder)}
         changes |= {f":{old}:": f":{new}:" for old, new in self.ports.items()}
-        for old, new in changes.items():
-            text = text.replace(old, new)
-        return text
+        # In one pass: what stands for a path may hold another of them.
+        old = "|".join(map(re.escape, changes))
+        return re.sub(old, lambda found: changes[found.group()], text)
 
     def start(self):
         words = self.here(of_unit("ExecStart")[0]).split()

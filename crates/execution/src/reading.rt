@@ -41,7 +41,8 @@ impl<'a> Model for FoundTexts<'a> {
 
     ghost view = { λ found. kept_entries found.texts.now };
 
-    ghost invariant = { λ found. AreNumbers (kept_digests found.texts.now) found.numbers.now.entries };
+    ghost invariant = { λ found.
+        AreNumbers (kept_digests found.texts.now) found.numbers.now.entries };
 }
 
 impl<'a> FoundTexts<'a> {

@@ -32,7 +32,8 @@ fn step<F: Folder, P: Programs, T: Texts>(
 ) -> Result<Step, RunFault>
     requires counted { IsCounted stage }
     ensures goes { IfOk result (λ step. Goes (T.text_of texts.now) (place_shown place.now) stage
-        step (F.asked folder.old) (F.asked folder.new) (P.asked programs.old) (P.asked programs.new)) }
+        step (F.asked folder.old) (F.asked folder.new)
+        (P.asked programs.old) (P.asked programs.new)) }
     ensures faults { Counted result (F.failures folder.old) (F.failures folder.new)
         (P.failures programs.old) (P.failures programs.new) }
     ensures counted { IfOk result IsCountedThen }
@@ -93,7 +94,8 @@ fn step_if_ready<F: Folder, P: Programs, T: Texts>(
 ) -> Result<Step, RunFault>
     requires counted { IsCounted stage }
     ensures goes { IfOk result (λ step. Goes (T.text_of texts.now) (place_shown place.now) stage
-        step (F.asked folder.old) (F.asked folder.new) (P.asked programs.old) (P.asked programs.new)) }
+        step (F.asked folder.old) (F.asked folder.new)
+        (P.asked programs.old) (P.asked programs.new)) }
     ensures faults { Counted result (F.failures folder.old) (F.failures folder.new)
         (P.failures programs.old) (P.failures programs.new) }
     ensures counted { IfOk result IsCountedThen }
@@ -118,7 +120,8 @@ pub(crate) fn turn<F: Folder, P: Programs, T: Texts>(
 ) -> Result<Step, Stopped>
     requires counted { IsCounted stage }
     ensures goes { IfOk result (λ step. Goes (T.text_of texts.now) (place_shown place.now) stage
-        step (F.asked folder.old) (F.asked folder.new) (P.asked programs.old) (P.asked programs.new)) }
+        step (F.asked folder.old) (F.asked folder.new)
+        (P.asked programs.old) (P.asked programs.new)) }
     ensures faults { Counted (fault_of result) (F.failures folder.old) (F.failures folder.new)
         (P.failures programs.old) (P.failures programs.new) }
     ensures counted { IfOk result IsCountedThen }

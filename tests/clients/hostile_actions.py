@@ -53,6 +53,8 @@ CASES = [
     host_programs.lines_unheard,
     host_programs.helper_stopped,
     host_programs.helper_killed,
+    host_programs.number_taken,
+    host_programs.helper_lines,
     host_programs.opener_stopped,
     host_programs.opener_killed,
     host_programs.fork_bomb,

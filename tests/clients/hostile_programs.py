@@ -7,6 +7,7 @@ import os
 import re
 import resource
 import signal
+import subprocess
 import time
 
 import messages as m
@@ -20,6 +21,9 @@ from teams import Skipped
 LINE = re.compile(rb"remoted: (run red [1-9]\d* failed: start|(?!run ))((?!remoted: ).)*")
 SMALLEST_PIPE = 4096
 MOST_PROCESSES = 60
+
+# The last number that a process was given, which root may write.
+LAST_NUMBER = "/proc/sys/kernel/ns_last_pid"
 
 # Forks as long as it is there, for so many seconds at most. Its processes are all in one session.
 BOMB = """import os, sys, time
@@ -130,6 +134,83 @@ def helper_killed(stage):
         stage.nothing_left(server)
         expect(programs.settled(lambda: programs.running(stage.folder, server.process.pid), 10), {}, "programs")
     return f"killed {killed} times, it is there again each time: blue's action then took {took:.1f} s"
+
+
+@contextlib.contextmanager
+def of_number(stage, number):
+    """A process with this number, the first of a session of its own: the system gives the one behind that in a file."""
+    for _ in range(1000):
+        with open(LAST_NUMBER, "w") as file:
+            file.write(str(number - 1))
+        other = subprocess.Popen(["/bin/sleep", "600"], start_new_session=True, **stage.as_user())
+        try:
+            if other.pid == number:
+                yield other
+                return
+        finally:
+            other.kill()
+            other.wait()
+    raise Skipped("the number was not to be had")
+
+
+def number_taken(stage):
+    """The number of a program that ended is another process's, before what ends sessions goes on."""
+    if os.geteuid() != 0 or not os.path.exists(LAST_NUMBER):
+        raise Skipped("a process cannot be given a number here")
+    with stage.serve() as (server, red):
+        stage.runs(red, "true")
+        helper = stage.helper(server, programs.ENDS_SESSIONS)
+        path = os.path.join(stage.make("told"), "number")
+        told = lambda: os.path.exists(path) and open(path).read().endswith("\n")
+        os.kill(helper, signal.SIGSTOP)
+        run = red.start(stage.action(f"echo $$ > {path}"))
+        stage.waits(told, 20, "red's action runs")
+        number = int(open(path).read())
+        stage.waits(lambda: not os.path.exists(f"/proc/{number}"), 20, "red's action is waited for")
+        time.sleep(0.05)
+        with of_number(stage, number) as other:
+            os.kill(helper, signal.SIGCONT)
+            done = red.operations(run)[-1]
+            expect(done.result and done.result.code, 0, "red's action")
+            stage.runs(red, "true")
+            expect(other.poll(), None, "the process that has the number")
+        stage.nothing_left(server)
+    return "that one goes on"
+
+
+def helper_lines(stage):
+    """What ends sessions is told processes of other sessions, sessions whose number is taken, and odd names."""
+    with stage.serve() as (server, red):
+        stage.runs(red, "true")
+        helper = stage.helper(server, programs.ENDS_SESSIONS)
+        with open(f"/proc/{helper}/cmdline", "rb") as file:
+            words = file.read().split(b"\0")[:-1]
+    odd = os.path.join(stage.make("odd"), "a) S 1\n2 (")
+    os.symlink("/bin/sleep", odd)
+    pipes = {"stdin": subprocess.PIPE, "stdout": subprocess.PIPE, "stderr": subprocess.DEVNULL}
+    begin = lambda path: subprocess.Popen([path, "600"], start_new_session=True, **stage.as_user())
+    with subprocess.Popen(words, text=True, **pipes, **stage.as_user()) as copy, contextlib.ExitStack() as stack:
+        plain, named = (stack.enter_context(begin(path)) for path in ["/bin/sleep", odd])
+
+        def lives_after(line, process):
+            copy.stdin.write(line + "\n")
+            copy.stdin.flush()
+            expect(copy.stdout.readline(), "\n", "the answer")
+            time.sleep(0.05)
+            return process.poll() is None
+
+        try:
+            session, other = plain.pid, named.pid
+            for line in [f"KILL {session} {other} -", f"KILL -{session} - {session}", f"KILL {session} {session} {other}"]:
+                expect(lives_after(line, plain), True, f"{line!r}: the process is there")
+            expect(lives_after(f"KILL {other} {other} -", named), False, "a process with an odd name is there")
+            expect(lives_after(f"KILL {session} {session} {2**22 + 1}", plain), False, "the process is there")
+            expect(lives_after(f"KILL -{session} - {2**22 + 1}", copy), True, "what ends sessions is there")
+        finally:
+            plain.kill()
+            named.kill()
+            copy.stdin.close()
+    return "it sends a signal to none but those that are meant"
 
 
 # What opens outputs.

@@ -1,10 +1,8 @@
 //! What has to be there before instances are served, and what an operator is told of it.
 
 use crate::serve_ports::is_memory;
-use host_runs::{
-    Complaint, HostFolder, Work, WorkFault, begin_work, has_leases, has_sessions, most_open,
-    sees_ends,
-};
+use host_folders::{Complaint, HostFolder, Work, WorkFault, begin_work};
+use host_programs::{has_leases, has_sessions, most_open, sees_ends};
 use instance_words::Instances;
 use std::alloc::{AllocError, Global};
 use std::io::{self, Write};
@@ -23,11 +21,11 @@ const FEWEST_OTHER_FILES: u64 = 32;
 /// The size of a block that the C library learns by, in bytes: it learns of none over 32 MiB.
 const LEARNING_BLOCK: usize = (32 << 20) - (64 << 10);
 
-/// Has the C library keep what is freed for what comes next. glibc gives a block over a threshold back
-/// to the system once it is freed, and what is free at the heap's end over twice as much. It raises
-/// the threshold to the size of such a block when one is freed (mallopt(3), `M_MMAP_THRESHOLD`), so one
-/// is taken and let go. It is never written to, and so takes no memory. Where the environment says a
-/// threshold, that one stays.
+/// Has the C library keep what is freed for what comes next. glibc gives a block over a threshold
+/// back to the system once it is freed, and what is free at the heap's end over twice as much. It
+/// raises the threshold to the size of such a block when one is freed (mallopt(3),
+/// `M_MMAP_THRESHOLD`), so one is taken and let go. It is never written to, and so takes no memory.
+/// Where the environment says a threshold, that one stays.
 pub fn keep_freed_memory(alloc: Global) {
     let block: Result<Vec<u8>, AllocError> = Vec::with_capacity(alloc, LEARNING_BLOCK);
     drop(block);

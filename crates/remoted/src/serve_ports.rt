@@ -7,7 +7,8 @@ use crate::operator::Operator;
 use crate::standard_error::StandardError;
 use crate::watching::{MetricsFile, StopFile};
 use command_line::Service;
-use host_runs::{HostFolder, HostPrograms, Launcher, Work, launcher_path};
+use host_folders::{HostFolder, Work};
+use host_programs::{HostPrograms, Launcher, launcher_path};
 use host_sockets::HostSockets;
 use instance_words::{Instances, InstancesFault, instances_of};
 use job_runs::JobRunner;
@@ -118,8 +119,8 @@ fn names_of(rt: &HostRuntime, instances: &Instances) -> io::Result<Vec<String>> 
     Ok(names)
 }
 
-/// A place for the runs of these instances. None where none of them runs any; where it cannot be had,
-/// that is told, and there is no answer.
+/// A place for the runs of these instances. None where none of them runs any; where it cannot be
+/// had, that is told, and there is no answer.
 fn place_of<E: Write>(
     rt: &HostRuntime,
     service: &Service<'_>,
@@ -193,8 +194,9 @@ fn remove_start(rt: &HostRuntime, path: &str) {
     }
 }
 
-/// Serves for so many turns, and then ends what runs. Lines about runs go to standard error, of which
-/// none is waited for; so does the last, which says how many events were cut short, if any were.
+/// Serves for so many turns, and then ends what runs. Lines about runs go to standard error, of
+/// which none is waited for; so does the last, which says how many events were cut short, if any
+/// were.
 fn serve_turns(
     rt: &HostRuntime,
     instances: &Instances,

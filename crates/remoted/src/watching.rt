@@ -72,8 +72,8 @@ impl<'a> MetricsFile<'a> {
         self.writing.take(moment)
     }
 
-    /// Writes the file anew, whole or not at all. Where that could not be done there is a line to be
-    /// told, once until it goes well again.
+    /// Writes the file anew, whole or not at all. Where that could not be done there is a line to
+    /// be told, once until it goes well again.
     pub fn write(&mut self, figures: &ServerFigures<'_>, moment: u64) -> Option<String> {
         let Err(error) = self.replace(figures) else {
             self.is_told = false;
@@ -135,8 +135,8 @@ impl<'a> StopFile<'a> {
         }
     }
 
-    /// Whether it is there: anything under its name, a link itself and not where it leads. It is not
-    /// opened. A file that cannot be looked at counts as not there.
+    /// Whether it is there: anything under its name, a link itself and not where it leads. It is
+    /// not opened. A file that cannot be looked at counts as not there.
     pub fn is_there(&self) -> io::Result<bool> {
         match fs::symlink_metadata(self.rt, self.path) {
             Ok(_) => Ok(true),

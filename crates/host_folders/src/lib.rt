@@ -1,0 +1,14 @@
+//! Folders of this host.
+#![tactic(auto)]
+
+mod directory;
+mod entering;
+mod files;
+mod folder;
+mod opener;
+mod removing;
+mod starts;
+mod work;
+
+pub use folder::HostFolder;
+pub use work::{Complaint, Work, WorkFault, begin_work};

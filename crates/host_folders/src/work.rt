@@ -1,0 +1,271 @@
+//! The directory for the work of actions, and the folder of a start in it.
+
+use crate::directory::{Directory, PRIVATE_MODE};
+use crate::files::open_regular;
+use crate::removing::Removal;
+use crate::starts::{make_start, number_after, starts_in};
+use std::alloc::Global;
+use std::fs::{self, File, OpenOptions, TryLockError};
+use std::io::{self, ErrorKind, Write};
+use std::time::{Duration, Instant};
+
+/// The file that marks a directory as remoted's. The server that works there holds it locked.
+const MARK: &str = "remoted.lock";
+
+const MARK_TEXT: &str =
+    "The actions of a remoted server have their folders here. It removes what it \
+    finds in them.\n";
+
+/// What the root of a file system has from the start.
+const LOST_AND_FOUND: &str = "lost+found";
+
+/// The folder in which stands what former starts left, until it is removed.
+const FORMER: &str = "former";
+
+/// How many directories of former starts a start moves under names that no other start's have.
+const MOVED_OF_START: u64 = 1_000_000;
+
+/// A folder that is made in order to see whether one can be made and removed.
+const TRIAL: &str = "trial";
+
+/// For how long a start removes what former ones left, before it goes on.
+const CLEARING_SECONDS: u64 = 1;
+
+/// Where the runs of a start have their folders.
+#[derive(Drop)]
+pub struct Work {
+    path: String,
+    held: Option<Held>,
+}
+
+/// The folder of a start, in a directory that is held.
+#[derive(Drop)]
+struct Held {
+    directory: Directory,
+    start: Directory,
+    /// Others are kept from the directory until this is closed.
+    mark: File,
+    /// Whether nothing is left of former starts that can be removed.
+    is_clear: bool,
+    moved: u64,
+}
+
+/// Why a directory cannot be used.
+#[derive(Debug, Drop)]
+pub enum WorkFault {
+    /// It is not there and cannot be made.
+    Unmade(io::Error),
+    /// It is not empty, and has no mark of remoted's.
+    Foreign,
+    /// Another server works there.
+    InUse,
+    /// No folder can be made and removed in it.
+    Unusable(io::Error),
+}
+
+impl From<io::Error> for WorkFault {
+    fn from(error: io::Error) -> WorkFault {
+        WorkFault::Unusable(error)
+    }
+}
+
+/// What an operator should know of a directory that is used.
+#[derive(Debug, Drop)]
+pub enum Complaint {
+    /// Its file system cannot tell whether another server works there.
+    Unlocked(io::Error),
+    /// What stands at this path is left of a former start, and cannot be removed.
+    Left(String, io::Error),
+}
+
+impl Work {
+    /// No place: each run fails that asks for one.
+    pub fn nowhere(rt: &HostRuntime) -> Work {
+        Work {
+            path: String::new(rt.alloc()),
+            held: None,
+        }
+    }
+
+    /// The absolute path of the folder of this start, without links.
+    pub fn path(&self) -> &str {
+        self.path.as_str()
+    }
+
+    pub(crate) fn start(&self) -> io::Result<&Directory> {
+        match &self.held {
+            Some(held) => Ok(&held.start),
+            None => Err(io::Error::from(ErrorKind::NotFound)),
+        }
+    }
+
+    /// Removes some of what former starts left, until nothing is left that can be removed.
+    pub(crate) fn clear_some(&mut self, rt: &HostRuntime) {
+        if let Some(held) = &mut self.held {
+            let _cleared: io::Result<()> = held.clear_some(rt);
+        }
+    }
+}
+
+impl Held {
+    fn clear_some(&mut self, rt: &HostRuntime) -> io::Result<()> {
+        if self.is_clear {
+            return Ok(());
+        }
+        let mut removal = former_in(rt.alloc(), &self.directory, &mut self.moved);
+        match removal.remove_some() {
+            Ok(is_clear) => {
+                self.is_clear = is_clear;
+                Ok(())
+            }
+            Err(error) => {
+                self.is_clear = true;
+                Err(error)
+            }
+        }
+    }
+
+    /// Removes what former starts left, for a while.
+    fn clear(&mut self, rt: &HostRuntime) -> io::Result<()> {
+        let began = Instant::now(rt)?;
+        for _ in 0..u64::MAX {
+            let time = Instant::now(rt)?.duration_since(began);
+            if self.is_clear || time >= Duration::from_secs(CLEARING_SECONDS) {
+                return Ok(());
+            }
+            self.clear_some(rt)?;
+        }
+        Ok(())
+    }
+}
+
+/// Makes a folder for the runs of this start in a directory, which is made if it is not there, and
+/// holds that until the result is let go. Only an empty directory is taken, or one that was taken
+/// before.
+///
+/// The folder has a name that none of those there has had, so that a program of a former start
+/// which still runs knows no path into it. Former starts' folders are removed: for a second now,
+/// and some more with each run that begins and ends. What cannot be removed stays, and is in
+/// nobody's way.
+pub fn begin_work(
+    rt: &HostRuntime,
+    path: &str,
+    complaints: &mut Vec<Complaint>,
+) -> Result<Work, WorkFault> {
+    match fs::create_dir_all(rt, path) {
+        Ok(()) => {}
+        Err(error) => return Err(WorkFault::Unmade(error)),
+    }
+    let whole = fs::canonicalize(rt, path)?;
+    let Some(path) = whole.to_str() else {
+        return Err(WorkFault::Unusable(io::Error::from(ErrorKind::InvalidFilename)));
+    };
+    let directory = Directory::open(path)?;
+    let Some(mark) = marked(rt, &directory)? else {
+        return Err(WorkFault::Foreign);
+    };
+    match mark.try_lock() {
+        Ok(()) => {}
+        Err(TryLockError::WouldBlock) => return Err(WorkFault::InUse),
+        Err(TryLockError::Error(error)) => push(complaints, Complaint::Unlocked(error))?,
+    }
+    Ok(begin_in(rt, path, directory, mark, complaints)?)
+}
+
+fn push(complaints: &mut Vec<Complaint>, complaint: Complaint) -> io::Result<()> {
+    Ok(complaints.push(complaint)?)
+}
+
+/// The file that marks a directory, which gets one if it is empty. None where it is not, and has no
+/// mark.
+fn marked(rt: &HostRuntime, directory: &Directory) -> io::Result<Option<File>> {
+    let alloc = rt.alloc();
+    let path = directory.path_of(alloc, MARK)?;
+    match open_regular(rt, path.as_str(), OpenOptions::new().read(true).write(true)) {
+        Ok(mark) => return Ok(Some(mark)),
+        Err(error) if error.kind() == ErrorKind::NotFound => {}
+        Err(error) => return Err(error),
+    }
+    if !is_empty(alloc, directory)? {
+        return Ok(None);
+    }
+    let mut mark: File = OpenOptions::new()
+        .write(true)
+        .create_new(true)
+        .open(rt, path.as_str())?;
+    mark.write_all(MARK_TEXT.as_bytes())?;
+    Ok(Some(mark))
+}
+
+/// Whether nothing is in a directory but what the root of a file system has from the start.
+fn is_empty(alloc: Global, directory: &Directory) -> io::Result<bool> {
+    let listed = directory.again()?;
+    let mut names = listed.names(alloc)?;
+    for _ in 0..2 {
+        match names.next()? {
+            None => return Ok(true),
+            Some(name) if name.as_slice() == LOST_AND_FOUND.as_bytes() => {}
+            Some(_) => return Ok(false),
+        }
+    }
+    Ok(false)
+}
+
+/// The removal of what former starts left in a directory.
+fn former_in<'a>(alloc: Global, directory: &'a Directory, moved: &'a mut u64) -> Removal<'a> {
+    Removal {
+        alloc,
+        start: directory,
+        aside: FORMER,
+        moved,
+    }
+}
+
+/// Begins in a directory that is held.
+fn begin_in(
+    rt: &HostRuntime,
+    path: &str,
+    directory: Directory,
+    mark: File,
+    complaints: &mut Vec<Complaint>,
+) -> io::Result<Work> {
+    let alloc = rt.alloc();
+    let former = starts_in(alloc, &directory)?;
+    let number = number_after(rt, &former)?;
+    let mut moved = number.saturating_mul(MOVED_OF_START);
+    for name in former.iter() {
+        let answer = former_in(alloc, &directory, &mut moved).set_aside(&directory, name.as_str());
+        if let Err(error) = answer {
+            complain(alloc, path, name.as_str(), error, complaints)?;
+        }
+    }
+    let (name, start) = make_start(alloc, &directory, number)?;
+    start.make_dir(alloc, TRIAL, PRIVATE_MODE)?;
+    start.remove_dir(TRIAL.as_bytes())?;
+    let mut held = Held {
+        directory,
+        start,
+        mark,
+        is_clear: false,
+        moved,
+    };
+    if let Err(error) = held.clear(rt) {
+        complain(alloc, path, FORMER, error, complaints)?;
+    }
+    Ok(Work {
+        path: format!(in alloc; "{path}/{name}")?,
+        held: Some(held),
+    })
+}
+
+/// Adds that what has a name in a directory stays.
+fn complain(
+    alloc: Global,
+    above: &str,
+    name: &str,
+    error: io::Error,
+    complaints: &mut Vec<Complaint>,
+) -> io::Result<()> {
+    let path = format!(in alloc; "{above}/{name}")?;
+    push(complaints, Complaint::Left(path, error))
+}

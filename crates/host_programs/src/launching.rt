@@ -1,0 +1,167 @@
+//! How a program is started by a launcher.
+
+ghost use Rattle.std.specs.Prelude.{◌≡◌, ◌++◌, IfOk, IfSome, OnOk, codes, map, slice_get, string_bytes};
+ghost use Rattle.runner.specs.Values.{command_shown, variable_shown};
+ghost use Rattle.host_programs.specs.Launching.{StartsBare, assignment, directory_word, launcher_words, session_words};
+
+use crate::starting::bare_command;
+use host_files::is_executable;
+use runner::{Command as Ordered, Place, Variable};
+use std::alloc::{AllocError, Global};
+use std::fs;
+use std::io::{self, ErrorKind};
+use std::process::Command;
+
+/// Where a launcher is started: nothing of an action stands there.
+const DIRECTORY: &str = "/";
+
+/// A program that starts the programs of actions. It is told, word by word, the instance, the
+/// folder of the run, the working directory from there on (`.` for the folder itself), each
+/// variable as `NAME=VALUE`, and then the command. Its own environment is empty.
+#[derive(Drop)]
+pub struct Launcher {
+    program: String,
+    instances: Vec<String>,
+}
+
+impl Launcher {
+    /// The launcher of this absolute path, and the names of the instances in their order.
+    pub fn new(program: String, instances: Vec<String>) -> Launcher {
+        Launcher { program, instances }
+    }
+
+    /// Whether it is still there. Otherwise its absence would show as the code of what is started
+    /// first.
+    pub(crate) fn check(&self, rt: &HostRuntime) -> io::Result<()> {
+        check_program(rt, self.program.as_str())
+    }
+
+    /// The command that starts it for a program of the run with this folder. It is in no directory
+    /// and has no variables of an action.
+    pub(crate) fn command(
+        &self,
+        alloc: Global,
+        has_sessions: bool,
+        place: &Place,
+        root: &str,
+        ordered: &Ordered,
+    ) -> io::Result<Command>
+        ensures { IfOk result (λ command.
+            IfSome (slice_get self.now.instances.items place.now.run.instance) (λ instance.
+            StartsBare (session_words has_sessions (launcher_words (string_bytes self.now.program)
+            (string_bytes instance) root.now (string_bytes place.now.directory)
+            (command_shown ordered.now))) (codes "/") command)) }
+    {
+        let Some(instance) = self.instances.get(place.run.instance as usize) else {
+            return Err(io::Error::from(ErrorKind::InvalidInput));
+        };
+        if !can_be_told(ordered) {
+            return Err(io::Error::from(ErrorKind::InvalidInput));
+        }
+        let words = launcher_words(
+            alloc,
+            self.program.as_str(),
+            instance.as_str(),
+            root,
+            place.directory.as_str(),
+            ordered,
+        )?;
+        bare_command(alloc, has_sessions, &words, DIRECTORY)
+    }
+}
+
+/// A working directory from the folder of its run on, as a word that is not empty.
+fn directory_word(directory: &str) -> &str
+    ensures { result.now ≡ directory_word directory.now }
+{
+    if directory.is_empty() { "." } else { directory }
+}
+
+/// A variable as one word.
+fn assignment(alloc: Global, variable: &Variable) -> Result<String, AllocError>
+    ensures { IfOk result (λ word. string_bytes word ≡ assignment (variable_shown variable.now)) }
+{
+    let mut word = String::from_str(alloc, variable.name.as_str())?;
+    word.push('=')?;
+    word.push_str(variable.value.as_str())?;
+    Ok(word)
+}
+
+/// A launcher and what it is told, word by word: the instance, the folder of the run, the working
+/// directory from there on, the variables, and the command.
+fn launcher_words(
+    alloc: Global,
+    launcher: &str,
+    instance: &str,
+    root: &str,
+    directory: &str,
+    ordered: &Ordered,
+) -> Result<Vec<String>, AllocError>
+    ensures { IfOk result (λ words. map string_bytes words.items ≡ launcher_words launcher.now
+        instance.now root.now directory.now (command_shown ordered.now)) }
+{
+    let mut words = Vec::new(alloc);
+    words.push(String::from_str(alloc, launcher)?)?;
+    words.push(String::from_str(alloc, instance)?)?;
+    words.push(String::from_str(alloc, root)?)?;
+    words.push(String::from_str(alloc, directory_word(directory))?)?;
+    add_assignments(alloc, &mut words, &ordered.variables)?;
+    add_copies(&mut words, &ordered.arguments)?;
+    Ok(words)
+}
+
+fn add_assignments(
+    alloc: Global,
+    words: &mut Vec<String>,
+    variables: &[Variable],
+) -> Result<(), AllocError>
+    ensures { OnOk result (map string_bytes words.new.items ≡ map string_bytes words.old.items
+        ++ map assignment (map variable_shown variables.now)) }
+{
+    let mut left = variables;
+    while let [first, rest @ ..] = left {
+        words.push(assignment(alloc, first)?)?;
+        left = rest;
+    }
+    Ok(())
+}
+
+fn add_copies(words: &mut Vec<String>, arguments: &[String]) -> Result<(), AllocError>
+    ensures { OnOk result (map string_bytes words.new.items
+        ≡ map string_bytes words.old.items ++ map string_bytes arguments.now) }
+{
+    let mut left = arguments;
+    while let [first, rest @ ..] = left {
+        words.push(first.clone()?)?;
+        left = rest;
+    }
+    Ok(())
+}
+
+/// Whether a command can be told behind variables: a program with `=` in its name would be taken
+/// for one of these.
+fn can_be_told(ordered: &Ordered) -> bool {
+    match ordered.arguments.first() {
+        Some(program) => !program.as_str().contains('='),
+        None => false,
+    }
+}
+
+/// Whether a path is that of a file that may be executed.
+fn check_program(rt: &HostRuntime, path: &str) -> io::Result<()> {
+    if is_executable(&fs::metadata(rt, path)?) {
+        Ok(())
+    } else {
+        Err(io::Error::from(ErrorKind::PermissionDenied))
+    }
+}
+
+/// The absolute path of a launcher, where it is a file that may be executed.
+pub fn launcher_path(rt: &HostRuntime, program: &str) -> io::Result<String> {
+    let whole = fs::canonicalize(rt, program)?;
+    let Some(path) = whole.to_str() else {
+        return Err(io::Error::from(ErrorKind::InvalidFilename));
+    };
+    check_program(rt, path)?;
+    Ok(String::from_str(rt.alloc(), path)?)
+}

@@ -1,0 +1,273 @@
+//! Programs that were started, and what they write.
+
+ghost use Rattle.std.specs.Prelude.{◌≡◌, ◌≤◌, None, Ok, IfOk, IfSome, IsErrAnd, length};
+ghost use Rattle.std.specs.IoError.{error_kind};
+ghost use Rattle.std.specs.Process.{exit_code};
+ghost use Rattle.std.specs.declared.io.ErrorKind.TheVariants.{ConnectionAborted};
+ghost use Rattle.runner.specs.Values.{IsInRange};
+ghost use Rattle.host_programs.specs.declared.started.StartedAs.TheVariants.{Launcher};
+
+use crate::children::{is_reaped, kill_child};
+use host_files::{beside_path, read_part};
+use host_shells::{Progress, Session, Sessions};
+use runner::{RunKey, Stream};
+use std::alloc::Global;
+use std::fs::{self, File, OpenOptions};
+use std::io::{self, ErrorKind};
+use std::os::unix::fs::OpenOptionsExt;
+use std::os::unix::process::ExitStatusExt;
+use std::process::{Child, Command, ExitStatus, Stdio};
+use std::time::{Duration, Instant};
+
+/// What follows a run's name in those of the files that take what its program writes.
+pub(crate) const OUTPUT_ENDING: &str = ".out";
+
+pub(crate) const ERROR_ENDING: &str = ".err";
+
+/// How those files can be used.
+const STREAM_MODE: u32 = 0o600;
+
+/// What a shell adds to a signal to say that a program was ended by it.
+const CODE_OF_SIGNALS: i32 = 128;
+
+/// For how long a launcher that was told to end may take to do so.
+const GRACE_SECONDS: u64 = 10;
+
+/// Whether an action's program was started as it is, or a launcher that starts it.
+#[derive(Clone, Copy, PartialEq, Eq)]
+pub(crate) enum StartedAs {
+    Itself,
+    Launcher,
+}
+
+/// A program that was started. What it writes goes into two files that have no names any more, so
+/// that nothing waits for whoever else writes there, and nothing is left of them.
+#[derive(Drop)]
+pub(crate) struct Started {
+    run: RunKey,
+    started_as: StartedAs,
+    child: Child,
+    stdout: File,
+    stderr: File,
+    /// How much of each counts, once that was measured: who writes there still adds nothing.
+    measured: Option<Lengths>,
+    /// How far its session is ended.
+    progress: Progress,
+    /// Whether it was waited for, so that the system may give its number to another process.
+    is_reaped: bool,
+}
+
+/// How many bytes a program wrote to each of its streams.
+#[derive(Clone, Copy)]
+struct Lengths {
+    output: u64,
+    error: u64,
+}
+
+/// How many bytes of a stream may be read at most from a place on, where so many are wanted, and so
+/// many count.
+fn most_from(end: u64, from: u64, most: u32) -> u32
+    ensures { result ≤ most }
+{
+    let left = end.saturating_sub(from);
+    if left < u64::from(most) {
+        left as u32
+    } else {
+        most
+    }
+}
+
+/// A new file with no name, to which all that is written is added. For a moment it has one.
+fn nameless_file(rt: &HostRuntime, work: &str, run: RunKey, ending: &str) -> io::Result<File> {
+    let path = beside_path(rt.alloc(), work, run, ending)?;
+    let file: File = OpenOptions::new()
+        .read(true)
+        .append(true)
+        .create_new(true)
+        .mode(STREAM_MODE)
+        .open(rt, path.as_str())?;
+    fs::remove_file(rt, path.as_str())?;
+    Ok(file)
+}
+
+/// Makes a program write into these files, and read nothing.
+fn set_streams(command: &mut Command, stdout: &File, stderr: &File) -> io::Result<()> {
+    command
+        .stdin(Stdio::null())
+        .stdout(stdout.try_clone()?)
+        .stderr(stderr.try_clone()?);
+    Ok(())
+}
+
+/// Starts a command that lacks its streams.
+pub(crate) fn start(
+    rt: &HostRuntime,
+    work: &str,
+    run: RunKey,
+    started_as: StartedAs,
+    command: &mut Command,
+) -> io::Result<Started> {
+    let stdout = nameless_file(rt, work, run, OUTPUT_ENDING)?;
+    let stderr = nameless_file(rt, work, run, ERROR_ENDING)?;
+    set_streams(command, &stdout, &stderr)?;
+    Ok(Started {
+        run,
+        started_as,
+        child: command.spawn(rt)?,
+        stdout,
+        stderr,
+        measured: None,
+        progress: Progress::Alive,
+        is_reaped: false,
+    })
+}
+
+/// The code with which a program ended. A launcher that was ended by a signal could not start the
+/// program, or lost it: its run has none, and the error says so.
+fn code_of(started_as: StartedAs, status: ExitStatus) -> io::Result<i32>
+    ensures range { IfOk result IsInRange }
+    ensures own { IfSome (exit_code status) (λ code. result ≡ Ok code) }
+    ensures lost { exit_code status ≡ None → started_as ≡ Launcher →
+        IsErrAnd result (λ error. error_kind error ≡ ConnectionAborted) }
+{
+    match (status.code(), started_as) {
+        (Some(code), _) => Ok(code),
+        (None, StartedAs::Itself) => {
+            let signal = status.signal().unwrap_or(0);
+            Ok(signal.saturating_add(CODE_OF_SIGNALS))
+        }
+        (None, StartedAs::Launcher) => Err(io::Error::from(ErrorKind::ConnectionAborted)),
+    }
+}
+
+/// What is next for a session that is to be ended.
+#[derive(Clone, Copy, PartialEq, Eq)]
+enum Next {
+    /// It is told to end by itself.
+    Tell,
+    /// It has time to do so still.
+    Wait,
+    /// It is ended.
+    End,
+}
+
+/// What is next for the session of a launcher that has not ended: what it started elsewhere it
+/// alone can end, so it is told, and has some seconds.
+fn next_for_launcher(progress: Progress, now: Instant) -> Next {
+    match progress {
+        Progress::Alive => Next::Tell,
+        Progress::Told(since) if now.duration_since(since) < Duration::from_secs(GRACE_SECONDS) => {
+            Next::Wait
+        }
+        Progress::Told(_) | Progress::Asked(..) | Progress::Ended => Next::End,
+    }
+}
+
+impl Started {
+    pub(crate) fn is_of(&self, run: RunKey) -> bool {
+        self.run.instance == run.instance && self.run.job == run.job
+    }
+
+    /// The code with which it ended, or `None` while it runs.
+    pub(crate) fn ask(&mut self) -> io::Result<Option<i32>>
+        ensures { IfOk result (λ state. IfSome state IsInRange) }
+    {
+        match self.child.try_wait()? {
+            None => Ok(None),
+            Some(status) => {
+                self.is_reaped = true;
+                Ok(Some(code_of(self.started_as, status)?))
+            }
+        }
+    }
+
+    /// Waits for it, where it has ended. Whether that was done.
+    fn reap(&mut self) -> io::Result<bool> {
+        if !self.is_reaped {
+            self.is_reaped = is_reaped(&mut self.child)?;
+        }
+        Ok(self.is_reaped)
+    }
+
+    /// Ends it alone, where there are no sessions. Whether that is done.
+    pub(crate) fn kill(&mut self) -> io::Result<bool> {
+        kill_child(&mut self.child)?;
+        self.reap()
+    }
+
+    /// Does the next of what is to be done to end its session. Whether that is done.
+    pub(crate) fn end(&mut self, sessions: &mut Sessions<'_>, now: Instant) -> io::Result<bool> {
+        let number = self.child.id();
+        match self.next(now)? {
+            Next::Tell => self.progress = sessions.tell(number, now)?,
+            Next::Wait => {}
+            Next::End => {
+                if let Progress::Alive | Progress::Told(_) = self.progress {
+                    // Before it has a session of its own it would not be found in one.
+                    kill_child(&mut self.child)?;
+                }
+                let is_reaped = self.is_reaped;
+                let session = Session { number, is_reaped };
+                self.progress = sessions.end(session, self.progress, now)?;
+            }
+        }
+        match self.progress {
+            Progress::Ended => self.reap(),
+            Progress::Alive | Progress::Told(_) | Progress::Asked(..) => Ok(false),
+        }
+    }
+
+    fn next(&mut self, now: Instant) -> io::Result<Next> {
+        if self.started_as == StartedAs::Launcher && !self.reap()? {
+            Ok(next_for_launcher(self.progress, now))
+        } else {
+            Ok(Next::End)
+        }
+    }
+
+    /// How many bytes it wrote to both its streams. From then on no others count.
+    pub(crate) fn length(&mut self) -> io::Result<u64> {
+        let output = self.stdout.metadata()?.len();
+        let error = self.stderr.metadata()?.len();
+        self.measured = Some(Lengths { output, error });
+        Ok(output.saturating_add(error))
+    }
+
+    /// Bytes that it wrote to a stream, from a place on, at most so many.
+    pub(crate) fn read(
+        &self,
+        alloc: Global,
+        stream: Stream,
+        from: u64,
+        most: u32,
+    ) -> io::Result<Vec<u8>>
+        ensures { IfOk result (λ bytes. length bytes.items ≤ most) }
+    {
+        let (file, end) = match (stream, self.measured) {
+            (Stream::Output, Some(lengths)) => (&self.stdout, lengths.output),
+            (Stream::Error, Some(lengths)) => (&self.stderr, lengths.error),
+            (Stream::Output, None) => (&self.stdout, u64::MAX),
+            (Stream::Error, None) => (&self.stderr, u64::MAX),
+        };
+        read_part(alloc, file, from, most_from(end, from, most))
+    }
+
+    /// The last bytes of its standard error, at most so many.
+    pub(crate) fn last_words(&self, alloc: Global, most: u32) -> io::Result<Vec<u8>>
+        ensures { IfOk result (λ bytes. length bytes.items ≤ most) }
+    {
+        let length = self.stderr.metadata()?.len();
+        read_part(
+            alloc,
+            &self.stderr,
+            length.saturating_sub(u64::from(most)),
+            most,
+        )
+    }
+
+    /// What is to be waited for.
+    pub(crate) fn child(self) -> Child {
+        let Started { child, .. } = self;
+        child
+    }
+}

@@ -1,0 +1,229 @@
+//! Ending sessions of programs without waiting, by one shell that is kept for it.
+
+use crate::processes::{Processes, is_there};
+use crate::shell::Shell;
+use std::alloc::AllocError;
+use std::io::{self, ErrorKind};
+use std::time::{Duration, Instant};
+
+/// Makes a program the first of a session of its own, whose number is its own number.
+pub const SESSION: &str = "/usr/bin/setsid";
+
+/// How often it is looked for what is left of a session, while anything is.
+const MOST_SEARCHES: u32 = 20;
+
+/// How long after it was tried to start a shell it is tried again, in milliseconds.
+const TRIED_AGAIN: u64 = 250;
+
+/// A session that is to be ended.
+#[derive(Clone, Copy)]
+pub struct Session {
+    /// That of its first process.
+    pub number: u32,
+    /// Whether that process was waited for. The system may give the number to another one then, but
+    /// not while anything is left of the session.
+    pub is_reaped: bool,
+}
+
+/// A question to a shell.
+#[derive(Clone, Copy)]
+pub struct Question {
+    /// The number of the shell.
+    shell: u64,
+    /// It is answered when so many are.
+    place: u64,
+}
+
+/// How far a session is ended.
+#[derive(Clone, Copy)]
+pub enum Progress {
+    Alive,
+    /// It was told then to end by itself.
+    Told(Instant),
+    /// The shell was asked to end it, or what was found of it. So often it may be looked still.
+    Asked(Question, u32),
+    Ended,
+}
+
+/// The number of a session that can be ended: 0 and 1 would stand for others than those of
+/// programs.
+fn checked(session: u32) -> io::Result<u32> {
+    if session < 2 {
+        return Err(io::Error::from(ErrorKind::InvalidInput));
+    }
+    Ok(session)
+}
+
+/// Ends sessions.
+///
+/// Whoever runs programs can end or stop the shell, or leave no room for a new one. So it is begun
+/// again when it has ended, and replaced when it does not answer; while there is none, all that is
+/// asked for is still to be done.
+#[derive(Drop)]
+pub struct Sessions<'a> {
+    rt: &'a HostRuntime,
+    shell: Option<Shell>,
+    /// The number of the shell, or of the one that is started next.
+    number: u64,
+    /// When it was tried last to start one.
+    tried: Option<Instant>,
+    /// Those that were killed, until they have ended.
+    killed: Vec<Shell>,
+    processes: Processes<'a>,
+    /// What was answered when it was looked for processes last.
+    looked: Option<Question>,
+}
+
+impl<'a> Sessions<'a> {
+    /// No shell stands yet.
+    pub fn new(rt: &'a HostRuntime) -> Sessions<'a> {
+        Sessions {
+            rt,
+            shell: None,
+            number: 0,
+            tried: None,
+            killed: Vec::new(rt.alloc()),
+            processes: Processes::new(rt),
+            looked: None,
+        }
+    }
+
+    /// Sees to it that a shell stands that has not ended and that answers, where one can be had
+    /// now.
+    pub fn keep(&mut self, now: Instant) -> Result<(), AllocError> {
+        let shell = self.taken(now)?;
+        self.shell = shell;
+        Ok(())
+    }
+
+    /// Takes out the shell, where one can be had now.
+    fn taken(&mut self, now: Instant) -> Result<Option<Shell>, AllocError> {
+        self.killed.retain_mut(|shell| !shell.has_ended());
+        self.killed.reserve(1)?;
+        if let Some(mut shell) = self.shell.take() {
+            if shell.is_well(now) {
+                return Ok(Some(shell));
+            }
+            self.number = self.number.wrapping_add(1);
+            shell.kill();
+            // There is room for it.
+            let _ = self.killed.push(shell);
+        }
+        Ok(self.started(now))
+    }
+
+    /// A new shell, unless it cannot be started, or that was tried just before.
+    fn started(&mut self, now: Instant) -> Option<Shell> {
+        if let Some(tried) = self.tried {
+            if now.duration_since(tried) < Duration::from_millis(TRIED_AGAIN) {
+                return None;
+            }
+        }
+        self.tried = Some(now);
+        Shell::start(self.rt, now).ok()
+    }
+
+    /// Tells a session to end by itself, where that is possible now.
+    pub fn tell(&mut self, session: u32, now: Instant) -> io::Result<Progress> {
+        let session = checked(session)?;
+        let Some(mut shell) = self.taken(now)? else {
+            return Ok(Progress::Alive);
+        };
+        let answer = shell.tell_group(self.rt.alloc(), session);
+        self.shell = Some(shell);
+        if answer? {
+            Ok(Progress::Told(now))
+        } else {
+            Ok(Progress::Alive)
+        }
+    }
+
+    /// Does the next of what is to be done to end a session, and tells how far that is. Its first
+    /// process and the group of that are ended, and then all else that is found in it, until
+    /// nothing is, or it was looked often.
+    ///
+    /// Where another process has its number, it has ended.
+    pub fn end(
+        &mut self,
+        session: Session,
+        progress: Progress,
+        now: Instant,
+    ) -> io::Result<Progress> {
+        let number = checked(session.number)?;
+        if let Progress::Ended = progress {
+            return Ok(Progress::Ended);
+        }
+        if session.is_reaped && is_there(self.rt, number)? {
+            return Ok(Progress::Ended);
+        }
+        let Some(mut shell) = self.taken(now)? else {
+            return Ok(progress);
+        };
+        let answer = self.go_on(&mut shell, session, progress);
+        self.shell = Some(shell);
+        answer
+    }
+
+    fn go_on(
+        &mut self,
+        shell: &mut Shell,
+        session: Session,
+        progress: Progress,
+    ) -> io::Result<Progress> {
+        match progress {
+            Progress::Asked(question, searches) if question.shell == self.number => {
+                if question.place > shell.answered() {
+                    return Ok(progress);
+                }
+                self.end_rest(shell, session, question, searches)
+            }
+            _ => match shell.end_group(self.rt.alloc(), session)? {
+                None => Ok(progress),
+                Some(place) => Ok(self.asked(place, MOST_SEARCHES)),
+            },
+        }
+    }
+
+    fn asked(&self, place: u64, searches: u32) -> Progress {
+        let shell = self.number;
+        Progress::Asked(Question { shell, place }, searches)
+    }
+
+    /// Ends what is left of a session, of which all that was found was ended by the answer to a
+    /// question.
+    fn end_rest(
+        &mut self,
+        shell: &mut Shell,
+        session: Session,
+        question: Question,
+        searches: u32,
+    ) -> io::Result<Progress> {
+        if searches == 0 {
+            return Ok(Progress::Ended);
+        }
+        self.look_since(shell, question)?;
+        let left = self.processes.alive_in(session.number)?;
+        if left.is_empty() {
+            return Ok(Progress::Ended);
+        }
+        let (place, were_all) = shell.end_each(self.rt.alloc(), session, &left)?;
+        let searches = if were_all { searches - 1 } else { searches };
+        Ok(self.asked(place, searches))
+    }
+
+    /// Looks for processes, unless that was done since a question was answered.
+    fn look_since(&mut self, shell: &Shell, question: Question) -> io::Result<()> {
+        if let Some(looked) = self.looked {
+            if looked.shell == self.number && question.place <= looked.place {
+                return Ok(());
+            }
+        }
+        self.looked = None;
+        self.processes.look()?;
+        self.looked = Some(Question {
+            shell: self.number,
+            place: shell.answered(),
+        });
+        Ok(())
+    }
+}

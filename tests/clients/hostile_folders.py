@@ -398,6 +398,57 @@ for number in range(10_000):
     return f"they are gone {time.monotonic() - begun:.1f} s after the run"
 
 
+def deep_paths(stage):
+    """A working directory and an output have half a million names, and many outputs 150 that they do not share."""
+    deep, below = "/".join("a" * 500_000), "/".join("b" * 150)
+    with stage.serve() as (server, red):
+        stage.fails(server, red, "folder", "true", folder=deep)
+        stage.fails(server, red, "folder", "true", files=[deep])
+        stage.fails(server, red, "folder", "true", folder="/".join("a" * 100), files=["/".join("b" * 100)])
+        result = stage.runs(red, "echo > 7/o", files=[f"{n}/{below}/o" for n in range(60)] + ["7/o"])
+        expect(list(result.files), ["7/o"], "the outputs that are there")
+        stage.nothing_left(server, 60)
+        stage.blue_runs(server)
+    return "runs with too deep a path fail, and the others end"
+
+
+def many_outputs(stage):
+    """Actions have more outputs than are gathered, or name a directory of many entries again and again."""
+    with stage.serve() as (server, red):
+        stage.fails(server, red, "folder", "true", files=[f"o{n}" for n in range(20_001)])
+        result = stage.runs(red, "echo > o4711", files=[f"o{n}" for n in range(20_000)])
+        expect(list(result.files), ["o4711"], "the outputs that are there")
+        script = """import os
+open("o", "w").close()
+for number in range(54_000):
+    os.makedirs(str(number % 6), exist_ok=True)
+    os.link("o", f"{number % 6}/{number}")
+"""
+        stage.fails(server, red, "folder", python(script), directories=[str(number) for number in range(6)])
+        stage.nothing_left(server, 120)
+        stage.blue_runs(server)
+    return "20,000 outputs are gathered, and no more; nor 54,000 entries of directories"
+
+
+def links_listed(stage):
+    """Output directories have 15,000 links each, which count for nothing, or one more, which is not looked at."""
+    script = """import os, sys
+for directory in range(10):
+    os.mkdir(f"d{directory}")
+    os.symlink("nowhere", f"d{directory}/link")
+    for number in range(1, int(sys.argv[1])):
+        os.link(f"d{directory}/link", f"d{directory}/{number}", follow_symlinks=False)
+"""
+    paths = [f"d{number}" for number in range(10)]
+    with stage.serve() as (server, red):
+        result = stage.runs(red, python(script, 15_000), directories=paths)
+        expect(len(result.trees), 10, "the directories that are gathered")
+        stage.fails(server, red, "folder", python(script, 15_001), directories=paths)
+        stage.nothing_left(server, 120)
+        stage.blue_runs(server)
+    return "directories full of links are gathered, and one of 15,001 entries is refused"
+
+
 def names_of_removal(stage):
     """Directories have the names that removal gives to what it moves, in the folder of the run and beside it."""
     inside = """seq -f ".removed-%g/x" 3000 | xargs mkdir -p; seq -f ".aside/%g/x" 300 | xargs mkdir -p

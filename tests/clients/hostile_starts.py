@@ -12,7 +12,7 @@ import time
 from execution_context import expect
 from executing import Peer
 from server import free_ports
-from teams import Skipped, listed, started
+from teams import PYTHON, Skipped, listed, started
 
 
 # Starts a program where there is no `setsid`: a layer over /usr/bin hides it.
@@ -124,6 +124,40 @@ def unusable_folder(stage):
         lines.append(refused(stage, ["--work", folder, instance()], [folder]))
         lines.append(refused(stage, ["--work", f"{folder}/new", instance()], [folder]))
     return "; ".join(f"`{line.replace(stage.folder, '..')}`" for line in lines)
+
+
+def full_disk(stage):
+    """A server ends by SIGKILL while an action has left no room on the disk of its folder, and is started again."""
+    user, group = stage.owner()
+    how = f"size=4m,nr_inodes=400,mode=755,uid={user},gid={group}"
+    if subprocess.run(["mount", "-t", "tmpfs", "-o", how, "none", stage.work], capture_output=True).returncode:
+        raise Skipped("no disk can be mounted here")
+    filling = """import time
+try:
+    for number in range(10_000):
+        open(str(number), "x").close()
+except OSError:
+    time.sleep(60)
+"""
+    try:
+        with stage.serve() as (server, red):
+            red.start(stage.action([PYTHON, "-c", filling]))
+            stage.waits(lambda: os.statvfs(stage.work).f_ffree == 0, 20, "the disk is full")
+            stage.stop(server, signal.SIGKILL)
+        stage.end_programs()
+        # what the program wrote to has gone, and left room for some files
+        former = next(name for name in os.listdir(stage.work) if name.startswith("start-"))
+        for number in range(os.statvfs(stage.work).f_ffree):
+            with open(os.path.join(stage.work, former, f"more-{number}"), "x"):
+                pass
+        expect(os.statvfs(stage.work).f_ffree, 0, "files that may still be made")
+        with stage.serve() as (server, red):
+            stage.runs(red, "printf abc > out", files=["out"])
+            stage.blue_runs(server)
+            expect([line for line in server.said() if "cannot remove" in line], [], "lines on what stays")
+    finally:
+        subprocess.run(["umount", "--lazy", stage.work], check=True)
+    return "the next start makes room, and actions run"
 
 
 def no_slots(stage):

@@ -1,9 +1,9 @@
 //! Calls that are counted, and one of which goes wrong.
 
 ghost use Rattle.std.specs.Prelude.{◌≡◌};
-ghost use Rattle.runner.specs.Faults.{Counts};
+ghost use Rattle.run_calls.specs.Failures.{Counts};
 
-use runner::RunKey;
+use run_calls::RunKey;
 use serve::Socket;
 use std::io::{self, ErrorKind};
 

@@ -3,7 +3,7 @@
 ghost use Rattle.std.specs.Prelude.{◌≤◌, length};
 
 use crate::counting::{Calls, Deed, Failing};
-use runner::{Entry, FileFacts, Folder, Found, Place, RunKey};
+use run_calls::{Entry, FileFacts, Folder, Found, Place, RunKey};
 use std::alloc::{AllocError, Global};
 use std::io;
 use std::rc::RcStr;

@@ -3,11 +3,11 @@
 //! passed over: what comes of the run shows it.
 
 ghost use Rattle.std.specs.Prelude.{◌≡◌, ◌≤◌, IfSome, length};
-ghost use Rattle.runner.specs.Values.{IsInRange};
+ghost use Rattle.run_calls.specs.Values.{IsInRange};
 
 use crate::counting::{Calls, Deed, Failing};
 use crate::fake_folder::piece;
-use runner::{Command, Place, Programs, RunKey, Stream};
+use run_calls::{Command, Place, Programs, RunKey, Stream};
 use std::alloc::{AllocError, Global};
 use std::io;
 

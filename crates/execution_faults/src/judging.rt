@@ -4,7 +4,7 @@ use crate::case::{BYSTANDERS, NAMES, TURNS, Told};
 use crate::counting::Deed;
 use crate::fake_sockets::Client;
 use program_status::Output;
-use runner::RunKey;
+use run_calls::RunKey;
 
 /// What a client is sent where this run fails, or none.
 #[derive(Drop)]

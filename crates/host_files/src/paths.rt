@@ -6,7 +6,7 @@
 ghost use Rattle.std.specs.Prelude.{◌≡◌, IfOk, string_bytes};
 ghost use Rattle.host_files.specs.Folders.{root_name, root_path};
 
-use runner::{Place, RunKey};
+use run_calls::{Place, RunKey};
 use std::alloc::{AllocError, Global};
 use std::rc::RcStr;
 

@@ -3,6 +3,10 @@
 use crate::directory::{COMMON_MODE, Directory};
 use std::io::{self, ErrorKind};
 
+/// How many names a path has at most that is gone down, the run's among them. The trees of inputs and
+/// what is taken of output directories have 64 levels at most.
+const MOST_NAMES: usize = 192;
+
 /// A directory below the folder of a start that was gone down to.
 #[derive(Drop)]
 pub(crate) struct Entered {
@@ -29,6 +33,11 @@ fn rest_below<'b>(above: &str, path: &'b str) -> Option<&'b str> {
         return Some(rest);
     }
     rest.strip_prefix('/')
+}
+
+/// Whether a path has more names than are gone down in one call.
+fn is_deep(path: &str) -> bool {
+    path.split('/').nth(MOST_NAMES).is_some()
 }
 
 impl<'a> Entrance<'a> {
@@ -70,12 +79,15 @@ impl<'a> Entrance<'a> {
     }
 
     /// The directory that is kept, where the path leads through it, or that of the start, and what
-    /// is left of the path from there on.
+    /// is left of the path from there on. A path of too many names is refused.
     fn nearest<'b>(
         &mut self,
         start: &Directory,
         path: &'b str,
     ) -> io::Result<(Directory, &'b str)> {
+        if is_deep(path) {
+            return Err(io::Error::from(ErrorKind::InvalidFilename));
+        }
         if let Some(
             Entered {
                 path: above,

@@ -2,13 +2,13 @@
 
 use crate::directory::{Directory, Names};
 use host_files::{found_at, is_executable};
-use runner::{Entry, FileFacts, Found};
+use run_calls::{Entry, FileFacts, Found};
 use std::fs::{self, File, OpenOptions};
 use std::io::{self, ErrorKind};
 use std::os::unix::fs::MetadataExt;
 
 /// At how many entries of a directory it is looked at most.
-const MOST_SEEN: u32 = 30_000;
+const MOST_SEEN: u32 = 15_000;
 
 /// What a file is called for as long as it is opened by another name.
 pub(crate) const LINKED: &str = "linked";
@@ -113,7 +113,7 @@ fn add_entries(
     most: usize,
     entries: &mut Vec<Entry>,
 ) -> io::Result<()> {
-    for _ in 0..MOST_SEEN {
+    for _ in 0..=MOST_SEEN {
         if entries.len() >= most {
             return Ok(());
         }

@@ -1,18 +1,19 @@
 //! Folders of this host.
 
 ghost use Rattle.std.specs.Prelude.{◌≡◌, ◌≤◌, IfOk, length};
-ghost use Rattle.runner.specs.Faults.{Counts};
+ghost use Rattle.run_calls.specs.Failures.{Counts};
 
 use crate::directory::{COMMON_MODE, Directory, PRIVATE_MODE};
 use crate::entering::{Entered, Entrance};
 use crate::files::{Kept, again, list_in, look_in, open_to_add, open_to_read};
 use crate::opener::{Opener, Target};
 use crate::removing::Removal;
+use crate::tallies::Tallies;
 use crate::work::Work;
 use host_files::{
     aside_name, file_path, found_at, is_absence, left_path, node_path, parted, read_part, root_name,
 };
-use runner::{Entry, FileFacts, Folder, Found, Place, RunKey};
+use run_calls::{Entry, FileFacts, Folder, Found, Place, RunKey};
 use std::fs::{File, OpenOptions, Permissions};
 use std::io::{self, ErrorKind, Write};
 use std::os::unix::fs::{OpenOptionsExt, PermissionsExt, symlink};
@@ -41,6 +42,8 @@ struct Folders<'a> {
     unopened: Option<io::Error>,
     /// How many directories were moved in order to be removed.
     moved: u64,
+    /// How much was gathered of runs.
+    tallies: Tallies,
 }
 
 fn make_file(rt: &HostRuntime, path: &str, is_executable: bool) -> io::Result<File> {
@@ -63,6 +66,15 @@ impl<'a> Folders<'a> {
     /// Makes the folder of a run, and the one aside.
     fn make_root(&mut self, run: RunKey) -> io::Result<()> {
         self.work.clear_some(self.rt);
+        self.tallies.begin(run)?;
+        let answer = self.make_both(run);
+        if answer.is_err() {
+            self.tallies.end(run);
+        }
+        answer
+    }
+
+    fn make_both(&self, run: RunKey) -> io::Result<()> {
         let alloc = self.rt.alloc();
         let start = self.work.start()?;
         let aside = aside_name(alloc, run)?;
@@ -143,6 +155,7 @@ impl<'a> Folders<'a> {
     }
 
     fn make_parents(&mut self, place: &Place, path: &str) -> io::Result<()> {
+        self.tallies.add_output(place.run)?;
         let (above, _) = parted(path);
         let path = left_path(self.rt.alloc(), place, above, &[])?;
         self.make_directory(path.as_str())
@@ -198,7 +211,9 @@ impl<'a> Folders<'a> {
         let entered = self.entrance.enter(self.work.start()?, path.as_str())?;
         let answer = list_in(self.rt, &entered.directory, most);
         self.entrance.keep(entered);
-        answer
+        let entries = answer?;
+        self.tallies.add_entries(place.run, entries.len())?;
+        Ok(entries)
     }
 
     /// Whether a file is open, where somebody else may keep whoever opens it waiting.
@@ -280,6 +295,7 @@ impl<'a> Folders<'a> {
     fn remove(&mut self, run: RunKey) -> io::Result<bool> {
         self.made = None;
         self.read = None;
+        self.tallies.end(run);
         if let Some(opener) = &mut self.opener {
             opener.forget(run)?;
         }
@@ -324,6 +340,7 @@ impl<'a> HostFolder<'a> {
                 read: None,
                 unopened: None,
                 moved: 0,
+                tallies: Tallies::new(rt.alloc()),
             },
             faults: 0,
         }

@@ -8,6 +8,7 @@ mod folder;
 mod opener;
 mod removing;
 mod starts;
+mod tallies;
 mod work;
 
 pub use folder::HostFolder;

@@ -9,7 +9,7 @@ use crate::directory::Directory;
 use crate::files::LINKED;
 use host_files::is_absence;
 use host_shells::{Answer, OpeningShell};
-use runner::RunKey;
+use run_calls::RunKey;
 use std::alloc::AllocError;
 use std::fs::{self, File, Metadata};
 use std::io::{self, ErrorKind};

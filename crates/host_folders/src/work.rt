@@ -31,6 +31,9 @@ const TRIAL: &str = "trial";
 /// For how long a start removes what former ones left, before it goes on.
 const CLEARING_SECONDS: u64 = 1;
 
+/// For how long it does so where the disk is full, before it gives up.
+const ROOM_SECONDS: u64 = 60;
+
 /// Where the runs of a start have their folders.
 #[derive(Drop)]
 pub struct Work {
@@ -233,15 +236,20 @@ fn begin_in(
     let former = starts_in(alloc, &directory)?;
     let number = number_after(rt, &former)?;
     let mut moved = number.saturating_mul(MOVED_OF_START);
+    let (name, start) = match tried_start(alloc, &directory, number) {
+        Err(error) if is_full(&error) => start_in_full(
+            rt, &directory, number, &former, &mut moved,
+        )?,
+        answer => answer?,
+    };
     for name in former.iter() {
-        let answer = former_in(alloc, &directory, &mut moved).set_aside(&directory, name.as_str());
-        if let Err(error) = answer {
-            complain(alloc, path, name.as_str(), error, complaints)?;
+        match former_in(alloc, &directory, &mut moved).set_aside(&directory, name.as_str()) {
+            Err(error) if error.kind() != ErrorKind::NotFound => {
+                complain(alloc, path, name.as_str(), error, complaints)?;
+            }
+            _ => {}
         }
     }
-    let (name, start) = make_start(alloc, &directory, number)?;
-    start.make_dir(alloc, TRIAL, PRIVATE_MODE)?;
-    start.remove_dir(TRIAL.as_bytes())?;
     let mut held = Held {
         directory,
         start,
@@ -256,6 +264,86 @@ fn begin_in(
         path: format!(in alloc; "{path}/{name}")?,
         held: Some(held),
     })
+}
+
+/// Makes the folder of this start, if a folder can be made and removed in it.
+fn tried_start(
+    alloc: Global,
+    directory: &Directory,
+    number: u64,
+) -> io::Result<(String, Directory)> {
+    let (name, start) = make_start(alloc, directory, number)?;
+    let answer = start.make_dir(alloc, TRIAL, PRIVATE_MODE);
+    if let Err(error) = answer {
+        directory.remove_dir(name.as_bytes())?;
+        return Err(error);
+    }
+    start.remove_dir(TRIAL.as_bytes())?;
+    Ok((name, start))
+}
+
+/// Whether the disk has no room.
+fn is_full(error: &io::Error) -> bool {
+    matches!(
+        error.kind(),
+        ErrorKind::StorageFull | ErrorKind::QuotaExceeded
+    )
+}
+
+/// The same on a full disk: what former starts left is removed until there is room.
+fn start_in_full(
+    rt: &HostRuntime,
+    directory: &Directory,
+    number: u64,
+    former: &[String],
+    moved: &mut u64,
+) -> io::Result<(String, Directory)> {
+    let began = Instant::now(rt)?;
+    if let Some(made) = start_once_cleared(rt, directory, number, moved, began)? {
+        return Ok(made);
+    }
+    for name in former {
+        if becomes_former(rt.alloc(), directory, name.as_str()) {
+            if let Some(made) = start_once_cleared(rt, directory, number, moved, began)? {
+                return Ok(made);
+            }
+        }
+    }
+    Err(io::Error::from(ErrorKind::StorageFull))
+}
+
+/// Has the folder of a former start be that of what is removed, unless there is one: it could not be
+/// made. Whether it is.
+fn becomes_former(alloc: Global, directory: &Directory, name: &str) -> bool {
+    let name = name.as_bytes();
+    directory.open_in(name).is_ok()
+        && directory
+            .move_into(alloc, name, directory, FORMER.as_bytes())
+            .is_ok()
+}
+
+/// Removes what stands in the folder for that until the folder of this start can be made; none where
+/// nothing is left there, or the time is over.
+fn start_once_cleared(
+    rt: &HostRuntime,
+    directory: &Directory,
+    number: u64,
+    moved: &mut u64,
+    began: Instant,
+) -> io::Result<Option<(String, Directory)>> {
+    let alloc = rt.alloc();
+    for _ in 0..u64::MAX {
+        let is_left = matches!(former_in(alloc, directory, moved).remove_some(), Ok(false));
+        match tried_start(alloc, directory, number) {
+            Err(error) if is_full(&error) => {}
+            answer => return Ok(Some(answer?)),
+        }
+        let time = Instant::now(rt)?.duration_since(began);
+        if !is_left || time >= Duration::from_secs(ROOM_SECONDS) {
+            return Ok(None);
+        }
+    }
+    Ok(None)
 }
 
 /// Adds that what has a name in a directory stays.

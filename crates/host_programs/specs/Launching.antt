@@ -2,7 +2,7 @@
 use Rattle.std.specs.Prelude.{◌≡◌, ℕ, Bool, true, false, List, [], ◌∷◌, ◌++◌, None, Some, codes, map}
 use Rattle.std.specs.Process.{clears_env, command_args, command_dir, command_program, command_var}
 use Rattle.std.specs.declared.process.command.Command.{Command}
-use Rattle.runner.specs.Values.{CommandValue, VariableValue}
+use Rattle.run_calls.specs.Values.{CommandValue, VariableValue}
 
 abbrev pub Text : Type 0
 Text = List ℕ

@@ -1,6 +1,6 @@
 //! How much a program can be given.
 
-use runner::Command as Ordered;
+use run_calls::Command as Ordered;
 use std::io::{self, ErrorKind};
 
 /// The most bytes of an argument, or of a variable with its name.

@@ -1,12 +1,12 @@
 //! How a program is started by a launcher.
 
 ghost use Rattle.std.specs.Prelude.{◌≡◌, ◌++◌, IfOk, IfSome, OnOk, codes, map, slice_get, string_bytes};
-ghost use Rattle.runner.specs.Values.{command_shown, variable_shown};
+ghost use Rattle.run_calls.specs.Values.{command_shown, variable_shown};
 ghost use Rattle.host_programs.specs.Launching.{StartsBare, assignment, directory_word, launcher_words, session_words};
 
 use crate::starting::bare_command;
 use host_files::is_executable;
-use runner::{Command as Ordered, Place, Variable};
+use run_calls::{Command as Ordered, Place, Variable};
 use std::alloc::{AllocError, Global};
 use std::fs;
 use std::io::{self, ErrorKind};

@@ -1,8 +1,8 @@
 //! Programs of this host.
 
 ghost use Rattle.std.specs.Prelude.{◌≡◌, ◌≤◌, IfOk, IfSome, length};
-ghost use Rattle.runner.specs.Faults.{Counts};
-ghost use Rattle.runner.specs.Values.{IsInRange};
+ghost use Rattle.run_calls.specs.Failures.{Counts};
+ghost use Rattle.run_calls.specs.Values.{IsInRange};
 
 use crate::children::reap;
 use crate::exec_size::check_size;
@@ -14,7 +14,7 @@ use crate::started::{self, Started, StartedAs};
 use crate::starting::{add_variables, bare_command};
 use host_files::{output_path, root_path};
 use host_shells::Sessions;
-use runner::{Command as Ordered, Place, Programs, RunKey, Stream};
+use run_calls::{Command as Ordered, Place, Programs, RunKey, Stream};
 use std::io::{self, ErrorKind};
 use std::process::{Child, Command};
 use std::time::Instant;

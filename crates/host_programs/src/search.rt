@@ -1,7 +1,7 @@
 //! Looking for a program before it is started.
 
 use host_files::is_executable;
-use runner::Command as Ordered;
+use run_calls::Command as Ordered;
 use std::fs;
 use std::io::{self, ErrorKind};
 

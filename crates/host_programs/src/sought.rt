@@ -1,10 +1,10 @@
 //! Programs that are looked for.
 
 ghost use Rattle.std.specs.Prelude.{◌≡◌, IfOk, map, string_bytes};
-ghost use Rattle.runner.specs.Values.{command_shown, variable_shown};
+ghost use Rattle.run_calls.specs.Values.{command_shown, variable_shown};
 
 use crate::search::{Search, search_from};
-use runner::{Command as Ordered, RunKey, Variable};
+use run_calls::{Command as Ordered, RunKey, Variable};
 use std::alloc::{AllocError, Global};
 use std::io;
 

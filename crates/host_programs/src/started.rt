@@ -4,13 +4,13 @@ ghost use Rattle.std.specs.Prelude.{◌≡◌, ◌≤◌, None, Ok, IfOk, IfSome
 ghost use Rattle.std.specs.IoError.{error_kind};
 ghost use Rattle.std.specs.Process.{exit_code};
 ghost use Rattle.std.specs.declared.io.ErrorKind.TheVariants.{ConnectionAborted};
-ghost use Rattle.runner.specs.Values.{IsInRange};
+ghost use Rattle.run_calls.specs.Values.{IsInRange};
 ghost use Rattle.host_programs.specs.declared.started.StartedAs.TheVariants.{Launcher};
 
 use crate::children::{is_reaped, kill_child};
 use host_files::{beside_path, read_part};
 use host_shells::{Progress, Session, Sessions};
-use runner::{RunKey, Stream};
+use run_calls::{RunKey, Stream};
 use std::alloc::Global;
 use std::fs::{self, File, OpenOptions};
 use std::io::{self, ErrorKind};

@@ -5,7 +5,7 @@ ghost use Rattle.std.specs.Process.{clears_env, command_args, command_dir, comma
 ghost use Rattle.host_programs.specs.Launching.{StartsBare, session_words};
 
 use host_shells::SESSION;
-use runner::Variable;
+use run_calls::Variable;
 use std::alloc::{AllocError, Global};
 use std::io::{self, ErrorKind};
 use std::process::Command;

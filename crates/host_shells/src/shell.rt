@@ -10,10 +10,10 @@ use std::time::{Duration, Instant};
 const SHELL: &str = "/bin/sh";
 
 /// Sends a signal to the process of each number that it is told, or to the group of one behind `-`,
-/// and writes one byte for it. Behind that may stand the session in which the process has to be, and
-/// a number that no process may have, or `-` for each: right before it sends the signal, it looks
-/// whether that is so. It is nothing amiss where it is not, or where there is no such process. It
-/// starts no process: that could be refused.
+/// and writes one byte for it. Behind that may stand the session in which the process has to be,
+/// and a number that no process may have, or `-` for each: right before it sends the signal, it
+/// looks whether that is so. It is nothing amiss where it is not, or where there is no such
+/// process. It starts no process: that could be refused.
 const SCRIPT: &str = "set -f
 is_in() {
   line=

@@ -17,7 +17,7 @@ use std::time::{Duration, Instant};
 const LINGER: u64 = 2_000;
 
 /// How many closed connections are kept so at a time. Any further one goes at once.
-const LINGERING_LIMIT: usize = 256;
+pub const LINGERING_LIMIT: usize = 256;
 
 /// The most bytes that are dropped of a closed connection at a time.
 const DROP_LIMIT: usize = 16_384;

@@ -2,8 +2,8 @@
 use Rattle.std.proofs.Common.{◌≡◌, List, [], ◌∷◌, ◌++◌}
 use Rattle.std.specs.Prelude.{Result, Ok, Err, OnOk}
 use Rattle.execution.specs.Job.{TaskValue}
-use Rattle.runner.specs.declared.task.RunKey.{RunKey}
-use Rattle.runner.specs.declared.task.Task.{Task}
+use Rattle.run_calls.specs.declared.task.RunKey.{RunKey}
+use Rattle.run_calls.specs.declared.task.Task.{Task}
 use Rattle.runner.specs.declared.stage.Run.{Run}
 use Rattle.runner.specs.Runs.{IsStarted}
 use Rattle.job_runs.specs.Tasks.{IsTaskOf}

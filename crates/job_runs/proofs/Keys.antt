@@ -2,14 +2,14 @@
 use Rattle.std.proofs.Common.{inl, inr, ◌≡◌, ℕ, Bool, true, false, List, [], ◌∷◌, ◌++◌, refl, sym, ap, subst, ◌∙◌, append-nil, append_assoc}
 use Rattle.std.specs.Prelude.{◌||◌, ◌&&◌, ◌==◌, ⊤, Option, Some, None, option_map, Result}
 use Rattle.std.proofs.lemmas.Bool.{eqb-true, eq-eqb, true≢false}
-use Rattle.runner.specs.declared.task.RunKey.{RunKey}
-use Rattle.runner.specs.declared.folder.Place.{Place}
+use Rattle.run_calls.specs.declared.task.RunKey.{RunKey}
+use Rattle.run_calls.specs.declared.folder.Place.{Place}
 use Rattle.runner.specs.declared.fault.RunFault.{RunFault}
 use Rattle.run_outcomes.specs.declared.outcome.Outcome.{Outcome}
 use Rattle.runner.specs.declared.stage.State.{State}
 use Rattle.runner.specs.declared.stage.State.TheVariants.{Live, Over}
 use Rattle.runner.specs.declared.stage.Run.{Run}
-use Rattle.runner.specs.Calls.{FolderCall, ProgramCall}
+use Rattle.run_calls.specs.Calls.{FolderCall, ProgramCall}
 use Rattle.runner.specs.Runs.{run_of, run_kept, still_left, Ends, GoesOn, IsAsked, IsKilled}
 use Rattle.job_runs.specs.Keys.{is_key, has_key, without_key, run_keys, all_keys, AreOnce}
 

@@ -1,7 +1,7 @@
 -- Runs that are killed one after another, the last first.
 use Rattle.std.proofs.Common.{◌≡◌, ◌<◌, ℕ, zero, suc, ◌-◌, List, refl, subst, arith}
 use Rattle.std.specs.Prelude.{Option, Some, None, option_map, slice_get}
-use Rattle.runner.specs.declared.task.RunKey.{RunKey}
+use Rattle.run_calls.specs.declared.task.RunKey.{RunKey}
 use Rattle.runner.specs.declared.stage.Run.{Run}
 use Rattle.server_events.specs.Configs.{ConfigValue}
 use Rattle.job_runs.specs.Runs.{Standing, IsKilledAt, IsKilledIf, AreKilled}

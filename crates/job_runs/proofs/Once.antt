@@ -6,9 +6,9 @@ use Rattle.std.specs.declared.vec.Vec.{Vec}
 use Rattle.run_outcomes.specs.declared.outcome.Outcome.{Outcome}
 use Rattle.execution.specs.Job.{TaskValue}
 use Rattle.runner.specs.declared.fault.RunFault.{RunFault}
-use Rattle.runner.specs.declared.task.RunKey.{RunKey}
+use Rattle.run_calls.specs.declared.task.RunKey.{RunKey}
 use Rattle.runner.specs.declared.stage.Run.{Run}
-use Rattle.runner.specs.Calls.{FolderCall, ProgramCall}
+use Rattle.run_calls.specs.Calls.{FolderCall, ProgramCall}
 use Rattle.runner.specs.Runs.{IsAsked, IsKilled}
 use Rattle.job_runs.specs.Keys.{AreOnce, all_keys, has_key, without_key}
 use Rattle.job_runs.specs.Runs.{IsBegunIf}

@@ -1,7 +1,7 @@
 -- Parts of texts.
 use Rattle.std.proofs.Common.{◌≡◌, ◌+◌, ℕ, List, [], ◌∙◌, sym, arith}
 use Rattle.std.proofs.Math.Seq.{drop-nil}
-use Rattle.runner.specs.Texts.{IsPart}
+use Rattle.run_calls.specs.Texts.{IsPart}
 
 pub no_part : (text : List ℕ) (from most : ℕ) → text ≡ [] → IsPart text from most []
 no_part text from most is =

@@ -1,7 +1,7 @@
 -- What is to be asked: runs, and the jobs whose run is to begin.
 use Rattle.std.specs.Prelude.{◌≡◌, ◌==◌, ◌&&◌, ℕ, Bool, false, not, nat_lt, List, [], ◌∷◌, ◌++◌, length, map, min, if◌then◌else◌}
 use Rattle.std.specs.List.{filter, list_any}
-use Rattle.runner.specs.declared.task.RunKey.{RunKey}
+use Rattle.run_calls.specs.declared.task.RunKey.{RunKey}
 use Rattle.runner.specs.declared.stage.Run.{Run}
 
 abbrev pub is_key : RunKey → RunKey → Bool

@@ -6,10 +6,10 @@ use Rattle.run_outcomes.specs.declared.outcome.Outcome.{Outcome}
 use Rattle.execution.specs.Job.{TaskValue}
 use Rattle.runner.specs.declared.fault.RunFault.{RunFault}
 use Rattle.runner.specs.declared.fault.RunFault.TheVariants.{NoMemory}
-use Rattle.runner.specs.declared.task.RunKey.{RunKey}
-use Rattle.runner.specs.declared.task.Task.{Task}
+use Rattle.run_calls.specs.declared.task.RunKey.{RunKey}
+use Rattle.run_calls.specs.declared.task.Task.{Task}
 use Rattle.runner.specs.declared.stage.Run.{Run}
-use Rattle.runner.specs.Calls.{FolderCall, ProgramCall}
+use Rattle.run_calls.specs.Calls.{FolderCall, ProgramCall}
 use Rattle.runner.specs.Runs.{IsAsked, IsKilled, IsOver, IsStarted}
 use Rattle.server_events.specs.Configs.{ConfigValue}
 use Rattle.serve.specs.declared.error_lines.Backlog.{Backlog}

@@ -8,9 +8,9 @@ use Rattle.actions.specs.Nodes.{PlanNodeValue}
 use Rattle.execution_messages.specs.Actions.{CommandValue, EnvironmentVariableValue}
 use Rattle.actions.specs.Commands.{asked_outputs, command_in}
 use Rattle.execution.specs.Job.{TaskValue}
-use Rattle.runner.specs.Values as values
-use Rattle.runner.specs.Values.{VariableValue, command_shown}
-use Rattle.runner.specs.declared.task.Task.{Task}
+use Rattle.run_calls.specs.Values as values
+use Rattle.run_calls.specs.Values.{VariableValue, command_shown}
+use Rattle.run_calls.specs.declared.task.Task.{Task}
 use Rattle.execution.specs.Numbers.{digest_number}
 use Rattle.tree_nodes.specs.Nodes.{NodeValue, node_by, nodes_shown}
 use Rattle.job_runs.specs.Texts.{blob_digests}

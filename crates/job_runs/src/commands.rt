@@ -3,13 +3,13 @@
 ghost use Rattle.std.specs.Prelude.{◌≡◌, map, string_bytes, IfOk};
 ghost use Rattle.execution_messages.specs.Actions.{environment_variable_shown};
 ghost use Rattle.execution_messages.specs.Actions as messages;
-ghost use Rattle.runner.specs.Values.{command_shown, variable_shown};
+ghost use Rattle.run_calls.specs.Values.{command_shown, variable_shown};
 ghost use Rattle.actions.specs.Shown.{asked_shown};
 ghost use Rattle.job_runs.specs.Tasks.{command_for, no_command, output_paths, program_of, variable_of};
 
 use actions::{AskedOutput, asked_outputs, read_command};
 use execution_messages::{Command as CommandMessage, EnvironmentVariable};
-use runner::{Command, Variable};
+use run_calls::{Command, Variable};
 use std::alloc::{AllocError, Global};
 use std::collections::VecDeque;
 

@@ -13,8 +13,9 @@ ghost use Rattle.job_runs.specs.Runs.{AreKilled, IsAnsweredFor, IsBegun, IsBegun
 
 use crate::lent::LentTexts;
 use crate::tasks::run_task;
+use run_calls::{Folder, Programs, RunKey};
 use run_outcomes::Outcome;
-use runner::{Folder, Programs, RunFault, RunKey, Runner};
+use runner::{RunFault, Runner};
 use serve::{ErrorLines, Runs};
 use server_core::LentTask;
 use server_events::Configs;

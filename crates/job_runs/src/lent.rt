@@ -5,12 +5,12 @@ ghost use Rattle.std.specs.Option.{option_copied};
 ghost use Rattle.blob_pool.specs.Slots.{text_at};
 ghost use Rattle.instance_view.specs.Shown.{blobs_in};
 ghost use Rattle.execution.specs.Keeping.{kept_entries};
-ghost use Rattle.runner.specs.Texts.{IsPart};
+ghost use Rattle.run_calls.specs.Texts.{IsPart};
 ghost use Rattle.job_runs.specs.Texts.{lent_in, numbered_text};
 
 use blob_pool::{Kept, Pool};
 use execution::KeptText;
-use runner::Texts;
+use run_calls::Texts;
 use std::marker::Model;
 
 /// The texts that a job keeps, lent while its run goes on: each with its digest, in their order.

@@ -9,7 +9,7 @@ use actions::PlanNode;
 use digest::Digest;
 use execution::{KeptText, number_of};
 use indexmap::IndexMap;
-use runner::TaskNode;
+use run_calls::TaskNode;
 use std::alloc::{AllocError, Global};
 use std::collections::VecDeque;
 use tree_nodes::{Node, NodeKind};

@@ -10,7 +10,7 @@ use crate::nodes::nodes_of;
 use blob_pool::Pool;
 use digest::HashFunction;
 use execution::{KeptText, Task as JobTask, read_task};
-use runner::Task;
+use run_calls::Task;
 use std::alloc::{AllocError, Global};
 
 /// The function of the digest of a task's action, which is the first of its texts.

@@ -3,6 +3,7 @@
 use crate::serve_ports::is_memory;
 use host_folders::{Complaint, HostFolder, Work, WorkFault, begin_work};
 use host_programs::{has_leases, has_sessions, most_open, sees_ends};
+use host_sockets::LINGERING_LIMIT;
 use instance_words::Instances;
 use std::alloc::{AllocError, Global};
 use std::io::{self, Write};
@@ -13,7 +14,8 @@ const MOST_CONNECTIONS: u64 = 64;
 /// How many files are open for each action that runs: what it writes goes to two.
 const FILES_OF_RUN: u64 = 2;
 
-/// How many more a server has open, at most and at least.
+/// How many more a server has open beside these and closed connections that linger, at most and at
+/// least.
 const OTHER_FILES: u64 = 64;
 
 const FEWEST_OTHER_FILES: u64 = 32;
@@ -49,6 +51,7 @@ pub fn can_open<E: Write>(instances: &Instances, errors: &mut E) -> io::Result<b
     let needed = count
         .saturating_mul(MOST_CONNECTIONS + 1)
         .saturating_add(runs)
+        .saturating_add(LINGERING_LIMIT as u64)
         .saturating_add(OTHER_FILES);
     let fewest = count.saturating_mul(2).saturating_add(FEWEST_OTHER_FILES);
     if most < needed {
@@ -103,7 +106,7 @@ pub fn guard_against_leases<E: Write>(
         _ => writeln!(
             errors,
             "remoted: an action can stop the server for 45 seconds (fs.lease-break-time) by a lease on \
-             each of its outputs: end that by sysctl fs.leases-enable=0, or by --launcher sandbox"
+             each of its outputs: end that by sysctl fs.leases-enable=0, or by a sandbox (--launcher)"
         ),
     }
 }

@@ -1,9 +1,9 @@
 -- What calls give, one after another, and the steps of a run that they make.
 use Rattle.std.proofs.Common.{◌≡◌, ◌≤◌, inl, ℕ, ◌+◌, List, [], ◌∷◌, ◌++◌, refl, ap, sym, ◌∙◌, append-nil, append_assoc, subst}
 use Rattle.std.specs.Prelude.{Option, Result, Ok, Err}
-use Rattle.runner.specs.Values.{PlaceValue}
+use Rattle.run_calls.specs.Values.{PlaceValue}
 use Rattle.std.specs.declared.io.ErrorKind.{ErrorKind}
-use Rattle.runner.specs.Calls.{FolderCall, FolderQuestion, FolderAnswer, ProgramCall, ProgramQuestion, ProgramAnswer, of_folder, of_programs, folder_call, program_call, folder_calls, program_calls, call, called, Adds, collect}
+use Rattle.run_calls.specs.Calls.{FolderCall, FolderQuestion, FolderAnswer, ProgramCall, ProgramQuestion, ProgramAnswer, of_folder, of_programs, folder_call, program_call, folder_calls, program_calls, call, called, Adds, collect}
 use Rattle.runner.specs.Made.{made, made_by}
 use Rattle.runner.specs.Gathered.{items_answered, call_items, answer_items}
 use Rattle.runner.specs.Told.{items_told, call_told, starts, start_of, forgets, forget_of}

@@ -8,8 +8,8 @@ use Rattle.runner.specs.declared.stage.Ended.{Ended}
 use Rattle.runner.specs.declared.stage.Stage.TheVariants as stages
 use Rattle.runner.specs.declared.stage.Step.{Step}
 use Rattle.runner.specs.declared.stage.Step.TheVariants as steps
-use Rattle.runner.specs.Values.{PlaceValue, IsInRange}
-use Rattle.runner.specs.Calls.{FolderCall, ProgramCall, look_asked, end_asked, state_of, called, Adds}
+use Rattle.run_calls.specs.Values.{PlaceValue, IsInRange}
+use Rattle.run_calls.specs.Calls.{FolderCall, ProgramCall, look_asked, end_asked, state_of, called, Adds}
 use Rattle.runner.specs.Told.{call_told, code_item}
 use Rattle.runner.specs.declared.stage.Stage.{Stage}
 use Rattle.runner.specs.Steps.{Goes, to_make, to_start, to_look, has_gathered, has_told}

@@ -2,14 +2,14 @@
 use Rattle.std.proofs.Common.{◌≡◌, ℕ, ◌+◌, ◌-◌, List, [], ◌∷◌, ◌++◌, take, length, refl, ap, sym, ◌∙◌, append-nil, append_assoc, length-append, arith}
 use Rattle.std.specs.Prelude.{string_bytes}
 use Rattle.std.specs.Rc.{rc_str_bytes}
-use Rattle.runner.specs.declared.task.RunKey.{RunKey}
+use Rattle.run_calls.specs.declared.task.RunKey.{RunKey}
 use Rattle.tree_nodes.specs.declared.node.NodeKind.{NodeKind}
 use Rattle.tree_nodes.specs.declared.node.NodeKind.TheVariants as node_kinds
-use Rattle.runner.specs.Values.{TaskNode}
-use Rattle.runner.specs.declared.programs.Stream.{Stream}
+use Rattle.run_calls.specs.Values.{TaskNode}
+use Rattle.run_calls.specs.declared.programs.Stream.{Stream}
 use Rattle.run_outcomes.specs.declared.outcome.OutputNode.{OutputNode}
 use Rattle.run_outcomes.specs.declared.outcome.Output.{Output}
-use Rattle.runner.specs.Values.{PlaceValue}
+use Rattle.run_calls.specs.Values.{PlaceValue}
 use Rattle.runner.specs.Made.{names_at, above_then}
 use Rattle.runner.specs.Gathered.{ItemValue, byte_at, numbered, node_items, nodes_items, above_after, above_all, kind_items, output_items}
 use Rattle.runner.specs.Told.{stream_byte, stream_bytes}

@@ -6,15 +6,15 @@ use Rattle.std.specs.Option.{option_to_list}
 use Rattle.std.specs.Global.{Vec}
 use Rattle.std.proofs.lemmas.List.{map-append, take-map}
 use Rattle.std.specs.declared.io.Error.{Error}
-use Rattle.runner.specs.declared.task.RunKey.{RunKey}
+use Rattle.run_calls.specs.declared.task.RunKey.{RunKey}
 use Rattle.runner.specs.declared.fault.RunFault.{RunFault}
-use Rattle.runner.specs.declared.programs.Stream.{Stream}
-use Rattle.runner.specs.declared.programs.Stream.TheVariants as streams
-use Rattle.runner.specs.Values.{PlaceValue, TaskNode}
+use Rattle.run_calls.specs.declared.programs.Stream.{Stream}
+use Rattle.run_calls.specs.declared.programs.Stream.TheVariants as streams
+use Rattle.run_calls.specs.Values.{PlaceValue, TaskNode}
 use Rattle.tree_nodes.specs.Nodes.{kind_shown}
 use Rattle.runner.specs.Faults.{FolderAnswered, ProgramsAnswered}
 use Rattle.std.specs.declared.io.ErrorKind.{ErrorKind}
-use Rattle.runner.specs.Calls.{ProgramQuestion, ProgramAnswer, kill_asked, read_asked, bytes_asked, killed, killed_of, bytes_of, folder_bytes_of}
+use Rattle.run_calls.specs.Calls.{ProgramQuestion, ProgramAnswer, kill_asked, read_asked, bytes_asked, killed, killed_of, bytes_of, folder_bytes_of}
 use Rattle.runner.specs.Made.{MadeItem, node_item, kind_made, nodes_made, names_at, above_then}
 use Rattle.runner.specs.Gathered.{ItemValue, numbered, part_items, call_items}
 use Rattle.runner.specs.Told.{ToldItem, code_item, killed_item, stream_bytes, stream_end, whole_stream, part_told, call_told, kill_told, answer_told}

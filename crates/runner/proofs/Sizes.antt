@@ -1,8 +1,8 @@
 -- How many bytes are held after what was asked.
 use Rattle.std.proofs.Common.{◌≡◌, ◌≤◌, ℕ, ◌+◌, true, false, List, [], ◌∷◌, ◌++◌, length, refl, ap, ◌∙◌, subst, arith}
 use Rattle.std.specs.Prelude.{Some, None, Result, Ok, Err, zero, suc, string_bytes}
-use Rattle.runner.specs.declared.task.RunKey.{RunKey}
-use Rattle.runner.specs.declared.folder.Found.TheVariants as founds
+use Rattle.run_calls.specs.declared.task.RunKey.{RunKey}
+use Rattle.run_calls.specs.declared.folder.Found.TheVariants as founds
 use Rattle.run_outcomes.specs.declared.outcome.Exited.{Exited}
 use Rattle.run_outcomes.specs.declared.outcome.Output.{Output}
 use Rattle.run_outcomes.specs.declared.outcome.OutputKind.{OutputKind}
@@ -10,15 +10,15 @@ use Rattle.run_outcomes.specs.declared.outcome.OutputKind.TheVariants as kinds
 use Rattle.run_outcomes.specs.declared.outcome.OutputNode.{OutputNode}
 use Rattle.run_outcomes.specs.declared.outcome.NodeKind.{NodeKind}
 use Rattle.run_outcomes.specs.declared.outcome.NodeKind.TheVariants as node_kinds
-use Rattle.runner.specs.declared.programs.Stream.{Stream}
-use Rattle.runner.specs.declared.programs.Stream.TheVariants as streams
+use Rattle.run_calls.specs.declared.programs.Stream.{Stream}
+use Rattle.run_calls.specs.declared.programs.Stream.TheVariants as streams
 use Rattle.runner.specs.declared.stage.Stage.{Stage}
 use Rattle.runner.specs.declared.stage.Stage.TheVariants as stages
 use Rattle.runner.specs.declared.stage.Step.{Step}
 use Rattle.runner.specs.declared.stage.Step.TheVariants as steps
-use Rattle.runner.specs.Values.{PlaceValue}
+use Rattle.run_calls.specs.Values.{PlaceValue}
 use Rattle.std.specs.declared.io.ErrorKind.{ErrorKind}
-use Rattle.runner.specs.Calls.{FolderQuestion, FolderAnswer, root_asked, node_asked, text_asked, directory_asked, parents_asked, look_asked, file_asked, list_asked, bytes_asked, removal_asked, done, found, facts, entries, file_bytes, gone, ProgramQuestion, ProgramAnswer, start_asked, end_asked, kill_asked, length_asked, read_asked, forget_asked, program_done, running, ended, killed, written, bytes, RunCall, of_folder, of_programs, folder_calls, program_calls}
+use Rattle.run_calls.specs.Calls.{FolderQuestion, FolderAnswer, root_asked, node_asked, text_asked, directory_asked, parents_asked, look_asked, file_asked, list_asked, bytes_asked, removal_asked, done, found, facts, entries, file_bytes, gone, ProgramQuestion, ProgramAnswer, start_asked, end_asked, kill_asked, length_asked, read_asked, forget_asked, program_done, running, ended, killed, written, bytes, RunCall, of_folder, of_programs, folder_calls, program_calls}
 use Rattle.runner.specs.Made.{names_at}
 use Rattle.runner.specs.Gathered.{ItemValue, file_item, byte_at, end_item, found_item, directory_item, numbered, whole_file, node_items, nodes_items, above_after, kind_items, output_items, call_items, items_answered}
 use Rattle.runner.specs.Told.{ToldItem, code_item, killed_item, stream_byte, stream_end, stream_bytes, whole_stream, call_told, items_told}

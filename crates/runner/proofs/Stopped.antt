@@ -7,13 +7,13 @@ use Rattle.runner.specs.declared.stage.Gathering.{Gathering}
 use Rattle.runner.specs.declared.stage.Stage.{Stage}
 use Rattle.runner.specs.declared.stage.Stage.TheVariants as stages
 use Rattle.runner.specs.declared.tree.Tree.{Tree}
-use Rattle.runner.specs.Values.{PlaceValue}
+use Rattle.run_calls.specs.Values.{PlaceValue}
 use Rattle.std.specs.IoError.{error_kind}
 use Rattle.std.specs.declared.io.Error.{Error}
 use Rattle.std.specs.declared.io.ErrorKind.TheVariants.{OutOfMemory, ConnectionAborted}
 use Rattle.runner.specs.Faults.{FolderAnswered, ProgramsAnswered, folder_fault, programs_fault}
 use Rattle.std.specs.declared.io.ErrorKind.{ErrorKind}
-use Rattle.runner.specs.Calls.{FolderCall, FolderQuestion, FolderAnswer, call, ProgramCall, ProgramQuestion, ProgramAnswer, called, RunCall, of_folder, of_programs, Adds}
+use Rattle.run_calls.specs.Calls.{FolderCall, FolderQuestion, FolderAnswer, call, ProgramCall, ProgramQuestion, ProgramAnswer, called, RunCall, of_folder, of_programs, Adds}
 use Rattle.runner.specs.Made.{MadeItem}
 use Rattle.runner.specs.Sizes.{most_bytes, exited_length, nodes_length, held, folder_told, program_told}
 use Rattle.runner.specs.Stops.{IsMadeNext, AsksFolder, AsksPrograms, AsksNext, IsTrueOf, IsOwnFault, IsFolderFault, IsProgramsFault, StopsWith, Stops, FolderStops, FolderStopsWith}

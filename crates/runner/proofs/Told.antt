@@ -3,16 +3,16 @@ use Rattle.std.proofs.Common.{◌≡◌, ◌≤◌, ◌<◌, ℕ, ◌+◌, List,
 use Rattle.std.specs.Prelude.{Option, Some, Result, Ok, Bool, true, false, MatchBool}
 use Rattle.std.specs.Global.{Vec}
 use Rattle.std.specs.declared.io.Error.{Error}
-use Rattle.runner.specs.declared.folder.Found.{Found}
-use Rattle.runner.specs.declared.folder.Found.TheVariants.{File}
-use Rattle.runner.specs.declared.folder.FileFacts.{FileFacts}
+use Rattle.run_calls.specs.declared.folder.Found.{Found}
+use Rattle.run_calls.specs.declared.folder.Found.TheVariants.{File}
+use Rattle.run_calls.specs.declared.folder.FileFacts.{FileFacts}
 use Rattle.run_outcomes.specs.declared.outcome.Output.{Output}
 use Rattle.run_outcomes.specs.declared.outcome.OutputNode.{OutputNode}
-use Rattle.runner.specs.declared.programs.Stream.{Stream}
-use Rattle.runner.specs.declared.task.RunKey.{RunKey}
-use Rattle.runner.specs.Calls.{look_asked, file_asked, bytes_asked, found_of, facts_of, folder_bytes_of, length_asked, read_asked, length_of, bytes_of}
+use Rattle.run_calls.specs.declared.programs.Stream.{Stream}
+use Rattle.run_calls.specs.declared.task.RunKey.{RunKey}
+use Rattle.run_calls.specs.Calls.{look_asked, file_asked, bytes_asked, found_of, facts_of, folder_bytes_of, length_asked, read_asked, length_of, bytes_of}
 use Rattle.runner.specs.Sizes.{most_bytes, node_length, nodes_length, output_length, outputs_length, folder_told, program_told, IsTaken}
-use Rattle.runner.specs.Values.{PlaceValue}
+use Rattle.run_calls.specs.Values.{PlaceValue}
 
 pub found_says : (place : PlaceValue) (path : List ℕ) (r : Result Found Error) (f : FileFacts)
     → r ≡ Ok (File f) → folder_told (look_asked place path) (found_of r) ≡ f.size

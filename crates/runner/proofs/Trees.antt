@@ -1,20 +1,19 @@
 -- Nodes that are added to those of an output directory.
-use Rattle.std.proofs.Common.{◌≡◌, ◌≤◌, ℕ, ◌+◌, ◌-◌, Bool, List, [], ◌∷◌, ◌++◌, subst, take, length, length-append, refl, ap, sym, ◌∙◌, arith}
-use Rattle.std.specs.Prelude.{min, string_bytes, Option, Result, Ok, Err, IfOk}
-use Rattle.std.proofs.lemmas.List.{length-take}
+use Rattle.std.proofs.Common.{◌≡◌, ℕ, ◌+◌, ◌-◌, Bool, List, [], ◌∷◌, ◌++◌, subst, take, length, refl, ap, sym, ◌∙◌}
+use Rattle.std.specs.Prelude.{string_bytes, Option, Result, Ok, Err, IfOk}
 use Rattle.run_outcomes.specs.declared.outcome.OutputNode.{OutputNode}
 use Rattle.run_outcomes.specs.declared.outcome.NodeKind.TheVariants.{File, Directory}
 use Rattle.runner.specs.declared.tree.Tree.{Tree}
 use Rattle.runner.specs.declared.stage.Gathering.{Gathering}
 use Rattle.runner.specs.declared.stage.Stage.TheVariants as stages
 use Rattle.runner.specs.declared.stage.Step.{Step}
-use Rattle.runner.specs.Calls.{FolderCall}
+use Rattle.run_calls.specs.Calls.{FolderCall}
 use Rattle.runner.specs.Steps.{GoesWith, FolderGoes, FolderGoesWith}
 use Rattle.runner.specs.Listed.{Walk, walk_at}
 use Rattle.runner.specs.Sizes.{exited_length, nodes_length}
 use Rattle.runner.proofs.Collect.{goes_from}
 use Rattle.runner.proofs.Walks.{all_taken}
-use Rattle.runner.specs.Values.{PlaceValue}
+use Rattle.run_calls.specs.Values.{PlaceValue}
 use Rattle.runner.specs.Made.{names_at}
 use Rattle.runner.specs.Gathered.{file_item, found_item, directory_item, whole_file, node_items, nodes_items, output_items, above_after, above_all}
 use Rattle.runner.proofs.Items.{nodes_items_append, above_all_append}

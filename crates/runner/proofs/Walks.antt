@@ -1,9 +1,9 @@
 -- How far an output directory was gathered, after what was asked.
-use Rattle.std.proofs.Common.{◌≡◌, ◌≤◌, ◌<◌, ℕ, ◌+◌, ◌-◌, min, Bool, true, false, if◌then◌else◌, List, [], ◌∷◌, ◌++◌, inl, inr, map, reverse, take, length, refl, sym, ap, ◌∙◌, subst, append-nil, append_assoc, length-append, length-take, length-take-le, take-take, zero-le, String, arith}
+use Rattle.std.proofs.Common.{◌≡◌, ◌≤◌, ◌<◌, ℕ, ◌+◌, ◌-◌, Bool, true, false, if◌then◌else◌, List, [], ◌∷◌, ◌++◌, inl, inr, map, reverse, take, length, refl, sym, ap, ◌∙◌, subst, append-nil, append_assoc, length-append, length-take, length-take-le, take-take, zero-le, String, arith}
 use Rattle.std.specs.Prelude.{Result, Ok, string_bytes}
 use Rattle.std.specs.Global.{Vec, Global}
 use Rattle.std.specs.declared.io.Error.{Error}
-use Rattle.runner.specs.declared.folder.Entry.{Entry}
+use Rattle.run_calls.specs.declared.folder.Entry.{Entry}
 use Rattle.std.proofs.Math.Seq.{take-length}
 use Rattle.std.proofs.lemmas.List.{map-append, reverse-append, reverse-reverse, take-append-le}
 use Rattle.runner.specs.declared.gathering.Next.{Next}
@@ -13,11 +13,11 @@ use Rattle.run_outcomes.specs.declared.outcome.NodeKind.{NodeKind}
 use Rattle.run_outcomes.specs.declared.outcome.NodeKind.TheVariants as node_kinds
 use Rattle.runner.specs.declared.tree.Inner.{Inner}
 use Rattle.runner.specs.declared.tree.Tree.{Tree}
-use Rattle.runner.specs.Values.{PlaceValue, EntryValue, entry_shown}
+use Rattle.run_calls.specs.Values.{PlaceValue, EntryValue, entry_shown}
 use Rattle.runner.specs.Made.{names_at}
 use Rattle.runner.specs.Gathered.{above_after, above_all}
 use Rattle.std.specs.declared.io.ErrorKind.{ErrorKind}
-use Rattle.runner.specs.Calls.{FolderCall, FolderQuestion, FolderAnswer, look_asked, file_asked, list_asked, bytes_asked, entries_of}
+use Rattle.run_calls.specs.Calls.{FolderCall, FolderQuestion, FolderAnswer, look_asked, file_asked, list_asked, bytes_asked, entries_of}
 use Rattle.runner.specs.Listed.{most_nodes, InnerValue, inner_shown, inners_of, stack_of, IsStack, IsTreeStack, IsNext, directory_names, file_names, files_asked, lists_asked, inner_asked, to_meet, tree_to_meet, Walk, no_walk, walk_before, entries_told, nodes_met, entry_of, MayAsk, IsDone, Closes, walk_after, Meets}
 
 -- ---- one call after another

@@ -2,8 +2,8 @@
 use Rattle.std.proofs.Common.{◌≡◌, ℕ, List, ◌∷◌, ◌++◌, take, drop, ap, refl, sym, subst, inl, inr, ◌∙◌}
 use Rattle.std.proofs.lemmas.List.{take-append-drop}
 use Rattle.std.specs.Prelude.{⊤, Option, Some, None, Result, Err}
-use Rattle.runner.specs.declared.task.RunKey.{RunKey}
-use Rattle.runner.specs.declared.folder.Place.{Place}
+use Rattle.run_calls.specs.declared.task.RunKey.{RunKey}
+use Rattle.run_calls.specs.declared.folder.Place.{Place}
 use Rattle.runner.specs.declared.fault.RunFault.{RunFault}
 use Rattle.run_outcomes.specs.declared.outcome.Outcome.{Outcome}
 use Rattle.runner.specs.declared.stage.Stage.{Stage}
@@ -11,7 +11,7 @@ use Rattle.runner.specs.declared.stage.Ending.{Ending}
 use Rattle.runner.specs.declared.stage.State.{State}
 use Rattle.runner.specs.declared.stage.State.TheVariants.{Live, Over}
 use Rattle.runner.specs.declared.stage.Run.{Run}
-use Rattle.runner.specs.Calls.{FolderCall, ProgramCall}
+use Rattle.run_calls.specs.Calls.{FolderCall, ProgramCall}
 use Rattle.runner.specs.Runs.{run_of, run_left, still_left, end_told, ending_of, EndsBy, Ends, IsAsked, IsKilled, IsOver, GoesOn, HasGone}
 
 pub is_over : (key : RunKey) (e : Ending) (old new : List Run) (f g : Option (List FolderCall)) (p q : Option (List ProgramCall))

@@ -1,17 +1,17 @@
 -- What the calls of a run come to, from a stage to its exit.
 use Rattle.std.proofs.Common.{◌≡◌, ℕ, List, [], ◌∷◌, ◌++◌, map, refl, sym, ap, subst, ◌∙◌, append-nil, inl, inr}
-use Rattle.std.specs.Prelude.{Option, Some, None, string_bytes}
+use Rattle.std.specs.Prelude.{Option, Some, string_bytes}
 use Rattle.std.specs.Rc.{rc_str_bytes}
-use Rattle.runner.specs.declared.folder.Place.{Place}
+use Rattle.run_calls.specs.declared.folder.Place.{Place}
 use Rattle.run_outcomes.specs.declared.outcome.Exited.{Exited}
-use Rattle.runner.specs.declared.task.Task.{Task}
+use Rattle.run_calls.specs.declared.task.Task.{Task}
 use Rattle.runner.specs.declared.stage.Making.TheVariants as makings
 use Rattle.runner.specs.declared.stage.Stage.{Stage}
 use Rattle.runner.specs.declared.stage.Stage.TheVariants as stages
 use Rattle.runner.specs.declared.stage.Step.{Step}
 use Rattle.runner.specs.declared.stage.Step.TheVariants as steps
-use Rattle.runner.specs.Values.{PlaceValue, place_shown, command_shown}
-use Rattle.runner.specs.Calls.{FolderCall, ProgramCall, look_asked, start_asked, RunCall, folder_call, program_call, folder_calls, program_calls, Adds}
+use Rattle.run_calls.specs.Values.{PlaceValue, place_shown, command_shown}
+use Rattle.run_calls.specs.Calls.{FolderCall, ProgramCall, look_asked, start_asked, RunCall, folder_call, program_call, folder_calls, program_calls, Adds}
 use Rattle.runner.specs.Made.{root_item, directory_item, parents_item, nodes_made, made}
 use Rattle.runner.specs.Gathered.{items_answered}
 use Rattle.runner.specs.Told.{items_told, starts, forgets}

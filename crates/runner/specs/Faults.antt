@@ -1,27 +1,12 @@
--- Counts of failures, and the faults that stand for them.
-use Rattle.std.specs.Prelude.{◌≡◌, ◌≤◌, ◌<◌, ◌+◌, ℕ, min, ◌⊎◌, Result, Ok, Err}
+-- What the fault of a run says of the calls that failed, and of their counts.
+use Rattle.std.specs.Prelude.{◌≡◌, ℕ, ◌⊎◌, Result, Ok, Err}
 use Rattle.std.specs.IoError.{error_kind}
 use Rattle.std.specs.declared.io.Error.{Error}
 use Rattle.std.specs.declared.io.ErrorKind.{ErrorKind}
 use Rattle.std.specs.declared.io.ErrorKind.TheVariants.{OutOfMemory, ConnectionAborted}
+use Rattle.run_calls.specs.Failures.{Rises}
 use Rattle.runner.specs.declared.fault.RunFault.{RunFault}
 use Rattle.runner.specs.declared.fault.RunFault.TheVariants.{Folder, Start, Launcher, TooLarge, NoMemory, Left}
-
-abbrev pub most_failures : ℕ
-most_failures = 18446744073709551615
-
--- one more failure
-abbrev pub risen : ℕ → ℕ
-risen n = min (n + 1) most_failures
-
--- the count rises by one where the call failed, and stays where it did not
-abbrev pub Counts : {A E : Type 0} → Result A E → ℕ → ℕ → Type 0
-Counts (Ok x) old new = new ≡ old
-Counts (Err e) old new = new ≡ risen old
-
--- a call failed. A failure at the highest count is a rise, too
-abbrev pub Rises : ℕ → ℕ → Type 0
-Rises old new = (old < new) ⊎ (most_failures ≤ new)
 
 -- ---- what a fault of one call says
 

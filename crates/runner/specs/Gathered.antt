@@ -1,18 +1,18 @@
 -- What is gathered: files and directories, and the bytes of files, to the end of each.
 use Rattle.std.specs.Prelude.{ℕ, zero, suc, ◌+◌, ◌-◌, Bool, List, [], ◌∷◌, ◌++◌, take, length, string_bytes, Option, Some, None, Result, Ok, Err}
-use Rattle.runner.specs.declared.folder.Found.{Found}
-use Rattle.runner.specs.declared.folder.Found.TheVariants as founds
-use Rattle.runner.specs.declared.folder.FileFacts.{FileFacts}
+use Rattle.run_calls.specs.declared.folder.Found.{Found}
+use Rattle.run_calls.specs.declared.folder.Found.TheVariants as founds
+use Rattle.run_calls.specs.declared.folder.FileFacts.{FileFacts}
 use Rattle.run_outcomes.specs.declared.outcome.NodeKind.{NodeKind}
 use Rattle.run_outcomes.specs.declared.outcome.NodeKind.TheVariants as node_kinds
 use Rattle.run_outcomes.specs.declared.outcome.OutputNode.{OutputNode}
 use Rattle.run_outcomes.specs.declared.outcome.OutputKind.{OutputKind}
 use Rattle.run_outcomes.specs.declared.outcome.OutputKind.TheVariants as kinds
 use Rattle.run_outcomes.specs.declared.outcome.Output.{Output}
-use Rattle.runner.specs.Values.{PlaceValue}
+use Rattle.run_calls.specs.Values.{PlaceValue}
 use Rattle.runner.specs.Made.{names_at}
 use Rattle.std.specs.declared.io.ErrorKind.{ErrorKind}
-use Rattle.runner.specs.Calls.{FolderCall, FolderQuestion, FolderAnswer, root_asked, node_asked, text_asked, directory_asked, parents_asked, look_asked, file_asked, list_asked, bytes_asked, removal_asked, found, facts, entries, file_bytes, collect}
+use Rattle.run_calls.specs.Calls.{FolderCall, FolderQuestion, FolderAnswer, root_asked, node_asked, text_asked, directory_asked, parents_asked, look_asked, file_asked, list_asked, bytes_asked, removal_asked, found, facts, entries, file_bytes, collect}
 
 -- of a run, at the path of an output and the names below it
 pub data ItemValue : Type 0 where

@@ -1,6 +1,3 @@
-pub mod Values
-pub mod Texts
-pub mod Calls
 pub mod Faults
 pub mod Made
 pub mod Gathered
@@ -11,4 +8,3 @@ pub mod Steps
 pub mod Stops
 pub mod Runs
 pub mod Whole
-pub mod Logged

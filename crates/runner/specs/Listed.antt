@@ -1,7 +1,7 @@
 -- What was listed of an output directory and was not looked at yet: files, the first of them next,
 -- and then directories, the last of them next.
 use Rattle.std.specs.Prelude.{◌≡◌, ◌≤◌, ◌<◌, ◌+◌, ◌⊎◌, ℕ, if◌then◌else◌, List, [], ◌∷◌, ◌++◌, map, reverse, length, string_bytes, Some, Result, Ok}
-use Rattle.runner.specs.declared.folder.Found.TheVariants as founds
+use Rattle.run_calls.specs.declared.folder.Found.TheVariants as founds
 use Rattle.runner.specs.declared.gathering.Next.{Next}
 use Rattle.runner.specs.declared.gathering.Next.TheVariants as nexts
 use Rattle.runner.specs.declared.stage.Stage.{Stage}
@@ -10,9 +10,9 @@ use Rattle.runner.specs.declared.stage.Step.{Step}
 use Rattle.runner.specs.declared.stage.Step.TheVariants as steps
 use Rattle.runner.specs.declared.tree.Inner.{Inner}
 use Rattle.runner.specs.declared.tree.Tree.{Tree}
-use Rattle.runner.specs.Values.{PlaceValue, EntryValue}
+use Rattle.run_calls.specs.Values.{PlaceValue, EntryValue}
 use Rattle.std.specs.declared.io.ErrorKind.{ErrorKind}
-use Rattle.runner.specs.Calls.{FolderCall, FolderQuestion, FolderAnswer, look_asked, file_asked, list_asked, bytes_asked, removal_asked, found, facts, entries, collect}
+use Rattle.run_calls.specs.Calls.{FolderCall, FolderQuestion, FolderAnswer, look_asked, file_asked, list_asked, bytes_asked, removal_asked, found, facts, entries, collect}
 use Rattle.runner.specs.Made.{names_at}
 
 -- of an output directory

@@ -1,12 +1,12 @@
 -- What is made of a task's tree: the nodes in walk order, each once, with the bytes of files.
 use Rattle.std.specs.Prelude.{ℕ, ◌-◌, List, [], ◌∷◌, ◌++◌, map, take}
 use Rattle.std.specs.Rc.{rc_str_bytes}
-use Rattle.runner.specs.declared.task.RunKey.{RunKey}
+use Rattle.run_calls.specs.declared.task.RunKey.{RunKey}
 use Rattle.tree_nodes.specs.declared.node.NodeKind.{NodeKind}
 use Rattle.tree_nodes.specs.declared.node.NodeKind.TheVariants.{File, Symlink, Directory}
 use Rattle.tree_nodes.specs.Nodes.{NodeKindValue, kind_shown}
-use Rattle.runner.specs.Values.{PlaceValue, TaskNode}
-use Rattle.runner.specs.Calls.{FolderCall, FolderQuestion, root_asked, node_asked, text_asked, directory_asked, parents_asked, look_asked, file_asked, list_asked, bytes_asked, removal_asked, collect}
+use Rattle.run_calls.specs.Values.{PlaceValue, TaskNode}
+use Rattle.run_calls.specs.Calls.{FolderCall, FolderQuestion, root_asked, node_asked, text_asked, directory_asked, parents_asked, look_asked, file_asked, list_asked, bytes_asked, removal_asked, collect}
 
 pub data MadeItem : Type 0 where
   root_item : RunKey → MadeItem

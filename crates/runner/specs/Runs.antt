@@ -1,9 +1,9 @@
 -- The runs of a runner, and what its calls make of them.
 use Rattle.std.specs.Prelude.{◌≡◌, ◌==◌, ◌&&◌, ◌⊎◌, ⊤, ℕ, Bool, true, false, List, [], ◌∷◌, ◌++◌, take, drop, Option, Some, None, option_map, Result, Ok, Err}
 use Rattle.std.specs.List.{list_any}
-use Rattle.runner.specs.declared.task.RunKey.{RunKey}
-use Rattle.runner.specs.declared.task.Task.{Task}
-use Rattle.runner.specs.declared.folder.Place.{Place}
+use Rattle.run_calls.specs.declared.task.RunKey.{RunKey}
+use Rattle.run_calls.specs.declared.task.Task.{Task}
+use Rattle.run_calls.specs.declared.folder.Place.{Place}
 use Rattle.runner.specs.declared.fault.RunFault.{RunFault}
 use Rattle.runner.specs.declared.fault.RunFault.TheVariants.{Left}
 use Rattle.run_outcomes.specs.declared.outcome.Outcome.{Outcome}
@@ -19,9 +19,9 @@ use Rattle.runner.specs.declared.stage.State.{State}
 use Rattle.runner.specs.declared.stage.State.TheVariants.{Live, Over}
 use Rattle.runner.specs.declared.stage.Run.{Run}
 use Rattle.runner.specs.declared.stage.Stopped.{Stopped}
-use Rattle.runner.specs.Values.{place_shown}
+use Rattle.run_calls.specs.Values.{place_shown}
 use Rattle.std.specs.declared.io.ErrorKind.{ErrorKind}
-use Rattle.runner.specs.Calls.{FolderCall, FolderAnswer, removal_asked, gone, call, ProgramCall, ProgramAnswer, program_done, killed, kill_asked, forget_asked, called, Adds}
+use Rattle.run_calls.specs.Calls.{FolderCall, FolderAnswer, removal_asked, gone, call, ProgramCall, ProgramAnswer, program_done, killed, kill_asked, forget_asked, called, Adds}
 use Rattle.runner.specs.Steps.{Goes}
 use Rattle.runner.specs.Stops.{Stops}
 

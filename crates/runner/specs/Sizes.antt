@@ -1,6 +1,6 @@
 -- How many bytes a run holds, how many more an answer tells of, and the most that are taken.
 use Rattle.std.specs.Prelude.{◌≡◌, ◌≤◌, ◌<◌, ◌+◌, ℕ, List, [], ◌∷◌, length, Some, Result, Ok}
-use Rattle.runner.specs.declared.folder.Found.TheVariants as founds
+use Rattle.run_calls.specs.declared.folder.Found.TheVariants as founds
 use Rattle.run_outcomes.specs.declared.outcome.Exited.{Exited}
 use Rattle.run_outcomes.specs.declared.outcome.Output.{Output}
 use Rattle.run_outcomes.specs.declared.outcome.OutputKind.{OutputKind}
@@ -14,7 +14,7 @@ use Rattle.runner.specs.declared.stage.Step.{Step}
 use Rattle.runner.specs.declared.stage.Step.TheVariants as steps
 use Rattle.runner.specs.Listed.{most_nodes, IsTreeStack}
 use Rattle.std.specs.declared.io.ErrorKind.{ErrorKind}
-use Rattle.runner.specs.Calls.{FolderQuestion, FolderAnswer, look_asked, file_asked, bytes_asked, found, facts, file_bytes, ProgramQuestion, ProgramAnswer, length_asked, read_asked, written, bytes, RunCall, of_folder, of_programs}
+use Rattle.run_calls.specs.Calls.{FolderQuestion, FolderAnswer, look_asked, file_asked, bytes_asked, found, facts, file_bytes, ProgramQuestion, ProgramAnswer, length_asked, read_asked, written, bytes, RunCall, of_folder, of_programs}
 
 -- of standard output, standard error and output files together
 abbrev pub most_bytes : ℕ

@@ -2,7 +2,7 @@
 use Rattle.std.specs.Prelude.{◌≡◌, ℕ, ◌-◌, List, [], ◌∷◌, ◌++◌, map, take, drop, length, string_bytes, Option}
 use Rattle.std.specs.Rc.{rc_str_bytes}
 use Rattle.run_outcomes.specs.declared.outcome.Exited.{Exited}
-use Rattle.runner.specs.declared.programs.Stream.TheVariants as streams
+use Rattle.run_calls.specs.declared.programs.Stream.TheVariants as streams
 use Rattle.runner.specs.declared.stage.Prepared.{Prepared}
 use Rattle.runner.specs.declared.stage.Nodes.{Nodes}
 use Rattle.runner.specs.declared.stage.Making.{Making}
@@ -16,8 +16,8 @@ use Rattle.runner.specs.declared.stage.Step.TheVariants as steps
 use Rattle.runner.specs.declared.tree.Tree.{Tree}
 use Rattle.tree_nodes.specs.declared.node.NodeKind.{NodeKind}
 use Rattle.tree_nodes.specs.declared.node.NodeKind.TheVariants as node_kinds
-use Rattle.runner.specs.Values.{PlaceValue, command_shown}
-use Rattle.runner.specs.Calls.{FolderCall, FolderQuestion, ProgramCall, ProgramQuestion, start_asked, look_asked, root_asked, node_asked, text_asked, directory_asked, parents_asked, file_asked, list_asked, bytes_asked, removal_asked, RunCall, folder_calls, program_calls, Adds, collect}
+use Rattle.run_calls.specs.Values.{PlaceValue, command_shown}
+use Rattle.run_calls.specs.Calls.{FolderCall, FolderQuestion, ProgramCall, ProgramQuestion, start_asked, look_asked, root_asked, node_asked, text_asked, directory_asked, parents_asked, file_asked, list_asked, bytes_asked, removal_asked, RunCall, folder_calls, program_calls, Adds, collect}
 use Rattle.runner.specs.Made.{MadeItem, root_item, byte_item, directory_item, parents_item, nodes_made, made}
 use Rattle.runner.specs.Gathered.{ItemValue, items_answered, file_item, found_item, numbered, nodes_items, output_items}
 use Rattle.runner.specs.Gathered as Gathered

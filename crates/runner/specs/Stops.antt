@@ -4,12 +4,12 @@ use Rattle.runner.specs.declared.fault.RunFault.{RunFault}
 use Rattle.runner.specs.declared.fault.RunFault.TheVariants.{TooLarge, NoMemory}
 use Rattle.std.specs.declared.io.ErrorKind.{ErrorKind}
 use Rattle.runner.specs.Faults.{folder_fault, programs_fault}
-use Rattle.runner.specs.declared.programs.Stream.TheVariants as streams
+use Rattle.run_calls.specs.declared.programs.Stream.TheVariants as streams
 use Rattle.runner.specs.declared.stage.Making.TheVariants as makings
 use Rattle.runner.specs.declared.stage.Stage.{Stage}
 use Rattle.runner.specs.declared.stage.Stage.TheVariants as stages
-use Rattle.runner.specs.Values.{PlaceValue, command_shown}
-use Rattle.runner.specs.Calls.{FolderCall, FolderQuestion, FolderAnswer, bytes_asked, ProgramCall, ProgramQuestion, ProgramAnswer, start_asked, end_asked, length_asked, read_asked, RunCall, of_folder, of_programs, folder_calls, program_calls, Adds}
+use Rattle.run_calls.specs.Values.{PlaceValue, command_shown}
+use Rattle.run_calls.specs.Calls.{FolderCall, FolderQuestion, FolderAnswer, bytes_asked, ProgramCall, ProgramQuestion, ProgramAnswer, start_asked, end_asked, length_asked, read_asked, RunCall, of_folder, of_programs, folder_calls, program_calls, Adds}
 use Rattle.runner.specs.Made.{MadeItem, made_by}
 use Rattle.runner.specs.Steps.{making_left, to_look}
 use Rattle.runner.specs.Listed.{Walk, walk_at, most_nodes}

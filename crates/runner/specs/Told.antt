@@ -1,10 +1,10 @@
 -- What is told of a program: its code, that it and all that it started are ended, and what it wrote,
 -- to the end of each stream.
 use Rattle.std.specs.Prelude.{ℕ, zero, suc, ◌+◌, ℤ, true, List, [], ◌∷◌, ◌++◌, length, Result, Ok, Err}
-use Rattle.runner.specs.declared.task.RunKey.{RunKey}
-use Rattle.runner.specs.declared.programs.Stream.{Stream}
+use Rattle.run_calls.specs.declared.task.RunKey.{RunKey}
+use Rattle.run_calls.specs.declared.programs.Stream.{Stream}
 use Rattle.std.specs.declared.io.ErrorKind.{ErrorKind}
-use Rattle.runner.specs.Calls.{ProgramCall, ProgramQuestion, ProgramAnswer, start_asked, end_asked, kill_asked, length_asked, read_asked, forget_asked, ended, killed, bytes, collect}
+use Rattle.run_calls.specs.Calls.{ProgramCall, ProgramQuestion, ProgramAnswer, start_asked, end_asked, kill_asked, length_asked, read_asked, forget_asked, ended, killed, bytes, collect}
 
 pub data ToldItem : Type 0 where
   code_item : RunKey → ℤ → ToldItem

@@ -1,12 +1,12 @@
 -- A whole run of a task, from its start to its exit, call after call.
 use Rattle.std.specs.Prelude.{◌≡◌, ℕ, List, [], ◌∷◌, ◌++◌, map, string_bytes, Option, Some}
 use Rattle.run_outcomes.specs.declared.outcome.Exited.{Exited}
-use Rattle.runner.specs.declared.task.Task.{Task}
+use Rattle.run_calls.specs.declared.task.Task.{Task}
 use Rattle.runner.specs.declared.stage.Stage.{Stage}
 use Rattle.runner.specs.declared.stage.Step.{Step}
 use Rattle.runner.specs.declared.stage.Step.TheVariants as steps
-use Rattle.runner.specs.Values.{PlaceValue, command_shown}
-use Rattle.runner.specs.Calls.{look_asked, start_asked, FolderCall, ProgramCall, RunCall, folder_calls, program_calls, Adds}
+use Rattle.run_calls.specs.Values.{PlaceValue, command_shown}
+use Rattle.run_calls.specs.Calls.{look_asked, start_asked, FolderCall, ProgramCall, RunCall, folder_calls, program_calls, Adds}
 use Rattle.runner.specs.Made.{root_item, directory_item, parents_item, nodes_made, made}
 use Rattle.runner.specs.Gathered.{items_answered, output_items}
 use Rattle.runner.specs.Told.{items_told, starts, forgets}

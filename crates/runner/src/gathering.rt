@@ -1,9 +1,9 @@
 //! Gathering what a run left at its outputs' paths, step by step.
 
 ghost use Rattle.std.specs.Prelude.{◌≡◌, ◌≤◌, ◌<◌, [], ◌∷◌, ◌++◌, ◌+◌, IfErr, IfOk, OnOk, length, map, reverse, string_bytes};
-ghost use Rattle.runner.specs.Values.{PlaceValue, entry_shown, place_shown};
+ghost use Rattle.run_calls.specs.Values.{PlaceValue, entry_shown, place_shown};
 ghost use Rattle.runner.specs.Steps.{FolderGoes, FolderGoesWith, exited_told, file_items, tree_file_items, tree_items};
-ghost use Rattle.runner.specs.Calls.{file_asked};
+ghost use Rattle.run_calls.specs.Calls.{file_asked};
 ghost use Rattle.runner.specs.Listed.{IsNext, IsStack, file_names, inner_asked, inner_shown, inners_of, most_nodes, stack_of, walk_before};
 ghost use Rattle.runner.specs.Gathered.{end_item, output_items};
 ghost use Rattle.runner.specs.Faults.{FolderCounts};
@@ -12,11 +12,11 @@ ghost use Rattle.runner.specs.Stops.{FolderStops, FolderStopsWith};
 ghost use Rattle.runner.specs.declared.stage.Stage.TheVariants as Stages;
 
 use crate::fault::{RunFault, of_folder};
-use crate::folder::{Entry, Folder, Found, Place};
 use crate::making::{PIECE, cost_of};
 use crate::reading::{Reading, is_too_large};
 use crate::stage::{Gathering, OutputFile, Stage, Step, TreeFile};
 use crate::tree::{Inner, Tree, TreeNodes};
+use run_calls::{Entry, Folder, Found, Place};
 use std::alloc::{AllocError, Global};
 use std::collections::VecDeque;
 
@@ -24,8 +24,12 @@ use std::collections::VecDeque;
 /// so that it is not gathered further.
 const MOST_NODES: usize = 10_001;
 
-/// What a directory costs of what is done in one call.
-const COST_OF_DIRECTORY: u32 = 32;
+/// What a directory costs of what is done in one call: all of it, since many of its entries may be
+/// passed over.
+const COST_OF_DIRECTORY: u32 = 256;
+
+/// What it costs to go to a file and look at it.
+const COST_OF_LOOK: u32 = 2;
 
 /// Looks at the next output.
 pub(crate) fn next_output<F: Folder>(
@@ -56,11 +60,11 @@ pub(crate) fn next_output<F: Folder>(
                 is_executable: facts.is_executable,
                 content: Reading::new(alloc, place.function),
             };
-            Ok(Step::Goes(Stage::File(gathering, file), 1))
+            Ok(Step::Goes(Stage::File(gathering, file), COST_OF_LOOK))
         }
-        Found::Directory => Ok(Step::Goes(Stage::Listing(gathering, path), 1)),
-        Found::Nothing => Ok(Step::Goes(Stage::Outputs(gathering), 1)),
-        Found::Other => Ok(Step::Goes(Stage::Outputs(gathering), 1)),
+        Found::Directory => Ok(Step::Goes(Stage::Listing(gathering, path), COST_OF_LOOK)),
+        Found::Nothing => Ok(Step::Goes(Stage::Outputs(gathering), COST_OF_LOOK)),
+        Found::Other => Ok(Step::Goes(Stage::Outputs(gathering), COST_OF_LOOK)),
     }
 }
 
@@ -262,7 +266,7 @@ fn look_in_tree<F: Folder>(
 {
     let names = tree.nodes.names(name.as_str())?;
     let Some(facts) = of_folder(folder.file(place, tree.path.as_str(), &names))? else {
-        return Ok(Step::Goes(Stage::Tree(gathering, tree), 1));
+        return Ok(Step::Goes(Stage::Tree(gathering, tree), COST_OF_LOOK));
     };
     if is_too_large(gathering.taken, facts.size) {
         return Err(RunFault::TooLarge);
@@ -272,7 +276,7 @@ fn look_in_tree<F: Folder>(
         is_executable: facts.is_executable,
         content: Reading::new(alloc, place.function),
     };
-    Ok(Step::Goes(Stage::TreeFile(gathering, tree, file), 1))
+    Ok(Step::Goes(Stage::TreeFile(gathering, tree, file), COST_OF_LOOK))
 }
 
 /// Adds a directory of an output directory, and lists it.

@@ -1,16 +1,16 @@
 //! What holds of a whole run.
 
 ghost use Rattle.std.specs.Prelude.{ℕ, List, Option};
-ghost use Rattle.runner.specs.Calls.{FolderCall, ProgramCall, RunCall};
+ghost use Rattle.run_calls.specs.Calls.{FolderCall, ProgramCall, RunCall};
 ghost use Rattle.runner.specs.Runs.{IsStageOf};
 ghost use Rattle.runner.specs.Steps.{Goes};
-ghost use Rattle.runner.specs.Values.{PlaceValue, place_shown};
+ghost use Rattle.run_calls.specs.Values.{PlaceValue, place_shown};
 ghost use Rattle.runner.specs.Whole.{ExitsBy, IsPart, IsWhole, all_calls};
 ghost use Rattle.run_outcomes.specs.declared.outcome.Exited.{Exited};
-ghost use Rattle.runner.specs.declared.folder.Place.{Place};
+ghost use Rattle.run_calls.specs.declared.folder.Place.{Place};
 ghost use Rattle.runner.specs.declared.stage.Stage.{Stage};
 ghost use Rattle.runner.specs.declared.stage.Step.{Step};
-ghost use Rattle.runner.specs.declared.task.Task.{Task};
+ghost use Rattle.run_calls.specs.declared.task.Task.{Task};
 
 /// However many calls it takes: from its start to its exit a run makes its task's tree, each node once,
 /// starts its command once, looks at each output, and exits with what was answered. What a call of

@@ -2,8 +2,8 @@
 
 ghost use Rattle.std.specs.Prelude.{◌≡◌, ◌++◌, ◌-◌, ◌∷◌, [], ℕ, List, Option, IfErr, IfOk, length, map, take, string_bytes};
 ghost use Rattle.std.specs.Rc.{rc_str_bytes};
-ghost use Rattle.runner.specs.Values.{PlaceValue, place_shown, command_shown};
-ghost use Rattle.runner.specs.Calls.{ProgramCall, start_asked};
+ghost use Rattle.run_calls.specs.Values.{PlaceValue, place_shown, command_shown};
+ghost use Rattle.run_calls.specs.Calls.{ProgramCall, start_asked};
 ghost use Rattle.runner.specs.Made.{kind_made};
 ghost use Rattle.runner.specs.Steps.{Goes, FolderGoes, ProgramGoes, above_behind, making_left, making_outputs, making_starts, nodes_left};
 ghost use Rattle.runner.specs.Faults.{Counted, FolderCounts, ProgramsCounts};
@@ -13,10 +13,8 @@ ghost use Rattle.runner.specs.declared.stage.Stage.TheVariants as Stages;
 ghost use Rattle.runner.specs.declared.stage.Making.TheVariants as Makings;
 
 use crate::fault::{RunFault, of_folder, of_programs};
-use crate::folder::{Folder, Place};
-use crate::programs::Programs;
 use crate::stage::{Making, Nodes, Parents, Prepared, Stage, Step, Writing};
-use crate::texts::Texts;
+use run_calls::{Folder, Place, Programs, Texts};
 use tree_nodes::{Node, NodeKind};
 
 /// How many bytes of a file are written or read at most by a step.
@@ -24,6 +22,9 @@ pub(crate) const PIECE: u32 = 65_536;
 
 /// What a node costs of what is done in one call.
 const COST_OF_NODE: u32 = 2;
+
+/// How many names of a path cost something. With more, all that is left of a call is spent.
+const NAMES_THAT_COST: usize = 128;
 
 /// How many bytes cost 1.
 const BYTES_FOR_ONE: usize = 4_096;
@@ -33,6 +34,15 @@ pub(crate) fn cost_of(count: usize) -> u32 {
     u32::try_from(count / BYTES_FOR_ONE)
         .unwrap_or(u32::MAX)
         .saturating_add(1)
+}
+
+/// What it costs to make the directories on a path.
+fn cost_of_path(path: &str) -> u32 {
+    let mut cost = COST_OF_NODE;
+    for _name in path.split('/').take(NAMES_THAT_COST) {
+        cost = cost.saturating_add(COST_OF_NODE);
+    }
+    cost
 }
 
 /// Makes the root.
@@ -150,7 +160,8 @@ fn make_directory<F: Folder>(
 {
     of_folder(folder.make_working_directory(place))?;
     let parents = prepared.parents();
-    Ok(Step::Goes(Stage::Making(Making::Parents(parents)), COST_OF_NODE))
+    let cost = cost_of_path(&place.directory);
+    Ok(Step::Goes(Stage::Making(Making::Parents(parents)), cost))
 }
 
 /// Makes the directories above the next output.
@@ -171,8 +182,9 @@ fn make_parents<F: Folder>(
         return Ok(Step::Goes(Stage::Making(Making::Starting(parents.prepared())), 1));
     };
     of_folder(folder.make_parents(place, path.as_str()))?;
+    let cost = cost_of_path(&path);
     parents.made.push_back(path)?;
-    Ok(Step::Goes(Stage::Making(Making::Parents(parents)), COST_OF_NODE))
+    Ok(Step::Goes(Stage::Making(Making::Parents(parents)), cost))
 }
 
 /// Starts the program.

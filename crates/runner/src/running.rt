@@ -1,23 +1,22 @@
 //! Asking a program, ending it, and reading what it wrote, step by step.
 
 ghost use Rattle.std.specs.Prelude.{◌≡◌, [], ◌∷◌, ◌++◌, IfErr, IfOk};
-ghost use Rattle.runner.specs.Values.{PlaceValue, place_shown};
+ghost use Rattle.run_calls.specs.Values.{PlaceValue, place_shown};
 ghost use Rattle.runner.specs.Steps.{ProgramGoes, exited_told};
 ghost use Rattle.runner.specs.Faults.{ProgramsCounts, StaysOrRises};
 ghost use Rattle.runner.specs.Sizes.{IsCounted, IsCountedThen};
 ghost use Rattle.runner.specs.Stops.{ProgramStops};
 ghost use Rattle.runner.specs.Told.{code_item, killed_item, whole_stream};
-ghost use Rattle.runner.specs.declared.programs.Stream.TheVariants as StreamKinds;
+ghost use Rattle.run_calls.specs.declared.programs.Stream.TheVariants as StreamKinds;
 ghost use Rattle.runner.specs.declared.stage.Stage.TheVariants as Stages;
 ghost use Rattle.runner.specs.declared.stage.Step.TheVariants.{Goes};
 
 use crate::fault::{RunFault, of_programs};
-use crate::folder::Place;
 use crate::making::{PIECE, cost_of};
-use crate::programs::{Programs, Stream};
 use crate::reading::{MOST_BYTES, Reading, is_too_large};
 use crate::stage::{Ended, Gathering, Stage, Step};
 use crate::wanted::Wanted;
+use run_calls::{Place, Programs, Stream};
 use run_outcomes::{Content, Exited, Streams};
 use std::alloc::Global;
 

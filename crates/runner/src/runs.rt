@@ -8,14 +8,11 @@ ghost use Rattle.runner.specs.Runs.{EndsBy, HasGone, KillsBy, HasNone, can_go_on
 ghost use Rattle.runner.specs.declared.stage.Run.{Run};
 
 use crate::fault::RunFault;
-use crate::folder::{Folder, Place};
 use crate::going::Going;
-use crate::programs::Programs;
 use crate::stage::{Ending, Making, Nodes, Prepared, Run, Stage, State, Step, Stopped};
-use crate::task::{RunKey, Task};
-use crate::texts::Texts;
 use crate::turn::turn;
 use crate::wanted::Wanted;
+use run_calls::{Folder, Place, Programs, RunKey, Task, Texts};
 use run_outcomes::{Outcome, Streams};
 use std::alloc::{AllocError, Global};
 

@@ -1,19 +1,18 @@
 //! How far a run has come.
 
 ghost use Rattle.std.specs.Prelude.{◌≡◌, [], ◌∷◌, ◌++◌, length, string_bytes};
-ghost use Rattle.runner.specs.Values.{PlaceValue};
+ghost use Rattle.run_calls.specs.Values.{PlaceValue};
 ghost use Rattle.runner.specs.Gathered.{end_item, kind_items};
 ghost use Rattle.runner.specs.Steps.{file_items};
 ghost use Rattle.runner.specs.Runs.{ending_at};
 ghost use Rattle.runner.specs.Sizes.{output_length};
 
 use crate::fault::RunFault;
-use crate::folder::Place;
 use crate::going::Going;
 use crate::reading::Reading;
-use crate::task::{Command, TaskNode};
 use crate::tree::Tree;
 use crate::wanted::Wanted;
+use run_calls::{Command, Place, TaskNode};
 use run_outcomes::{Content, Exited, Output, OutputKind};
 use std::collections::VecDeque;
 use std::rc::RcStr;

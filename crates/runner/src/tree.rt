@@ -1,7 +1,7 @@
 //! An output directory, as far as it was gathered.
 
 ghost use Rattle.std.specs.Prelude.{◌≡◌, ◌≤◌, ◌<◌, ◌+◌, ◌-◌, ◌++◌, ◌∷◌, [], List, ℕ, IfOk, length, map, string_bytes};
-ghost use Rattle.runner.specs.Values.{PlaceValue};
+ghost use Rattle.run_calls.specs.Values.{PlaceValue};
 ghost use Rattle.runner.specs.Gathered.{directory_item, end_item, file_item, kind_items, nodes_items, whole_file};
 ghost use Rattle.runner.specs.Listed.{most_nodes};
 ghost use Rattle.runner.specs.Made.{names_at};

@@ -1,7 +1,7 @@
 //! What is done for a run in one call: steps, until they took some milliseconds.
 
 ghost use Rattle.std.specs.Prelude.{◌≡◌, IfErr, IfOk};
-ghost use Rattle.runner.specs.Values.{place_shown};
+ghost use Rattle.run_calls.specs.Values.{place_shown};
 ghost use Rattle.runner.specs.Steps.{Goes};
 ghost use Rattle.runner.specs.Faults.{Counted};
 ghost use Rattle.runner.specs.Runs.{FailsBy, fault_of};
@@ -9,13 +9,11 @@ ghost use Rattle.runner.specs.Sizes.{IsCounted, IsCountedThen};
 ghost use Rattle.runner.specs.Stops.{Stops};
 
 use crate::fault::RunFault;
-use crate::folder::{Folder, Place};
 use crate::gathering::{list_output, next_in_tree, next_output, read_file, read_in_tree};
 use crate::making::make;
-use crate::programs::Programs;
 use crate::running::{ask, measure, read_error, read_output, stop};
 use crate::stage::{Stage, Step, Stopped};
-use crate::texts::Texts;
+use run_calls::{Folder, Place, Programs, Texts};
 use std::alloc::Global;
 
 /// What steps may cost in one call: so much takes 256 small calls, or a megabyte that is hashed.

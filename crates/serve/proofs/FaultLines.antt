@@ -5,7 +5,7 @@ use Rattle.std.specs.Io.KnownBytes.{Appends}
 use Rattle.std.specs.List.{AllByRecursion, concat}
 use Rattle.std.proofs.lemmas.List.Folds.{concat-append}
 use Rattle.runner.specs.declared.fault.RunFault.{RunFault}
-use Rattle.runner.specs.declared.task.RunKey.{RunKey}
+use Rattle.run_calls.specs.declared.task.RunKey.{RunKey}
 use Rattle.server_events.specs.Configs.{ConfigValue}
 use Rattle.serve.specs.declared.error_lines.Backlog.{Backlog}
 use Rattle.serve.specs.FaultLines.{IsFaultLine, PutsLine, TellsAnswer, WritesFront, WritesLines, dropped_line}

@@ -17,7 +17,7 @@ use Rattle.server_core.specs.StandsFor.{ServerState, instance_at}
 use Rattle.serve.specs.SocketEvents.{SocketEvent, clock}
 use Rattle.serve.specs.RunEvents.{RunEvent, ordered, lent, gave, AddsRuns, AddsAllRuns, WasBegun}
 use Rattle.serve.specs.declared.carrying.Counting.{Counting}
-use Rattle.runner.specs.declared.task.RunKey.{RunKey}
+use Rattle.run_calls.specs.declared.task.RunKey.{RunKey}
 use Rattle.serve.specs.Happenings.{Happening, MarkedHappening, IsOfOne, at_sockets, told, at_runs, run_events, all_timed, moment_then, event_for}
 use Rattle.serve.specs.Served.{AtWork, with_orders, Comes, MayHappen, ParentMayHappen, MayTake, IsFaithful, at_rest, begun, texts_of}
 use Rattle.serve.specs.KeepsServing.{unmarked, moment_behind, StandsBeside, StandsServing, IsServing, TakesEvent}

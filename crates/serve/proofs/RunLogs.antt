@@ -3,7 +3,7 @@ use Rattle.std.proofs.Common.{◌≡◌, ℕ, ◌-◌, ◌≤◌, Bool, true, fa
 use Rattle.std.specs.Prelude.{◌&&◌, ◌==◌, IsTrue}
 use Rattle.std.proofs.lemmas.Bool.{eqb-true, true≢false}
 use Rattle.runner.proofs.Lists.{first_and_rest}
-use Rattle.runner.specs.declared.task.RunKey.{RunKey}
+use Rattle.run_calls.specs.declared.task.RunKey.{RunKey}
 use Rattle.execution.specs.Job.{TaskValue}
 use Rattle.execution.specs.Orders.{start}
 use Rattle.serve.specs.declared.logged_runs.RunRecord.{RunRecord}

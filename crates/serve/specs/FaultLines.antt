@@ -8,7 +8,7 @@ use Rattle.std.specs.Io.KnownBytes.{Appends}
 use Rattle.std.specs.Char.Escape.{escape_ascii}
 use Rattle.runner.specs.declared.fault.RunFault.{RunFault}
 use Rattle.runner.specs.declared.fault.RunFault.TheVariants.{Folder, Start, Launcher, TooLarge, NoMemory, Left}
-use Rattle.runner.specs.declared.task.RunKey.{RunKey}
+use Rattle.run_calls.specs.declared.task.RunKey.{RunKey}
 use Rattle.server_events.specs.Configs.{ConfigValue}
 use Rattle.serve.specs.declared.error_lines.Backlog.{Backlog}
 use Rattle.serve.specs.declared.error_lines.LineCount.{LineCount}

@@ -15,7 +15,7 @@ use Rattle.server_core.specs.Parents.{parent_texts}
 use Rattle.server_core.specs.StandsFor.{ServerState, StandsAt, instance_at}
 use Rattle.serve.specs.SocketEvents.{SocketEvent, moment_of}
 use Rattle.serve.specs.RunEvents.{RunEvent, ordered, AddsRuns, WasBegun}
-use Rattle.runner.specs.declared.task.RunKey.{RunKey}
+use Rattle.run_calls.specs.declared.task.RunKey.{RunKey}
 use Rattle.served_instance.specs.declared.refusal.EventRefusal.{EventRefusal}
 use Rattle.served_instance.specs.declared.refusal.EventRefusal.TheVariants.{NoMemory}
 use Rattle.serve.specs.Happenings.{Happening, MarkedHappening, at_runs, cuts, moment_on}

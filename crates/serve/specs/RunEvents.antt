@@ -6,7 +6,7 @@ use Rattle.run_outcomes.specs.Outcomes.{OutcomeValue, failed}
 use Rattle.run_outcomes.specs.Shown.{outcome_shown}
 use Rattle.runner.specs.declared.fault.RunFault.{RunFault}
 use Rattle.runner.specs.declared.fault.RunFault.TheVariants.{Left}
-use Rattle.runner.specs.declared.task.RunKey.{RunKey}
+use Rattle.run_calls.specs.declared.task.RunKey.{RunKey}
 use Rattle.execution.specs.Job.{TaskValue}
 use Rattle.execution.specs.Orders.{OrderValue, start}
 use Rattle.server_core.specs.declared.server.LentTask.{LentTask}

@@ -1,7 +1,7 @@
 //! Going on with the runs of jobs, and what the server is told of them.
 
 ghost use Rattle.std.specs.Prelude.{◌≡◌, ℕ, List, Option, IfSome};
-ghost use Rattle.runner.specs.declared.task.RunKey.{RunKey};
+ghost use Rattle.run_calls.specs.declared.task.RunKey.{RunKey};
 ghost use Rattle.serve.specs.FaultLines.{IsSaid, TellsAnswer, TellsFault, WritesLines};
 ghost use Rattle.serve.specs.RunEvents.{fault_events, gave_events, outcome_events};
 ghost use Rattle.serve.specs.KeepsServing.{KeepsServing, KeepsServingBegun};
@@ -11,8 +11,9 @@ use crate::carrying::{Counting, tell};
 use crate::error_lines::ErrorLines;
 use crate::runs::Runs;
 use crate::sockets::Sockets;
+use run_calls::RunKey;
 use run_outcomes::Outcome;
-use runner::{RunFault, RunKey};
+use runner::RunFault;
 use server_events::{Configs, What};
 use std::io::Write;
 

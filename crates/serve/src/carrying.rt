@@ -6,7 +6,7 @@ ghost use Rattle.serve.specs.KeepsServing.{AreCarriedOut, TakesEvent, cut_after,
 
 use crate::counts::{Occurrence, ServeCounts};
 use crate::runs::Runs;
-use runner::RunKey;
+use run_calls::RunKey;
 use served_instance::{EventRefusal, Order};
 use server_core::Server;
 use server_events::{Event, What};

@@ -4,7 +4,8 @@ ghost use Rattle.std.specs.Prelude.{◌≡◌, ◌++◌, ◌/◌, [], IfOk, OnOk
 ghost use Rattle.std.specs.Char.Escape.{escape_ascii};
 ghost use Rattle.serve.specs.FaultLines.{Counts, MayTell, PutsLine, TellsLine, TellsRun, WritesFront, dropped_line, escaped, name_at, run_line, with_dropped_line, word_of, words_said};
 
-use runner::{RunFault, RunKey};
+use run_calls::RunKey;
+use runner::RunFault;
 use server_events::Configs;
 use std::alloc::{AllocError, Global};
 use std::io::Write;

@@ -11,8 +11,9 @@ ghost use Rattle.serve.specs.RunEvents.{AddsRuns, IsBegun, lent, ordered, outcom
 
 use crate::copies::{TaskCopy, copied_task, two_outcomes};
 use crate::runs::Runs;
+use run_calls::RunKey;
 use run_outcomes::Outcome;
-use runner::{RunFault, RunKey};
+use runner::RunFault;
 use server_core::LentTask;
 use std::alloc::{AllocError, Global};
 use std::io;

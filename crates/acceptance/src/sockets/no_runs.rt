@@ -5,8 +5,9 @@ ghost use Rattle.serve.specs.Logged.{logged};
 ghost use Rattle.serve.specs.Served.{WasServed};
 
 use program_status::{Fault, Output};
+use run_calls::RunKey;
 use run_outcomes::Outcome;
-use runner::{RunFault, RunKey};
+use runner::RunFault;
 use serve::{ErrorLines, LoggedSockets, Nobody, Runs, Sockets, Tally, serve};
 use server_core::LentTask;
 use server_events::Configs;

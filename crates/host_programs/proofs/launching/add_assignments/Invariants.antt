@@ -1,5 +1,5 @@
 use Rattle.std.proofs.Common.{◌≡◌, ◌++◌, length, map, string_bytes}
-use Rattle.runner.specs.Values.{variable_shown}
+use Rattle.run_calls.specs.Values.{variable_shown}
 use Rattle.host_programs.specs.Launching.{assignment}
 use Rattle.host_programs.proofs.launching.add_assignments.Given as goal
 

@@ -1,5 +1,5 @@
 use Rattle.std.proofs.Common.{◌≡◌, ◌++◌, length, map}
-use Rattle.runner.specs.Values.{variable_shown}
+use Rattle.run_calls.specs.Values.{variable_shown}
 use Rattle.host_programs.proofs.sought.variables_of.Given as goal
 
 abbrev pub invariant-loop-left : goal.invariant-loop-left

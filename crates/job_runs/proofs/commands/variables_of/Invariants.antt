@@ -1,6 +1,6 @@
 use Rattle.std.proofs.Common.{◌≡◌, ◌++◌, length, map}
 use Rattle.execution_messages.specs.Actions.{environment_variable_shown}
-use Rattle.runner.specs.Values.{variable_shown}
+use Rattle.run_calls.specs.Values.{variable_shown}
 use Rattle.job_runs.specs.Tasks.{variable_of}
 use Rattle.job_runs.proofs.commands.variables_of.Given as goal
 

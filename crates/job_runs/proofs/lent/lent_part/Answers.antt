@@ -1,7 +1,7 @@
 use Rattle.std.proofs.Common.{◌≡◌, List, ℕ, length, Some, None, slice_get, refl, sym, ap, subst}
 use Rattle.std.proofs.lemmas.Option.{slice_get_past, slice_get_read}
 use Rattle.std.specs.Option.{option_copied}
-use Rattle.runner.specs.Texts.{IsPart}
+use Rattle.run_calls.specs.Texts.{IsPart}
 use Rattle.job_runs.proofs.Numbering.{lent_text, no_text}
 use Rattle.job_runs.proofs.Parts.{no_part}
 use Rattle.job_runs.proofs.lent.lent_part.Goals as goal

@@ -8,7 +8,7 @@ use Rattle.instance_view.specs.Shown.{blobs_in}
 use Rattle.execution.specs.Job.{TaskValue}
 use Rattle.execution.specs.Keeping.{kept_entries}
 use Rattle.execution.specs.declared.keeping.KeptText.{KeptText}
-use Rattle.runner.specs.declared.task.Task.{Task}
+use Rattle.run_calls.specs.declared.task.Task.{Task}
 use Rattle.execution.specs.Numbers.{kept_digests}
 use Rattle.job_runs.specs.Tasks.{IsTaskOf, command_for, function_for, node_of, output_paths, program_of}
 use Rattle.job_runs.proofs.Numbering.{digests_in}

@@ -1,7 +1,7 @@
 use Rattle.std.proofs.Common.{◌+◌, add-zero, [], ◌∷◌, refl, sym, ap, map, ◌∙◌, zero-le}
 use Rattle.std.specs.Prelude.{string_bytes}
-use Rattle.runner.specs.Values.{entry_shown, place_shown}
-use Rattle.runner.specs.Calls.{list_asked, entries_of}
+use Rattle.run_calls.specs.Values.{entry_shown, place_shown}
+use Rattle.run_calls.specs.Calls.{list_asked, entries_of}
 use Rattle.runner.specs.Gathered.{call_items, found_item, directory_item, output_items, nodes_items}
 use Rattle.runner.proofs.Collect.{goes_folder}
 use Rattle.runner.proofs.Popped.{was_ok}

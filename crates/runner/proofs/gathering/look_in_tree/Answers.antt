@@ -1,7 +1,7 @@
 use Rattle.std.proofs.Common.{◌≡◌, [], ◌∷◌, ◌++◌, refl, sym, ap, ◌∙◌, map, arith}
 use Rattle.std.specs.Prelude.{Ok, string_bytes}
-use Rattle.runner.specs.Values.{place_shown}
-use Rattle.runner.specs.Calls.{file_asked, facts_of}
+use Rattle.run_calls.specs.Values.{place_shown}
+use Rattle.run_calls.specs.Calls.{file_asked, facts_of}
 use Rattle.runner.specs.Gathered.{call_items, file_item, numbered, output_items}
 use Rattle.runner.specs.Steps.{tree_items}
 use Rattle.runner.proofs.Collect.{goes_folder_with}

@@ -1,7 +1,7 @@
 use Rattle.std.proofs.Common.{refl, sym, ap, map, inr}
 use Rattle.std.specs.Prelude.{string_bytes}
-use Rattle.runner.specs.Values.{place_shown}
-use Rattle.runner.specs.Calls.{look_asked}
+use Rattle.run_calls.specs.Values.{place_shown}
+use Rattle.run_calls.specs.Calls.{look_asked}
 use Rattle.runner.specs.declared.gathering.Next.TheVariants as nexts
 use Rattle.runner.proofs.Collect.{goes_drops}
 use Rattle.runner.proofs.Trees.{tree_goes}

@@ -1,7 +1,7 @@
 use Rattle.std.proofs.Common.{[], ◌∷◌, ◌++◌, refl, sym, ap, ◌∙◌, map}
 use Rattle.std.specs.Prelude.{Ok, string_bytes}
-use Rattle.runner.specs.Values.{place_shown}
-use Rattle.runner.specs.Calls.{look_asked, list_asked, found_of}
+use Rattle.run_calls.specs.Values.{place_shown}
+use Rattle.run_calls.specs.Calls.{look_asked, list_asked, found_of}
 use Rattle.runner.specs.Steps.{exited_told}
 use Rattle.runner.specs.Gathered.{call_items, file_item, found_item, numbered, output_items}
 use Rattle.runner.proofs.Collect.{goes_alone, goes_folder}

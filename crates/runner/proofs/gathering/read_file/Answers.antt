@@ -1,7 +1,7 @@
 use Rattle.std.proofs.Common.{◌≡◌, [], ◌∷◌, refl, sym, ap, ◌∙◌, map, length, arith}
 use Rattle.std.specs.Prelude.{string_bytes}
-use Rattle.runner.specs.Values.{place_shown}
-use Rattle.runner.specs.Calls.{look_asked, bytes_asked, folder_bytes_of}
+use Rattle.run_calls.specs.Values.{place_shown}
+use Rattle.run_calls.specs.Calls.{look_asked, bytes_asked, folder_bytes_of}
 use Rattle.runner.specs.Gathered.{file_item, end_item, numbered, output_items}
 use Rattle.runner.specs.Steps.{file_items}
 use Rattle.runner.proofs.Collect.{goes_folder}

@@ -1,6 +1,6 @@
 use Rattle.std.proofs.Common.{◌≡◌, ◌++◌, map, reverse, length}
 use Rattle.std.specs.Prelude.{string_bytes}
-use Rattle.runner.specs.Values.{entry_shown}
+use Rattle.run_calls.specs.Values.{entry_shown}
 use Rattle.runner.specs.Listed.{file_names, inners_of, inner_shown}
 use Rattle.runner.proofs.gathering.set_apart.Given as goal
 

@@ -1,7 +1,7 @@
 use Rattle.std.proofs.Common.{[], ◌∷◌, ◌++◌, ◌∙◌, refl, sym, ap, map}
 use Rattle.std.specs.Prelude.{string_bytes}
-use Rattle.runner.specs.Values.{place_shown, command_shown}
-use Rattle.runner.specs.Calls.{done_of, directory_asked, look_asked, start_asked}
+use Rattle.run_calls.specs.Values.{place_shown, command_shown}
+use Rattle.run_calls.specs.Calls.{done_of, directory_asked, look_asked, start_asked}
 use Rattle.runner.specs.Made.{directory_item, parents_item}
 use Rattle.runner.proofs.Collect.{goes_folder, quiet}
 use Rattle.runner.proofs.Sizes.{fits_none}

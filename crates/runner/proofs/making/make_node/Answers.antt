@@ -4,8 +4,8 @@ use Rattle.std.specs.Rc.{rc_str_bytes}
 use Rattle.tree_nodes.specs.Nodes.{kind_shown}
 use Rattle.runner.specs.declared.stage.Stage.TheVariants as Stages
 use Rattle.runner.specs.declared.stage.Making.TheVariants as Makings
-use Rattle.runner.specs.Values.{place_shown, command_shown}
-use Rattle.runner.specs.Calls.{start_asked, node_asked, look_asked, call, Adds, done_of}
+use Rattle.run_calls.specs.Values.{place_shown, command_shown}
+use Rattle.run_calls.specs.Calls.{start_asked, node_asked, look_asked, call, Adds, done_of}
 use Rattle.runner.specs.Made.{nodes_made}
 use Rattle.runner.specs.Steps.{prepared_left}
 use Rattle.runner.proofs.Collect.{goes_alone, goes_folder, quiet}

@@ -1,7 +1,7 @@
 use Rattle.std.proofs.Common.{[], ◌∷◌, refl, sym, ap, ◌∙◌, subst, map, ◌++◌, append-nil}
 use Rattle.std.specs.Prelude.{string_bytes}
-use Rattle.runner.specs.Values.{place_shown, command_shown}
-use Rattle.runner.specs.Calls.{start_asked, parents_asked, look_asked, call, Adds, done_of}
+use Rattle.run_calls.specs.Values.{place_shown, command_shown}
+use Rattle.run_calls.specs.Calls.{start_asked, parents_asked, look_asked, call, Adds, done_of}
 use Rattle.runner.specs.Made.{parents_item}
 use Rattle.runner.proofs.Collect.{goes_alone, goes_folder, quiet}
 use Rattle.runner.proofs.Popped.{popped, popped_none, moved, was_ok}

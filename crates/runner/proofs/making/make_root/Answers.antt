@@ -1,6 +1,6 @@
 use Rattle.std.proofs.Common.{[], refl, sym}
-use Rattle.runner.specs.Values.{place_shown}
-use Rattle.runner.specs.Calls.{done_of, root_asked}
+use Rattle.run_calls.specs.Values.{place_shown}
+use Rattle.run_calls.specs.Calls.{done_of, root_asked}
 use Rattle.runner.proofs.Collect.{goes_folder, quiet}
 use Rattle.runner.proofs.Sizes.{fits_none}
 use Rattle.runner.proofs.Stopped.{folder_failed, folder_stops}

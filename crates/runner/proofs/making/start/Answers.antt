@@ -1,7 +1,7 @@
 use Rattle.std.proofs.Common.{refl, sym, ap, map}
 use Rattle.std.specs.Prelude.{string_bytes}
-use Rattle.runner.specs.Values.{place_shown, command_shown}
-use Rattle.runner.specs.Calls.{started_of, start_asked, look_asked}
+use Rattle.run_calls.specs.Values.{place_shown, command_shown}
+use Rattle.run_calls.specs.Calls.{started_of, start_asked, look_asked}
 use Rattle.runner.proofs.Collect.{goes_program}
 use Rattle.runner.proofs.Popped.{quiet_told}
 use Rattle.runner.proofs.Sizes.{fits_none}

@@ -1,8 +1,8 @@
 use Rattle.std.proofs.Common.{◌≡◌, [], ◌∷◌, ◌-◌, ◌++◌, refl, sym, ap, ◌∙◌, subst, map, take, length, arith}
 use Rattle.std.specs.Prelude.{string_bytes}
 use Rattle.std.specs.Rc.{rc_str_bytes}
-use Rattle.runner.specs.Values.{place_shown, command_shown}
-use Rattle.runner.specs.Calls.{text_asked, start_asked, look_asked, call, Adds, done_of}
+use Rattle.run_calls.specs.Values.{place_shown, command_shown}
+use Rattle.run_calls.specs.Calls.{text_asked, start_asked, look_asked, call, Adds, done_of}
 use Rattle.runner.specs.Made.{byte_item}
 use Rattle.runner.specs.Steps.{nodes_left}
 use Rattle.runner.proofs.Collect.{goes_alone, goes_folder, quiet}

@@ -1,7 +1,7 @@
 use Rattle.std.proofs.Common.{refl, sym, ap, ◌∙◌}
 use Rattle.std.specs.Prelude.{Ok}
-use Rattle.runner.specs.Values.{place_shown}
-use Rattle.runner.specs.Calls.{end_asked, state_of}
+use Rattle.run_calls.specs.Values.{place_shown}
+use Rattle.run_calls.specs.Calls.{end_asked, state_of}
 use Rattle.runner.specs.Told.{call_told}
 use Rattle.runner.proofs.Collect.{goes_program}
 use Rattle.runner.proofs.Popped.{programs_ok}

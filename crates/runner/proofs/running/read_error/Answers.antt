@@ -1,8 +1,8 @@
 use Rattle.std.proofs.Common.{◌≡◌, [], ◌++◌, ◌∷◌, refl, sym, ap, ◌∙◌, length, map, append_assoc, arith}
 use Rattle.std.specs.Prelude.{string_bytes}
-use Rattle.runner.specs.declared.programs.Stream.TheVariants as streams
-use Rattle.runner.specs.Values.{place_shown}
-use Rattle.runner.specs.Calls.{bytes_of, look_asked, read_asked}
+use Rattle.run_calls.specs.declared.programs.Stream.TheVariants as streams
+use Rattle.run_calls.specs.Values.{place_shown}
+use Rattle.run_calls.specs.Calls.{bytes_of, look_asked, read_asked}
 use Rattle.runner.specs.Told.{code_item, killed_item, stream_bytes, stream_end, whole_stream}
 use Rattle.runner.specs.Gathered.{output_items}
 use Rattle.runner.proofs.Collect.{goes_program}

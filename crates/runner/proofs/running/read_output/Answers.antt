@@ -1,7 +1,7 @@
 use Rattle.std.proofs.Common.{◌≡◌, [], ◌∷◌, refl, sym, ap, ◌∙◌, length, arith}
-use Rattle.runner.specs.declared.programs.Stream.TheVariants as streams
-use Rattle.runner.specs.Values.{place_shown}
-use Rattle.runner.specs.Calls.{bytes_of, read_asked}
+use Rattle.run_calls.specs.declared.programs.Stream.TheVariants as streams
+use Rattle.run_calls.specs.Values.{place_shown}
+use Rattle.run_calls.specs.Calls.{bytes_of, read_asked}
 use Rattle.runner.specs.Told.{code_item, killed_item, stream_end}
 use Rattle.runner.proofs.Collect.{goes_program}
 use Rattle.runner.proofs.Popped.{programs_ok, read_says, some_told, more_read, output_whole}

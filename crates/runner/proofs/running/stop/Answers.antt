@@ -1,7 +1,7 @@
 use Rattle.std.proofs.Common.{◌∷◌, refl, sym, ap, ◌∙◌}
 use Rattle.std.specs.Prelude.{Ok}
-use Rattle.runner.specs.Values.{place_shown}
-use Rattle.runner.specs.Calls.{kill_asked}
+use Rattle.run_calls.specs.Values.{place_shown}
+use Rattle.run_calls.specs.Calls.{kill_asked}
 use Rattle.runner.specs.Told.{code_item}
 use Rattle.runner.proofs.Collect.{goes_program}
 use Rattle.runner.proofs.Popped.{kill_fails, kill_says}

@@ -1,5 +1,5 @@
 use Rattle.std.proofs.Common.{subst, sym}
-use Rattle.runner.specs.Values.{place_shown}
+use Rattle.run_calls.specs.Values.{place_shown}
 use Rattle.runner.specs.Steps.{Goes}
 use Rattle.runner.specs.declared.stage.Step.TheVariants as steps
 use Rattle.runner.proofs.Collect.{goes_nowhere}

@@ -1,5 +1,5 @@
 use Rattle.std.proofs.Common.{◌≡◌}
-use Rattle.runner.specs.Values.{place_shown}
+use Rattle.run_calls.specs.Values.{place_shown}
 use Rattle.runner.specs.Faults.{StaysOrRises}
 use Rattle.runner.specs.Sizes.{IsCounted}
 use Rattle.runner.specs.Steps.{Goes}

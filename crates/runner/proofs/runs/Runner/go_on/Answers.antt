@@ -3,7 +3,7 @@ use Rattle.std.specs.Prelude.{Some}
 use Rattle.runner.specs.declared.stage.Stage.{Stage}
 use Rattle.runner.specs.declared.stage.State.TheVariants.{Live}
 use Rattle.runner.specs.declared.stage.Step.{Step}
-use Rattle.runner.specs.Values.{place_shown}
+use Rattle.run_calls.specs.Values.{place_shown}
 use Rattle.runner.specs.Steps.{Goes}
 use Rattle.runner.proofs.runs.Runner.go_on.Goals as goal
 

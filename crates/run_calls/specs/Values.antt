@@ -1,11 +1,11 @@
 -- What tasks and answers are, whatever room they take in memory.
 use Rattle.std.specs.Int.{w32}
 use Rattle.std.specs.Prelude.{FitsSigned, ℤ, ℕ, Bool, List, map, string_bytes}
-use Rattle.runner.specs.declared.task.RunKey.{RunKey}
-use Rattle.runner.specs.declared.task.Variable.{Variable}
-use Rattle.runner.specs.declared.task.Command.{Command}
-use Rattle.runner.specs.declared.folder.Place.{Place}
-use Rattle.runner.specs.declared.folder.Entry.{Entry}
+use Rattle.run_calls.specs.declared.task.RunKey.{RunKey}
+use Rattle.run_calls.specs.declared.task.Variable.{Variable}
+use Rattle.run_calls.specs.declared.task.Command.{Command}
+use Rattle.run_calls.specs.declared.folder.Place.{Place}
+use Rattle.run_calls.specs.declared.folder.Entry.{Entry}
 use Rattle.tree_nodes.specs.declared.node.Node.{Node}
 
 -- a node of a task's tree, which names texts by their numbers

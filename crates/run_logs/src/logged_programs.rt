@@ -1,14 +1,12 @@
 //! Programs with a log of all that was asked of them.
 
 ghost use Rattle.std.specs.Prelude.{◌≡◌, [], Some, IfOk};
-ghost use Rattle.runner.specs.Calls.{Adds, called, start_asked, started_of, state_of, killed_of, length_of, bytes_of};
-ghost use Rattle.runner.specs.Logged.{program_log, program_question, program_result};
-ghost use Rattle.runner.specs.Values.{command_shown, place_shown};
+ghost use Rattle.run_calls.specs.Calls.{Adds, called, start_asked, started_of, state_of, killed_of, length_of, bytes_of};
+ghost use Rattle.run_logs.specs.Logged.{program_log, program_question, program_result};
+ghost use Rattle.run_calls.specs.Values.{command_shown, place_shown};
 
 use crate::copies::{copied_bytes, copied_command, copied_place};
-use crate::folder::Place;
-use crate::programs::{Programs, Stream};
-use crate::task::{Command, RunKey};
+use run_calls::{Command, Place, Programs, RunKey, Stream};
 use std::alloc::{AllocError, Global};
 use std::io::{self, ErrorKind};
 
@@ -141,7 +139,7 @@ impl<P: Programs> LoggedPrograms<P> {
 }
 
 impl<P: Programs> Programs for LoggedPrograms<P> {
-    ghost use Rattle.runner.specs.Logged.{program_log};
+    ghost use Rattle.run_logs.specs.Logged.{program_log};
 
     ghost asked = { λ p. program_log p.log };
 

@@ -4,19 +4,19 @@ use Rattle.std.specs.Rc.{rc_str_bytes}
 use Rattle.std.specs.Option.{option_map}
 use Rattle.std.specs.Global.{Vec}
 use Rattle.std.specs.declared.io.ErrorKind.{ErrorKind}
-use Rattle.runner.specs.declared.logged_folder.FolderAsked.{FolderAsked}
-use Rattle.runner.specs.declared.logged_folder.FolderAsked.TheVariants as asked
-use Rattle.runner.specs.declared.logged_folder.FolderAnswered.{FolderAnswered}
-use Rattle.runner.specs.declared.logged_folder.FolderAnswered.TheVariants as answered
-use Rattle.runner.specs.declared.logged_folder.FolderRecord.{FolderRecord}
-use Rattle.runner.specs.declared.logged_programs.ProgramAsked.{ProgramAsked}
-use Rattle.runner.specs.declared.logged_programs.ProgramAsked.TheVariants as program_asked
-use Rattle.runner.specs.declared.logged_programs.ProgramAnswered.{ProgramAnswered}
-use Rattle.runner.specs.declared.logged_programs.ProgramAnswered.TheVariants as program_answered
-use Rattle.runner.specs.declared.logged_programs.ProgramRecord.{ProgramRecord}
-use Rattle.runner.specs.Calls.{FolderCall, FolderQuestion, FolderAnswer, root_asked, node_asked, text_asked, directory_asked, parents_asked, look_asked, file_asked, list_asked, bytes_asked, removal_asked, done, found, facts, entries, file_bytes, gone, ProgramCall, ProgramQuestion, ProgramAnswer, start_asked, end_asked, kill_asked, length_asked, read_asked, forget_asked, program_done, state_shown, killed, written, bytes}
+use Rattle.run_logs.specs.declared.logged_folder.FolderAsked.{FolderAsked}
+use Rattle.run_logs.specs.declared.logged_folder.FolderAsked.TheVariants as asked
+use Rattle.run_logs.specs.declared.logged_folder.FolderAnswered.{FolderAnswered}
+use Rattle.run_logs.specs.declared.logged_folder.FolderAnswered.TheVariants as answered
+use Rattle.run_logs.specs.declared.logged_folder.FolderRecord.{FolderRecord}
+use Rattle.run_logs.specs.declared.logged_programs.ProgramAsked.{ProgramAsked}
+use Rattle.run_logs.specs.declared.logged_programs.ProgramAsked.TheVariants as program_asked
+use Rattle.run_logs.specs.declared.logged_programs.ProgramAnswered.{ProgramAnswered}
+use Rattle.run_logs.specs.declared.logged_programs.ProgramAnswered.TheVariants as program_answered
+use Rattle.run_logs.specs.declared.logged_programs.ProgramRecord.{ProgramRecord}
+use Rattle.run_calls.specs.Calls.{FolderCall, FolderQuestion, FolderAnswer, root_asked, node_asked, text_asked, directory_asked, parents_asked, look_asked, file_asked, list_asked, bytes_asked, removal_asked, done, found, facts, entries, file_bytes, gone, ProgramCall, ProgramQuestion, ProgramAnswer, start_asked, end_asked, kill_asked, length_asked, read_asked, forget_asked, program_done, state_shown, killed, written, bytes}
 use Rattle.tree_nodes.specs.Nodes.{kind_shown}
-use Rattle.runner.specs.Values.{place_shown, entry_shown, command_shown}
+use Rattle.run_calls.specs.Values.{place_shown, entry_shown, command_shown}
 
 -- ---- of folders
 

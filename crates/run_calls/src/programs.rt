@@ -16,9 +16,9 @@ pub enum Stream {
 /// The programs of runs, one for each. No call waits for a program.
 pub trait Programs {
     ghost use Rattle.std.specs.Prelude.{Ok};
-    ghost use Rattle.runner.specs.Calls.{ProgramCall, program_done, start_asked, end_asked, kill_asked, length_asked, read_asked, forget_asked, Adds, started_of, state_of, killed_of, length_of, bytes_of, called};
-    ghost use Rattle.runner.specs.Values.{command_shown, place_shown, IsInRange};
-    ghost use Rattle.runner.specs.Faults.{Counts};
+    ghost use Rattle.run_calls.specs.Calls.{ProgramCall, program_done, start_asked, end_asked, kill_asked, length_asked, read_asked, forget_asked, Adds, started_of, state_of, killed_of, length_of, bytes_of, called};
+    ghost use Rattle.run_calls.specs.Values.{command_shown, place_shown, IsInRange};
+    ghost use Rattle.run_calls.specs.Failures.{Counts};
 
     // All that was asked, in order, and what was answered, where it is known.
     ghost asked: { Self → Option (List ProgramCall) } = { λ _. None };

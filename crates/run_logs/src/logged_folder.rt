@@ -3,13 +3,12 @@
 ghost use Rattle.std.specs.Prelude.{◌≡◌, [], Some, IfOk, map, string_bytes};
 ghost use Rattle.std.specs.Rc.{rc_str_bytes};
 ghost use Rattle.tree_nodes.specs.Nodes.{kind_shown};
-ghost use Rattle.runner.specs.Calls.{Adds, call, node_asked, text_asked, directory_asked, parents_asked, look_asked, file_asked, list_asked, bytes_asked, done_of, found_of, facts_of, entries_of, folder_bytes_of, gone_of};
-ghost use Rattle.runner.specs.Logged.{folder_log, folder_question, folder_result};
-ghost use Rattle.runner.specs.Values.{place_shown};
+ghost use Rattle.run_calls.specs.Calls.{Adds, call, node_asked, text_asked, directory_asked, parents_asked, look_asked, file_asked, list_asked, bytes_asked, done_of, found_of, facts_of, entries_of, folder_bytes_of, gone_of};
+ghost use Rattle.run_logs.specs.Logged.{folder_log, folder_question, folder_result};
+ghost use Rattle.run_calls.specs.Values.{place_shown};
 
 use crate::copies::{copied_bytes, copied_entries, copied_names, copied_place, shared_names};
-use crate::folder::{Entry, FileFacts, Folder, Found, Place};
-use crate::task::RunKey;
+use run_calls::{Entry, FileFacts, Folder, Found, Place, RunKey};
 use std::alloc::{AllocError, Global};
 use std::io::{self, ErrorKind};
 use std::rc::RcStr;
@@ -261,7 +260,7 @@ impl<F: Folder> LoggedFolder<F> {
 }
 
 impl<F: Folder> Folder for LoggedFolder<F> {
-    ghost use Rattle.runner.specs.Logged.{folder_log};
+    ghost use Rattle.run_logs.specs.Logged.{folder_log};
 
     ghost asked = { λ f. folder_log f.log };
 

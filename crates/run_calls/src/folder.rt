@@ -50,9 +50,9 @@ pub trait Folder {
     ghost use Rattle.std.specs.Prelude.{map, string_bytes};
     ghost use Rattle.std.specs.Rc.{rc_str_bytes};
     ghost use Rattle.tree_nodes.specs.Nodes.{kind_shown};
-    ghost use Rattle.runner.specs.Calls.{FolderCall, root_asked, node_asked, text_asked, directory_asked, parents_asked, look_asked, file_asked, list_asked, bytes_asked, removal_asked, Adds, done_of, found_of, facts_of, entries_of, folder_bytes_of, gone_of, call};
-    ghost use Rattle.runner.specs.Values.{place_shown};
-    ghost use Rattle.runner.specs.Faults.{Counts};
+    ghost use Rattle.run_calls.specs.Calls.{FolderCall, root_asked, node_asked, text_asked, directory_asked, parents_asked, look_asked, file_asked, list_asked, bytes_asked, removal_asked, Adds, done_of, found_of, facts_of, entries_of, folder_bytes_of, gone_of, call};
+    ghost use Rattle.run_calls.specs.Values.{place_shown};
+    ghost use Rattle.run_calls.specs.Failures.{Counts};
 
     // All that was asked, in order, and what was answered, where it is known.
     ghost asked: { Self → Option (List FolderCall) } = { λ _. None };

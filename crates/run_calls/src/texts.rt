@@ -5,7 +5,7 @@ ghost use Rattle.std.specs.Prelude.{ℕ, List};
 /// The texts of a run's files, by their numbers.
 pub trait Texts {
     ghost use Rattle.std.specs.Prelude.{◌+◌, ◌<◌, ◌^◌, length};
-    ghost use Rattle.runner.specs.Texts.{IsPart};
+    ghost use Rattle.run_calls.specs.Texts.{IsPart};
 
     /// The whole text of a number. One that is no file's has the empty text.
     ghost text_of: { Self → ℕ → List ℕ };

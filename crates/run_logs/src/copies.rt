@@ -2,10 +2,9 @@
 
 ghost use Rattle.std.specs.Prelude.{◌≡◌, IfOk, map, string_bytes};
 ghost use Rattle.std.specs.Rc.{rc_str_bytes};
-ghost use Rattle.runner.specs.Values.{command_shown, entry_shown, place_shown, variable_shown};
+ghost use Rattle.run_calls.specs.Values.{command_shown, entry_shown, place_shown, variable_shown};
 
-use crate::folder::{Entry, Place};
-use crate::task::{Command, Variable};
+use run_calls::{Command, Entry, Place, Variable};
 use std::alloc::{AllocError, Global};
 use std::rc::RcStr;
 

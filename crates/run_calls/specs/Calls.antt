@@ -5,12 +5,12 @@ use Rattle.std.specs.Global.{Vec}
 use Rattle.std.specs.IoError.{error_kind}
 use Rattle.std.specs.declared.io.Error.{Error}
 use Rattle.std.specs.declared.io.ErrorKind.{ErrorKind}
-use Rattle.runner.specs.declared.task.RunKey.{RunKey}
-use Rattle.runner.specs.declared.folder.Found.{Found}
-use Rattle.runner.specs.declared.folder.FileFacts.{FileFacts}
-use Rattle.runner.specs.declared.folder.Entry.{Entry}
-use Rattle.runner.specs.declared.programs.Stream.{Stream}
-use Rattle.runner.specs.Values.{PlaceValue, CommandValue, EntryValue, entry_shown}
+use Rattle.run_calls.specs.declared.task.RunKey.{RunKey}
+use Rattle.run_calls.specs.declared.folder.Found.{Found}
+use Rattle.run_calls.specs.declared.folder.FileFacts.{FileFacts}
+use Rattle.run_calls.specs.declared.folder.Entry.{Entry}
+use Rattle.run_calls.specs.declared.programs.Stream.{Stream}
+use Rattle.run_calls.specs.Values.{PlaceValue, CommandValue, EntryValue, entry_shown}
 use Rattle.tree_nodes.specs.Nodes.{NodeKindValue}
 
 -- ---- of folders

@@ -1,0 +1,88 @@
+//! How much is gathered of each run. What a run comes to is stored in one piece, while others wait.
+
+use run_calls::RunKey;
+use std::alloc::Global;
+use std::io::{self, ErrorKind};
+
+/// How many outputs of a run are made room for.
+const MOST_OUTPUTS: u32 = 20_000;
+
+/// How many entries of a run's output directories are listed, of all of them together.
+const MOST_ENTRIES: usize = 50_000;
+
+/// What was made room for and listed of a run.
+#[derive(Clone, Copy)]
+struct Tally {
+    run: RunKey,
+    outputs: u32,
+    entries: usize,
+}
+
+impl Tally {
+    fn is_of(&self, run: RunKey) -> bool {
+        self.run == run
+    }
+}
+
+/// What was made room for and listed of the runs that have folders.
+#[derive(Drop)]
+pub(crate) struct Tallies {
+    runs: Vec<Tally>,
+}
+
+impl Tallies {
+    pub(crate) fn new(alloc: Global) -> Tallies {
+        Tallies {
+            runs: Vec::new(alloc),
+        }
+    }
+
+    /// Begins with a run, of which nothing was made room for or listed.
+    pub(crate) fn begin(&mut self, run: RunKey) -> io::Result<()> {
+        self.runs.push(Tally {
+            run,
+            outputs: 0,
+            entries: 0,
+        })?;
+        Ok(())
+    }
+
+    /// Adds an output of a run. It is an error where these are too many.
+    pub(crate) fn add_output(&mut self, run: RunKey) -> io::Result<()> {
+        for tally in &mut self.runs {
+            if tally.is_of(run) {
+                tally.outputs = tally.outputs.saturating_add(1);
+                return within(tally.outputs <= MOST_OUTPUTS);
+            }
+        }
+        Ok(())
+    }
+
+    /// Adds entries of an output directory of a run. It is an error where these are too many.
+    pub(crate) fn add_entries(&mut self, run: RunKey, count: usize) -> io::Result<()> {
+        for tally in &mut self.runs {
+            if tally.is_of(run) {
+                tally.entries = tally.entries.saturating_add(count);
+                return within(tally.entries <= MOST_ENTRIES);
+            }
+        }
+        Ok(())
+    }
+
+    /// Forgets a run.
+    pub(crate) fn end(&mut self, run: RunKey) {
+        let place = self.runs.iter().position(|tally| tally.is_of(run));
+        if let Some(at) = place {
+            if at < self.runs.len() {
+                self.runs.swap_remove(at);
+            }
+        }
+    }
+}
+
+fn within(is_within: bool) -> io::Result<()> {
+    if is_within {
+        return Ok(());
+    }
+    Err(io::Error::from(ErrorKind::FileTooLarge))
+}

@@ -1,0 +1,4 @@
+pub mod Values
+pub mod Texts
+pub mod Calls
+pub mod Failures

@@ -3,8 +3,8 @@
 use crate::directory::{COMMON_MODE, Directory};
 use std::io::{self, ErrorKind};
 
-/// How many names a path has at most that is gone down, the run's among them. The trees of inputs and
-/// what is taken of output directories have 64 levels at most.
+/// How many names a path has at most that is gone down, the run's among them. The trees of inputs
+/// and what is taken of output directories have 64 levels at most.
 const MOST_NAMES: usize = 192;
 
 /// A directory below the folder of a start that was gone down to.

@@ -312,8 +312,8 @@ fn start_in_full(
     Err(io::Error::from(ErrorKind::StorageFull))
 }
 
-/// Has the folder of a former start be that of what is removed, unless there is one: it could not be
-/// made. Whether it is.
+/// Has the folder of a former start be that of what is removed, unless there is one: it could not
+/// be made. Whether it is.
 fn becomes_former(alloc: Global, directory: &Directory, name: &str) -> bool {
     let name = name.as_bytes();
     directory.open_in(name).is_ok()
@@ -322,8 +322,8 @@ fn becomes_former(alloc: Global, directory: &Directory, name: &str) -> bool {
             .is_ok()
 }
 
-/// Removes what stands in the folder for that until the folder of this start can be made; none where
-/// nothing is left there, or the time is over.
+/// Removes what stands in the folder for that until the folder of this start can be made; none
+/// where nothing is left there, or the time is over.
 fn start_once_cleared(
     rt: &HostRuntime,
     directory: &Directory,

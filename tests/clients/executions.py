@@ -86,7 +86,8 @@ def nothing_left(context):
     expect(programs.settled(stray), [], "folders")
     time.sleep(3)
     more = server.descriptors() - context.descriptors
-    expect(more <= 4, True, f"descriptors: {more} more than at the start")
+    # two of each shell that is kept: to end sessions, to open outputs, and to remove the folders of each instance
+    expect(more <= 8, True, f"descriptors: {more} more than at the start")
     wanted, said = sorted(context.lines), sorted(server.said())
     expect(said, wanted, "the lines on standard error")
     return f"no process, no folder and no descriptor is left; {len(said)} lines on standard error, each as it has to be"

@@ -449,6 +449,131 @@ for directory in range(10):
     return "directories full of links are gathered, and one of 15,001 entries is refused"
 
 
+# Makes files of a thousand pieces each, in directories that may not be entered, and makes its standard error such a file.
+# To remove one takes a disk seconds.
+PIECES = """import ctypes, os, sys
+os.write(2, 1_000 * b"x" * 8_192)
+os.fsync(2)
+for piece in range(1_000):
+    ctypes.CDLL(None).fallocate(2, 3, ctypes.c_long(8_192 * piece), ctypes.c_long(4_096))
+os.makedirs("d/e")
+for number in range(int(sys.argv[1])):
+    with open(f"d/e/{number}", "wb", 0) as file:
+        for piece in range(1_000):
+            os.pwrite(file.fileno(), b"x" * 4_096, 8_192 * piece)
+        os.fsync(file.fileno())
+os.chmod("d/e", 0)
+os.chmod("d", 0)
+"""
+
+
+def files_of_pieces(stage):
+    """Files of very many pieces are to be removed, each by one call of the system that takes long; and at a start."""
+    with stage.serve() as (server, red):
+        begun = time.monotonic()
+        for _ in range(3):
+            stage.runs(red, python(PIECES, 2))
+        took = [stage.blue_runs(server) for _ in range(5)]
+        of_blue = lambda: [name for name in server.entries() if name.startswith("1-")]
+        stage.waits(lambda: not of_blue(), 5, "blue's folders are gone")
+        for _ in range(70):
+            stage.runs(red, "true")
+        at = len(server.entries())
+        expect(at < 2 * 70, True, f"{at} folders wait")
+        stage.nothing_left(server, 200)
+        removed = time.monotonic() - begun
+        number = red.start(stage.action(["/bin/sh", "-c", f'{PYTHON} -c "$1" 2; sleep 600', "sh", PIECES]))
+        red.next(number), red.next(number)
+        running = lambda: programs.running(stage.folder, server.process.pid).values()
+        stage.waits(lambda: "sleep 600" in running(), 60, "the files are made")
+        first = server.start()
+        stage.stop(server, signal.SIGKILL)
+    stage.end_programs()
+    begun = time.monotonic()
+    with stage.serve() as (server, red):
+        start = time.monotonic() - begun
+        stage.blue_runs(server)
+        stage.former_removed(server, red, first, 120)
+    expect(start < 10 * stage.slow, True, f"the start took {start:.1f} s")
+    told = f"blue's actions took {max(took):.1f} s at most, and red's folders were removed in {removed:.1f} s"
+    return f"{told}; a start after a crash took {start:.1f} s"
+
+
+def large_directory(stage):
+    """A run's own folder is a directory that has had very many names, and is to be removed, while blue's folders are made."""
+    script = """import os
+for number in range(60_000):
+    os.symlink("nowhere", "%d-%s" % (number, "x" * 230))
+for name in os.listdir():
+    if name.endswith("x"):
+        os.unlink(name)
+"""
+    with stage.serve() as (server, red):
+        took = []
+        for _ in range(2):
+            stage.runs(red, python(script))
+            end = time.monotonic() + 3
+            while time.monotonic() < end:
+                took.append(stage.blue_runs(server))
+        stage.nothing_left(server, 60)
+    return f"blue's {len(took)} actions took {max(took):.2f} s at most"
+
+
+def remover_killed(stage):
+    """What removes folders for the server is killed fifty times a second."""
+    killed, is_over = 0, threading.Event()
+
+    def kill(server):
+        nonlocal killed
+        while not is_over.wait(0.02):
+            for helper in programs.helpers(stage.folder, server.process.pid, programs.REMOVES_FOLDERS):
+                with contextlib.suppress(ProcessLookupError):
+                    os.kill(helper, signal.SIGKILL)
+                    killed += 1
+
+    with stage.serve() as (server, red):
+        killer = threading.Thread(target=kill, args=[server])
+        killer.start()
+        try:
+            for number in range(20):
+                stage.runs(red, f"mkdir -p a/b; seq {100 * number} > a/b/o; mkdir c; chmod 0 a/b a")
+            took = stage.blue_runs(server)
+            stage.nothing_left(server)
+        finally:
+            is_over.set()
+            killer.join()
+        stage.runs(red, "mkdir a")
+        stage.nothing_left(server)
+        zombies = programs.zombies(server.process.pid)
+        expect(len(zombies) <= 16, True, f"{len(zombies)} ended children")
+    return f"killed {killed} times, all folders are gone: blue's action then took {took:.1f} s"
+
+
+def remover_stopped(stage):
+    """What removes folders for the server is stopped (SIGSTOP), and so is the program that it has started for one."""
+    with stage.serve() as (server, red):
+        stage.runs(red, "true")
+        os.kill(stage.helper(server, programs.REMOVES_FOLDERS), signal.SIGSTOP)
+        begun = time.monotonic()
+        for _ in range(70):
+            stage.runs(red, "mkdir -p a/b")
+        stage.nothing_left(server)
+        took = time.monotonic() - begun
+        # so many files that the program which removes them is found at it
+        stage.runs(red, "seq 100000 | xargs touch")
+        look = lambda: programs.removing(server.process.pid)
+        programs.settled(lambda: not look(), 5 * stage.slow)
+        for number in look():
+            os.kill(number, signal.SIGSTOP)
+        stage.runs(red, "mkdir -p a/b")
+        try:
+            stage.nothing_left(server, 30)
+        finally:
+            programs.end_stopped(stage.folder)
+        stage.blue_runs(server)
+    return f"another one takes its place: 70 folders were gone after {took:.1f} s"
+
+
 def names_of_removal(stage):
     """Directories have the names that removal gives to what it moves, in the folder of the run and beside it."""
     inside = """seq -f ".removed-%g/x" 3000 | xargs mkdir -p; seq -f ".aside/%g/x" 300 | xargs mkdir -p

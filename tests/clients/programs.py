@@ -1,6 +1,7 @@
 """Looks for the programs that a server of `remoted` has running."""
 
 import os
+import signal
 import time
 
 
@@ -25,6 +26,25 @@ def _state(pid):
     return (words[0].decode(), int(words[1])) if words else ("", 0)
 
 
+def _is_removing(name):
+    """Whether a process is a shell that removes folders, or what such a shell started."""
+    words = _read(f"/proc/{name}/cmdline").split(b"\0")
+    return words[0] in (b"/bin/mv", b"/bin/rm", b"/bin/chmod") or any(REMOVES_FOLDERS.encode() in word for word in words)
+
+
+def removing(server):
+    """The programs by which a server's shells remove folders now."""
+    found = [int(name) for name in os.listdir("/proc") if name.isdigit() and _read(f"/proc/{name}/cmdline").startswith(b"/bin/rm\0")]
+    return [each for each in found if _state(_state(each)[1])[1] == server]
+
+
+def end_stopped(folder):
+    """Kills what was stopped while it removed something below a folder."""
+    for name in filter(str.isdigit, os.listdir("/proc")):
+        if _link(f"/proc/{name}/cwd").startswith(folder + "/") and _state(name)[0] == "T":
+            os.kill(int(name), signal.SIGKILL)
+
+
 def running(folder, server=None):
     """The processes that work below a folder, or have it as `MARK` in their environment: numbers and command lines."""
     mark, found = b"MARK=" + os.fsencode(folder), {}
@@ -32,14 +52,17 @@ def running(folder, server=None):
         if not name.isdigit() or int(name) in (os.getpid(), server):
             continue
         where = _link(f"/proc/{name}/cwd")
+        # What removes folders works in that of a start itself.
+        if os.path.basename(where).startswith("start-") and _is_removing(name):
+            continue
         if where.startswith(folder + "/") or mark in _read(f"/proc/{name}/environ").split(b"\0"):
             if _state(name)[0] not in ("Z", "X", ""):
                 found[int(name)] = _read(f"/proc/{name}/cmdline").replace(b"\0", b" ").decode(errors="replace").strip()
     return found
 
 
-# What the command line of the shell has that ends sessions, and that of the one that opens outputs.
-ENDS_SESSIONS, OPENS_OUTPUTS = "kill -s", "printf -"
+# What the command line of the shell has that ends sessions, that of the one that opens outputs, and those that remove folders.
+ENDS_SESSIONS, OPENS_OUTPUTS, REMOVES_FOLDERS = "kill -s", "printf -", "/bin/rm -rf"
 
 
 def helpers(folder, server, word=""):

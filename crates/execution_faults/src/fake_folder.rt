@@ -29,6 +29,8 @@ struct Node {
 pub struct FakeFolder {
     alloc: Global,
     nodes: Vec<Node>,
+    /// Whether it was asked for room for the folder that is made next.
+    was_room_asked: bool,
     /// Whether the file that is read next was asked for.
     was_asked: bool,
     pub calls: Calls,
@@ -175,6 +177,7 @@ impl FakeFolder {
         FakeFolder {
             alloc,
             nodes: Vec::new(alloc),
+            was_room_asked: false,
             was_asked: false,
             calls: Calls::new(failing),
         }
@@ -273,6 +276,12 @@ impl Folder for FakeFolder {
         let mut entries = entries(self.alloc, &self.nodes, place.run, whole.as_str());
         entries.truncate(most);
         Ok(entries)
+    }
+
+    /// It is asked twice before each folder is made.
+    fn has_room(&mut self, _run: RunKey) -> bool {
+        self.was_room_asked = !self.was_room_asked;
+        !self.was_room_asked
     }
 
     /// It is asked twice before each part is read.

@@ -137,11 +137,18 @@ impl Directory {
         Ok(path)
     }
 
-    /// A line that tells another process of this user a path to what has this name in this
-    /// directory, or to that itself, `.`, as long as it is open. The name has no line's end.
-    pub(crate) fn line_of(&self, alloc: Global, name: &str) -> Result<String, AllocError> {
+    /// A path by which another process of this user finds what has this name in this directory, or
+    /// that itself, `.`, as long as it is open.
+    pub(crate) fn shown_path(&self, alloc: Global, name: &str) -> Result<String, AllocError> {
         let (process, descriptor) = (libc::getpid(), self.descriptor);
-        format!(in alloc; "/proc/{process}/fd/{descriptor}/{name}\n")
+        format!(in alloc; "/proc/{process}/fd/{descriptor}/{name}")
+    }
+
+    /// A line that tells another process that path. The name has no line's end.
+    pub(crate) fn line_of(&self, alloc: Global, name: &str) -> Result<String, AllocError> {
+        let mut line = self.shown_path(alloc, name)?;
+        line.push_str("\n")?;
+        Ok(line)
     }
 
     fn path_of_bytes(&self, alloc: Global, name: &[u8]) -> io::Result<Vec<u8>> {

@@ -7,12 +7,14 @@ use crate::directory::{COMMON_MODE, Directory, PRIVATE_MODE};
 use crate::entering::{Entered, Entrance};
 use crate::files::{Kept, again, list_in, look_in, open_to_add, open_to_read};
 use crate::opener::{Opener, Target};
+use crate::remover::Remover;
 use crate::removing::Removal;
 use crate::tallies::Tallies;
 use crate::work::Work;
 use host_files::{
     aside_name, file_path, found_at, is_absence, left_path, node_path, parted, read_part, root_name,
 };
+use host_shells::Removing;
 use run_calls::{Entry, FileFacts, Folder, Found, Place, RunKey};
 use std::fs::{File, OpenOptions, Permissions};
 use std::io::{self, ErrorKind, Write};
@@ -40,6 +42,7 @@ struct Folders<'a> {
     read: Option<Kept>,
     /// Why the file that is to be read next could not be opened, if it could not.
     unopened: Option<io::Error>,
+    remover: Remover<'a>,
     /// How many directories were moved in order to be removed.
     moved: u64,
     /// How much was gathered of runs.
@@ -63,6 +66,11 @@ fn make_file(rt: &HostRuntime, path: &str, is_executable: bool) -> io::Result<Fi
 }
 
 impl<'a> Folders<'a> {
+    /// Whether the folder of a run may be made.
+    fn has_room(&mut self, run: RunKey) -> bool {
+        self.remover.has_room(&self.work, run.instance)
+    }
+
     /// Makes the folder of a run, and the one aside.
     fn make_root(&mut self, run: RunKey) -> io::Result<()> {
         self.work.clear_some(self.rt);
@@ -293,6 +301,22 @@ impl<'a> Folders<'a> {
     }
 
     fn remove(&mut self, run: RunKey) -> io::Result<bool> {
+        if !self.remover.has(run) {
+            self.let_go(run)?;
+        }
+        self.work.clear_some(self.rt);
+        let Ok(root) = root_name(self.rt.alloc(), run) else {
+            // It is asked for again.
+            return Ok(false);
+        };
+        match self.remover.remove(&self.work, run, root.as_str()) {
+            Removing::Waits => Ok(false),
+            Removing::Done | Removing::Alone => self.remove_some(run, root.as_str()),
+        }
+    }
+
+    /// Closes what is open of a run whose folder is to be removed, and forgets the run.
+    fn let_go(&mut self, run: RunKey) -> io::Result<()> {
         self.made = None;
         self.read = None;
         self.tallies.end(run);
@@ -300,20 +324,24 @@ impl<'a> Folders<'a> {
             opener.forget(run)?;
         }
         self.entrance.leave();
-        self.work.clear_some(self.rt);
+        Ok(())
+    }
+
+    /// Removes some of the folder of a run, which has this name, where no shell can, or what a shell
+    /// has left. Whether nothing is left.
+    fn remove_some(&mut self, run: RunKey, root: &str) -> io::Result<bool> {
         let alloc = self.rt.alloc();
         let start = self.work.start()?;
         let aside = aside_name(alloc, run)?;
-        let root = root_name(alloc, run)?;
         let mut removal = Removal {
             alloc,
             start,
             aside: aside.as_str(),
             moved: &mut self.moved,
         };
-        let path = start.path_of(alloc, root.as_str())?;
+        let path = start.path_of(alloc, root)?;
         match found_at(self.rt, path.as_str())? {
-            Some(_) => removal.remove(start, root.as_str()),
+            Some(_) => removal.remove(start, root),
             None => removal.remove_some(),
         }
     }
@@ -339,6 +367,7 @@ impl<'a> HostFolder<'a> {
                 made: None,
                 read: None,
                 unopened: None,
+                remover: Remover::new(rt),
                 moved: 0,
                 tallies: Tallies::new(rt.alloc()),
             },
@@ -432,6 +461,10 @@ impl<'a> Folder for HostFolder<'a> {
         let answer = self.folders.list(place, path, names, most);
         self.count(&answer);
         answer
+    }
+
+    fn has_room(&mut self, run: RunKey) -> bool {
+        self.folders.has_room(run)
     }
 
     /// What cannot be opened is told by `read`.

@@ -6,6 +6,7 @@ mod entering;
 mod files;
 mod folder;
 mod opener;
+mod remover;
 mod removing;
 mod starts;
 mod tallies;

@@ -1,4 +1,4 @@
-//! Removing folders, some of them at a time.
+//! Removing folders, some of them at a time, where no shell can.
 //!
 //! Beside a folder stands another one, to which nothing below the folder leads: its folder aside.
 //! What is to be removed is moved there whole, and each directory below it, but an empty one, is

@@ -4,9 +4,11 @@ use crate::directory::{Directory, PRIVATE_MODE};
 use crate::files::open_regular;
 use crate::removing::Removal;
 use crate::starts::{make_start, number_after, starts_in};
+use host_shells::{Removing, RemovingShells};
 use std::alloc::Global;
 use std::fs::{self, File, OpenOptions, TryLockError};
 use std::io::{self, ErrorKind, Write};
+use std::thread;
 use std::time::{Duration, Instant};
 
 /// The file that marks a directory as remoted's. The server that works there holds it locked.
@@ -22,6 +24,9 @@ const LOST_AND_FOUND: &str = "lost+found";
 /// The folder in which stands what former starts left, until it is removed.
 const FORMER: &str = "former";
 
+/// The same, from the folder of a start on.
+const FORMER_FROM_START: &str = "../former";
+
 /// How many directories of former starts a start moves under names that no other start's have.
 const MOVED_OF_START: u64 = 1_000_000;
 
@@ -33,6 +38,15 @@ const CLEARING_SECONDS: u64 = 1;
 
 /// For how long it does so where the disk is full, before it gives up.
 const ROOM_SECONDS: u64 = 60;
+
+/// Two paths to the folder of a start.
+#[derive(Clone, Copy)]
+pub(crate) struct Paths<'a> {
+    /// As long as it is open.
+    pub(crate) shown: &'a str,
+    /// As long as it stands there.
+    pub(crate) whole: &'a str,
+}
 
 /// Where the runs of a start have their folders.
 #[derive(Drop)]
@@ -48,6 +62,10 @@ struct Held {
     start: Directory,
     /// Others are kept from the directory until this is closed.
     mark: File,
+    /// A path to the folder of the start, as long as it is open.
+    shown: String,
+    /// What removes what is left of former starts.
+    clearing: RemovingShells,
     /// Whether nothing is left of former starts that can be removed.
     is_clear: bool,
     moved: u64,
@@ -102,41 +120,55 @@ impl Work {
         }
     }
 
-    /// Removes some of what former starts left, until nothing is left that can be removed.
+    /// How the folder of this start is found, if there is one.
+    pub(crate) fn paths(&self) -> Option<Paths<'_>> {
+        match &self.held {
+            Some(held) => Some(Paths {
+                shown: held.shown.as_str(),
+                whole: self.path.as_str(),
+            }),
+            None => None,
+        }
+    }
+
+    /// Goes on with the removal of what former starts left, until nothing is left that can be
+    /// removed.
     pub(crate) fn clear_some(&mut self, rt: &HostRuntime) {
+        let path = self.path.as_str();
         if let Some(held) = &mut self.held {
-            let _cleared: io::Result<()> = held.clear_some(rt);
+            let _is_waited_for: io::Result<bool> = held.clear_some(rt, path);
         }
     }
 }
 
 impl Held {
-    fn clear_some(&mut self, rt: &HostRuntime) -> io::Result<()> {
+    /// Goes on with the removal of what former starts left. Whether it is to be waited for that. The
+    /// folder of this start has this path.
+    fn clear_some(&mut self, rt: &HostRuntime, path: &str) -> io::Result<bool> {
         if self.is_clear {
-            return Ok(());
+            return Ok(false);
+        }
+        let places = [self.shown.as_str(), path];
+        if self.clearing.remove(rt, places, 0, FORMER_FROM_START) == Removing::Waits {
+            return Ok(true);
         }
         let mut removal = former_in(rt.alloc(), &self.directory, &mut self.moved);
-        match removal.remove_some() {
-            Ok(is_clear) => {
-                self.is_clear = is_clear;
-                Ok(())
-            }
-            Err(error) => {
-                self.is_clear = true;
-                Err(error)
-            }
-        }
+        let answer = removal.remove_some();
+        self.is_clear = !matches!(answer, Ok(false));
+        answer.map(|_| false)
     }
 
-    /// Removes what former starts left, for a while.
-    fn clear(&mut self, rt: &HostRuntime) -> io::Result<()> {
+    /// Has what former starts left removed, and waits for that for a while.
+    fn clear(&mut self, rt: &HostRuntime, path: &str) -> io::Result<()> {
         let began = Instant::now(rt)?;
         for _ in 0..u64::MAX {
             let time = Instant::now(rt)?.duration_since(began);
             if self.is_clear || time >= Duration::from_secs(CLEARING_SECONDS) {
                 return Ok(());
             }
-            self.clear_some(rt)?;
+            if self.clear_some(rt, path)? {
+                thread::sleep(rt, Duration::from_millis(1));
+            }
         }
         Ok(())
     }
@@ -147,9 +179,9 @@ impl Held {
 /// before.
 ///
 /// The folder has a name that none of those there has had, so that a program of a former start
-/// which still runs knows no path into it. Former starts' folders are removed: for a second now,
-/// and some more with each run that begins and ends. What cannot be removed stays, and is in
-/// nobody's way.
+/// which still runs knows no path into it. Former starts' folders are removed by a shell, for which
+/// it is waited for a second. Where none can be had, some is removed now, and some more with each
+/// run that begins and ends. What cannot be removed stays, and is in nobody's way.
 pub fn begin_work(
     rt: &HostRuntime,
     path: &str,
@@ -250,20 +282,31 @@ fn begin_in(
             _ => {}
         }
     }
+    let whole = format!(in alloc; "{path}/{name}")?;
     let mut held = Held {
+        shown: start.shown_path(alloc, ".")?,
+        clearing: RemovingShells::new(alloc),
+        is_clear: is_missing(&directory, FORMER),
         directory,
         start,
         mark,
-        is_clear: false,
         moved,
     };
-    if let Err(error) = held.clear(rt) {
+    if let Err(error) = held.clear(rt, whole.as_str()) {
         complain(alloc, path, FORMER, error, complaints)?;
     }
     Ok(Work {
-        path: format!(in alloc; "{path}/{name}")?,
+        path: whole,
         held: Some(held),
     })
+}
+
+/// Whether nothing has this name in a directory.
+fn is_missing(directory: &Directory, name: &str) -> bool {
+    match directory.open_in(name.as_bytes()) {
+        Ok(_) => false,
+        Err(error) => error.kind() == ErrorKind::NotFound,
+    }
 }
 
 /// Makes the folder of this start, if a folder can be made and removed in it.

@@ -12,17 +12,18 @@ use host_files::{beside_path, read_part};
 use host_shells::{Progress, Session, Sessions};
 use run_calls::{RunKey, Stream};
 use std::alloc::Global;
-use std::fs::{self, File, OpenOptions};
+use std::fs::{File, OpenOptions};
 use std::io::{self, ErrorKind};
 use std::os::unix::fs::OpenOptionsExt;
 use std::os::unix::process::ExitStatusExt;
 use std::process::{Child, Command, ExitStatus, Stdio};
 use std::time::{Duration, Instant};
 
-/// What follows a run's name in those of the files that take what its program writes.
-pub(crate) const OUTPUT_ENDING: &str = ".out";
+/// What follows a run's name in the paths of the files that take what its program writes. They stand
+/// in the folder beside the run's own.
+const OUTPUT_ENDING: &str = ".aside/out";
 
-pub(crate) const ERROR_ENDING: &str = ".err";
+const ERROR_ENDING: &str = ".aside/err";
 
 /// How those files can be used.
 const STREAM_MODE: u32 = 0o600;
@@ -40,8 +41,9 @@ pub(crate) enum StartedAs {
     Launcher,
 }
 
-/// A program that was started. What it writes goes into two files that have no names any more, so
-/// that nothing waits for whoever else writes there, and nothing is left of them.
+/// A program that was started. What it writes goes into two files, so that nothing waits for whoever
+/// else writes there. They are removed with the run's folder, by what removes that: to close the
+/// last of a file of very many pieces takes as long as to remove it.
 #[derive(Drop)]
 pub(crate) struct Started {
     run: RunKey,
@@ -77,17 +79,15 @@ fn most_from(end: u64, from: u64, most: u32) -> u32
     }
 }
 
-/// A new file with no name, to which all that is written is added. For a moment it has one.
-fn nameless_file(rt: &HostRuntime, work: &str, run: RunKey, ending: &str) -> io::Result<File> {
+/// A new file, to which all that is written is added.
+fn stream_file(rt: &HostRuntime, work: &str, run: RunKey, ending: &str) -> io::Result<File> {
     let path = beside_path(rt.alloc(), work, run, ending)?;
-    let file: File = OpenOptions::new()
+    OpenOptions::new()
         .read(true)
         .append(true)
         .create_new(true)
         .mode(STREAM_MODE)
-        .open(rt, path.as_str())?;
-    fs::remove_file(rt, path.as_str())?;
-    Ok(file)
+        .open(rt, path.as_str())
 }
 
 /// Makes a program write into these files, and read nothing.
@@ -107,8 +107,8 @@ pub(crate) fn start(
     started_as: StartedAs,
     command: &mut Command,
 ) -> io::Result<Started> {
-    let stdout = nameless_file(rt, work, run, OUTPUT_ENDING)?;
-    let stderr = nameless_file(rt, work, run, ERROR_ENDING)?;
+    let stdout = stream_file(rt, work, run, OUTPUT_ENDING)?;
+    let stderr = stream_file(rt, work, run, ERROR_ENDING)?;
     set_streams(command, &stdout, &stderr)?;
     Ok(Started {
         run,

@@ -66,7 +66,7 @@ impl Drop for OpeningShell {
 
 impl OpeningShell {
     pub fn start(rt: &HostRuntime) -> io::Result<OpeningShell> {
-        let mut child = spawned(rt, SCRIPT)?;
+        let mut child = spawned(rt, SCRIPT, &[])?;
         let (Some(questions), Some(answers)) = (child.stdin.take(), child.stdout.take()) else {
             return Err(io::Error::from(ErrorKind::BrokenPipe));
         };

@@ -167,6 +167,29 @@ pub(crate) fn doing_of(rt: &HostRuntime, process: u32) -> io::Result<Doing> {
     }
 }
 
+/// Whether a process was stopped or has ended, or what it started first of all that it waits for.
+pub(crate) fn is_stopped(rt: &HostRuntime, process: u32) -> io::Result<bool> {
+    if doing_of(rt, process)? == Doing::Nothing {
+        return Ok(true);
+    }
+    match child_of(rt, process) {
+        Ok(Some(child)) => Ok(doing_of(rt, child)? == Doing::Nothing),
+        // The system may not show what a process has started.
+        Ok(None) | Err(_) => Ok(false),
+    }
+}
+
+/// The first process that another one has started and not yet waited for.
+fn child_of(rt: &HostRuntime, process: u32) -> io::Result<Option<u32>> {
+    let path = format!(in rt.alloc(); "{PROCESSES}/{process}/task/{process}/children")?;
+    let mut file: File = File::open(rt, path.as_str())?;
+    let mut room = [0u8; MOST_SHOWN];
+    let count = file.read(&mut room)?;
+    let text = str::from_utf8(room.get(..count).unwrap_or(&[])).unwrap_or("");
+    let word = text.split_ascii_whitespace().next().unwrap_or("");
+    Ok(word.parse::<u32>().ok())
+}
+
 /// Whether a process has this number, also one that has ended and was not waited for.
 pub(crate) fn is_there(rt: &HostRuntime, process: u32) -> io::Result<bool> {
     let path = format!(in rt.alloc(); "{PROCESSES}/{process}")?;

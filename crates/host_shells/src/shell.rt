@@ -1,4 +1,4 @@
-//! A shell that sends signals.
+//! A shell that is told lines, and answers each: one that sends signals.
 
 use crate::sessions::{SESSION, Session};
 use std::alloc::{AllocError, Global};
@@ -48,15 +48,24 @@ pub(crate) fn keep_from_waiting<P: AsRawFd>(end: &P) -> io::Result<()> {
     }
 }
 
-/// Starts a shell with a script, and with pipes to it and from it.
-pub(crate) fn spawned(rt: &HostRuntime, script: &str) -> io::Result<Child> {
+/// Starts a shell with a script and its arguments, the first of which is its name, and with pipes
+/// to it and from it.
+pub(crate) fn spawned(rt: &HostRuntime, script: &str, arguments: &[&str]) -> io::Result<Child> {
     let mut command = Command::new(rt.alloc(), SESSION)?;
-    launch(rt, script, &mut command)
+    launch(rt, script, arguments, &mut command)
 }
 
 /// Starts the shell, as what `SESSION` is told to start.
-fn launch(rt: &HostRuntime, script: &str, command: &mut Command) -> io::Result<Child> {
+fn launch(
+    rt: &HostRuntime,
+    script: &str,
+    arguments: &[&str],
+    command: &mut Command,
+) -> io::Result<Child> {
     command.arg("--")?.arg(SHELL)?.arg("-c")?.arg(script)?;
+    for argument in arguments {
+        command.arg(*argument)?;
+    }
     command.env_clear();
     command
         .stdin(Stdio::piped())
@@ -111,8 +120,14 @@ impl Drop for Shell {
 }
 
 impl Shell {
+    /// One that sends signals.
     pub(crate) fn start(rt: &HostRuntime, now: Instant) -> io::Result<Shell> {
-        let mut child = spawned(rt, SCRIPT)?;
+        Shell::of(spawned(rt, SCRIPT, &[])?, now)
+    }
+
+    /// One that was started, and writes a byte for each line that it is told.
+    pub(crate) fn of(child: Child, now: Instant) -> io::Result<Shell> {
+        let mut child = child;
         let (Some(questions), Some(answers)) = (child.stdin.take(), child.stdout.take()) else {
             return Err(io::Error::from(ErrorKind::BrokenPipe));
         };
@@ -131,16 +146,30 @@ impl Shell {
         Ok(shell)
     }
 
-    /// Whether it can be asked on: it has not ended, and leaves no question without an answer for
-    /// long.
-    pub(crate) fn is_well(&mut self, now: Instant) -> bool {
+    /// Whether it can be asked on, however long it takes for its answers: it has not ended.
+    pub(crate) fn stands(&mut self, now: Instant) -> bool {
         self.seen = now;
         if self.asked > self.answered {
             self.take_answers();
         }
-        let is_late = self.asked > self.answered
-            && now.duration_since(self.since) >= Duration::from_secs(MOST_SECONDS);
-        !self.is_lost && !is_late && !self.has_ended()
+        !self.is_lost && !self.has_ended()
+    }
+
+    /// Whether it has left a question without an answer for long.
+    pub(crate) fn is_late(&self, now: Instant) -> bool {
+        self.asked > self.answered
+            && now.duration_since(self.since) >= Duration::from_secs(MOST_SECONDS)
+    }
+
+    /// Whether it can be asked on: it has not ended, and leaves no question without an answer for
+    /// long.
+    pub(crate) fn is_well(&mut self, now: Instant) -> bool {
+        self.stands(now) && !self.is_late(now)
+    }
+
+    /// The number of its process.
+    pub(crate) fn process(&self) -> u32 {
+        self.child.id()
     }
 
     /// Kills it: stopped, it would not end by itself.
@@ -152,6 +181,14 @@ impl Shell {
     /// Whether it has ended.
     pub(crate) fn has_ended(&mut self) -> bool {
         !matches!(self.child.try_wait(), Ok(None))
+    }
+
+    /// The status with which it has ended by itself, if it has.
+    pub(crate) fn code(&mut self) -> Option<i32> {
+        match self.child.try_wait() {
+            Ok(Some(status)) => status.code(),
+            Ok(None) | Err(_) => None,
+        }
     }
 
     /// How many questions it has answered.
@@ -173,8 +210,8 @@ impl Shell {
         }
     }
 
-    /// Tells it what to send. Which question that was, unless it cannot be told now.
-    fn ask(&mut self, line: &str) -> Option<u64> {
+    /// Tells it a line. Which question that was, unless it cannot be told now.
+    pub(crate) fn ask(&mut self, line: &str) -> Option<u64> {
         match self.questions.write(line.as_bytes()) {
             Ok(count) if count == line.len() => {
                 if self.asked <= self.answered {

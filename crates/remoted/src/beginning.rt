@@ -14,6 +14,9 @@ const MOST_CONNECTIONS: u64 = 64;
 /// How many files are open for each action that runs: what it writes goes to two.
 const FILES_OF_RUN: u64 = 2;
 
+/// How many are open for an instance that runs actions: the pipes of what removes their folders.
+const FILES_OF_REMOVAL: u64 = 2;
+
 /// How many more a server has open beside these and closed connections that linger, at most and at
 /// least.
 const OTHER_FILES: u64 = 64;
@@ -42,15 +45,26 @@ pub fn slots_of(instances: &Instances) -> usize {
     slots
 }
 
+/// How many files may be open for what runs, at most.
+fn most_of_runs(instances: &Instances) -> u64 {
+    let runs = FILES_OF_RUN.saturating_mul(slots_of(instances) as u64);
+    let mut removals: u64 = 0;
+    for config in instances.configs.instances() {
+        if config.slots > 0 {
+            removals = removals.saturating_add(FILES_OF_REMOVAL);
+        }
+    }
+    runs.saturating_add(removals)
+}
+
 /// Whether so many files may be open that the instances can be served at all; where these are fewer
 /// than may be needed, that is told.
 pub fn can_open<E: Write>(instances: &Instances, errors: &mut E) -> io::Result<bool> {
     let most = most_open()?;
     let count = instances.ports.len() as u64;
-    let runs = FILES_OF_RUN.saturating_mul(slots_of(instances) as u64);
     let needed = count
         .saturating_mul(MOST_CONNECTIONS + 1)
-        .saturating_add(runs)
+        .saturating_add(most_of_runs(instances))
         .saturating_add(LINGERING_LIMIT as u64)
         .saturating_add(OTHER_FILES);
     let fewest = count.saturating_mul(2).saturating_add(FEWEST_OTHER_FILES);
@@ -105,8 +119,9 @@ pub fn guard_against_leases<E: Write>(
         Err(error) if is_memory(&error) => Err(error),
         _ => writeln!(
             errors,
-            "remoted: an action can stop the server for 45 seconds (fs.lease-break-time) by a lease on \
-             each of its outputs: end that by sysctl fs.leases-enable=0, or by a sandbox (--launcher)"
+            "remoted: an action can stop the server for 45 seconds (fs.lease-break-time) by a \
+             lease on each of its outputs: end that by sysctl fs.leases-enable=0, or by a sandbox \
+             (--launcher)"
         ),
     }
 }

@@ -26,9 +26,9 @@ const FAILED: u8 = 1;
 
 pub const BAD_WORDS: u8 = 2;
 
-/// How often it is tried, once a millisecond, to end what runs, before the program ends. A launcher
-/// that is told to end may take ten seconds.
-const MOST_ENDINGS: u32 = 15_000;
+/// For how many milliseconds it is tried, once each, to end what runs, before the program ends. A
+/// launcher that is told to end may take ten seconds.
+const MOST_ENDING: u64 = 15_000;
 
 pub fn is_memory(error: &io::Error) -> bool {
     error.kind() == ErrorKind::OutOfMemory
@@ -161,8 +161,10 @@ fn end_runs(
     runs: &mut JobRunner<HostFolder<'_>, HostPrograms<'_>>,
     lines: &mut ErrorLines<StandardError>,
 ) {
-    for _ in 0..MOST_ENDINGS {
-        if runs.end_all(configs, sockets.now(), lines) == 0 {
+    let last = sockets.now().saturating_add(MOST_ENDING);
+    for _ in 0..MOST_ENDING {
+        let now = sockets.now();
+        if runs.end_all(configs, now, lines) == 0 || now >= last {
             return;
         }
         thread::sleep(rt, Duration::from_millis(1));

@@ -118,6 +118,12 @@ pub trait Folder {
             (entries_of result)) }
         ensures counts { Counts result (failures self.old) (failures self.new) };
 
+    /// Whether the folder of a run may be made now. It may not while too many of its instance's are
+    /// still to be removed: the run is asked again later.
+    fn has_room(&mut self, run: RunKey) -> bool
+        ensures same { asked self.new ≡ asked self.old }
+        ensures fails { failures self.new ≡ failures self.old };
+
     /// Whether what is read of a file next can be read at once: the system may keep whoever opens what
     /// a program left waiting. Where it cannot, the run is asked again later. A file in an output
     /// directory has a name, and names above it; that of the output itself has none.

@@ -354,6 +354,10 @@ impl<F: Folder> Folder for LoggedFolder<F> {
         answer
     }
 
+    fn has_room(&mut self, run: RunKey) -> bool {
+        self.folder.has_room(run)
+    }
+
     fn is_ready(
         &mut self,
         place: &Place,

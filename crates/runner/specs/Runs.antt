@@ -60,13 +60,14 @@ abbrev pub IsStarted : RunKey → Task → Run → Type 0
 IsStarted key t run =
     (run.place ≡ record { run = key; directory = t.working_directory; function = t.function }) × IsStateOf run.state t
 
--- whether it can go on at once: it waits for no program, neither to end nor to be killed
+-- whether it can go on at once: it waits neither for its folder to be made or removed, nor for its program to end
+-- or to be killed
 abbrev pub can_go_on : State → Bool
+can_go_on (Live (stages.Making (makings.Root n))) = false
 can_go_on (Live (stages.Running outputs)) = false
 can_go_on (Live (stages.Stopping e)) = false
 can_go_on (Live s) = true
-can_go_on (Over Killing) = false
-can_go_on (Over Removing) = true
+can_go_on (Over e) = false
 
 -- ---- of runs that are over
 

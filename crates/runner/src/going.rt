@@ -5,7 +5,7 @@ ghost use Rattle.runner.specs.Sizes.{IsCounted};
 ghost use Rattle.runner.specs.Runs.{can_go_on, ending_at};
 ghost use Rattle.runner.specs.declared.stage.State.TheVariants.{Live};
 
-use crate::stage::{Ending, Stage};
+use crate::stage::{Ending, Making, Stage};
 use std::marker::Model;
 
 /// How far a run has come that is not over, where the bytes that were taken are counted, and are
@@ -50,10 +50,14 @@ impl Going {
         stage.ending()
     }
 
-    /// Whether it can go on at once: it waits for no program, neither to end nor to be killed.
+    /// Whether it can go on at once: it waits neither for room for its folder, nor for its program
+    /// to end or to be killed.
     pub(crate) fn can_go_on(&self) -> bool
         ensures { result ≡ can_go_on (Live self.now) }
     {
-        !matches!(self.stage, Stage::Running(_) | Stage::Stopping(_))
+        !matches!(
+            self.stage,
+            Stage::Making(Making::Root(_)) | Stage::Running(_) | Stage::Stopping(_)
+        )
     }
 }

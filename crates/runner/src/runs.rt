@@ -22,14 +22,14 @@ fn is_run_of(key: RunKey, run: &Run) -> bool
     run.place.run.instance == key.instance && run.place.run.job == key.job
 }
 
-/// Whether a run can go on at once: it waits for no program, neither to end nor to be killed.
+/// Whether a run can go on at once: it waits neither for its folder to be made or removed, nor for
+/// its program to end or to be killed.
 fn can_go_on(state: &State) -> bool
     ensures { result ≡ can_go_on state.now }
 {
     match state {
         State::Live(going) => going.can_go_on(),
-        State::Over(Ending::Killing) => false,
-        State::Over(Ending::Removing) => true,
+        State::Over(_) => false,
     }
 }
 
@@ -289,7 +289,7 @@ impl<F: Folder + Drop, P: Programs + Drop> Runner<F, P> {
         self.runs.iter().any(|run| is_run_of(key, run))
     }
 
-    /// Whether a run can go on at once, without waiting for a program.
+    /// Whether a run can go on at once, without waiting for a folder or a program.
     pub fn is_busy(&self) -> bool
         ensures { result ≡ list_any (λ (run : Run). can_go_on run.state) self.now.runs.items }
     {

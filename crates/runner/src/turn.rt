@@ -12,7 +12,7 @@ use crate::fault::RunFault;
 use crate::gathering::{list_output, next_in_tree, next_output, read_file, read_in_tree};
 use crate::making::make;
 use crate::running::{ask, measure, read_error, read_output, stop};
-use crate::stage::{Stage, Step, Stopped};
+use crate::stage::{Making, Stage, Step, Stopped};
 use run_calls::{Folder, Place, Programs, Texts};
 use std::alloc::Global;
 
@@ -64,6 +64,7 @@ fn is_ready<F: Folder>(folder: &mut F, place: &Place, stage: &Stage) -> bool
     ensures fails { F.failures folder.new ≡ F.failures folder.old }
 {
     match stage {
+        Stage::Making(Making::Root(_)) => folder.has_room(place.run),
         Stage::File(_, file) => folder.is_ready(place, file.path.as_str(), &[], None),
         Stage::TreeFile(_, tree, file) => {
             let (above, name) = (tree.nodes.above(), file.name.as_str());

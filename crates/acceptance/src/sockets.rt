@@ -4,9 +4,9 @@
 //! Each line is what a client sends, in hexadecimal. A line is written for each seed, by which the
 //! fake sockets cut and fail, and one for the real ones.
 //!
-//! Where the first line is `silent TURNS`, the clients fall silent on fake sockets, and callers come
-//! after them. A line is written for each connection that is closed, and for each caller that is
-//! let in, with the moment.
+//! Where the first line is `silent TURNS`, the clients fall silent on fake sockets, and callers
+//! come after them. A line is written for each connection that is closed, and for each caller that
+//! is let in, with the moment.
 
 mod alone;
 mod fake;

@@ -37,7 +37,8 @@ head_of field rs = do
 
 -- the hash function that a request names, where it is of the instance
 abbrev pub admitted : List ℕ → HeadValue → Result (Option HashFunction) Refusal
-admitted own head = instance_check own head.instance_name >>= λ _. function_asked head.digest_function
+admitted own head =
+    instance_check own head.instance_name >>= λ _. function_asked head.digest_function
 
 -- the name so far, or that of one more record
 abbrev pub name_in : List ℕ → Option (List ℕ) → Result (List ℕ) Refusal

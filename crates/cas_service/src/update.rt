@@ -179,8 +179,8 @@ fn add_blob<'a>(
     Ok(())
 }
 
-/// What is answered to the blobs that a message sends, in order. They have to have at most 4,000,000
-/// bytes together.
+/// What is answered to the blobs that a message sends, in order. They have to have at most
+/// 4,000,000 bytes together.
 fn answer_all<'a>(
     alloc: Global,
     function: Option<HashFunction>,

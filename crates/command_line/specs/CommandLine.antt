@@ -76,7 +76,8 @@ launcher_rule = long_option (codes "launcher")
 -- one word or more for instances
 abbrev pub instances_rule : Rule
 instances_rule =
-    record (new_rule (codes "NAME:PORT:QUOTA:SLOTS[:PARENT]")) { required = true; action = Some Append }
+    record (new_rule (codes "NAME:PORT:QUOTA:SLOTS[:PARENT]"))
+    { required = true; action = Some Append }
 
 -- a command that carries out the script of a file
 abbrev pub script_command : Text → Shape
@@ -131,8 +132,8 @@ pub data InvocationValue : Type 0 where
       (metrics stop : Option Text) (instances : List Text) → InvocationValue
   -- to send a file's bytes to a port, and to wait for so many, for so many turns
   probe : (port : ℕ) (send : Text) (want turns : ℕ) → InvocationValue
-  -- to ask the server at a port of a host, for an instance or for the port's own, and to wait for so
-  -- many seconds
+  -- to ask the server at a port of a host, for an instance or for the port's own, and to wait for
+  -- so many seconds
   check : (port : ℕ) (host : Text) (instance : Option Text) (seconds : ℕ) → InvocationValue
 
 -- the number below a bound that a text writes in decimal, with a plus sign or none

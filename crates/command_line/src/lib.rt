@@ -377,8 +377,8 @@ fn asked<'a>(
     words: &'a [String],
 ) -> Result<Invocation<'a>, CommandLineError>
     requires { app_of command.old ≡ command_line }
-    ensures invocation { IfOk result (λ invocation. invocation_asked (map string_bytes words.entry.now)
-        ≡ Some (invocation_value invocation)) }
+    ensures invocation { IfOk result (λ invocation.
+        invocation_asked (map string_bytes words.entry.now) ≡ Some (invocation_value invocation)) }
     ensures faultless { IfOk result (λ _. HasNoFault (map string_bytes words.entry.now)) }
     ensures fault { IfErr result (IsFaultOf (map string_bytes words.entry.now)) }
 {
@@ -396,8 +396,8 @@ fn asked<'a>(
 
 /// What the words of a command line ask for.
 pub fn parse<'a>(alloc: Global, words: &'a [String]) -> Result<Invocation<'a>, CommandLineError>
-    ensures invocation { IfOk result (λ invocation. invocation_asked (map string_bytes words.entry.now)
-        ≡ Some (invocation_value invocation)) }
+    ensures invocation { IfOk result (λ invocation.
+        invocation_asked (map string_bytes words.entry.now) ≡ Some (invocation_value invocation)) }
     ensures faultless { IfOk result (λ _. HasNoFault (map string_bytes words.entry.now)) }
     ensures fault { IfErr result (IsFaultOf (map string_bytes words.entry.now)) }
 {

@@ -33,7 +33,8 @@ unfolding slot_with
 has_byte zero = refl
 has_byte (suc k) = has_byte k
 
--- what is found of a digest in every pool is not always empty, unless the digest is that of the empty text
+-- what is found of a digest in every pool is not always empty, unless the digest is that of the
+-- empty text
 pub not_empty : (v : ViewValue) (d : Digest) → is_empty_digest d ≡ false → ((p : Slots) → Some [] ≡ visible_text d (visible_in p v)) → ⊥
 not_empty v d other always = go (lookup (same_digest d) v.entries) refl where
   found : (p : Slots) → Some [] ≡ option_map (text_at p) (lookup (same_digest d) v.entries)

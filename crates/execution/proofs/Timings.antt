@@ -35,7 +35,8 @@ removed-at (p ∷ ps) r rest ws h = let other = other-at p ps r rest ws h.0 in r
 abbrev last_of_job : Entry → List ℕ
 last_of_job r = completed_text r.0 r.1.job.action (fails TimedOut [])
 
--- steps by which jobs end: they can be taken, keep the order and what waits, and one job fewer runs after each
+-- steps by which jobs end: they can be taken, keep the order and what waits, and one job fewer runs
+-- after each
 pub record End (steps : List StepValue) (jobs : Jobs JobValue) : Type 0 where
   pub can : CanTake steps jobs
   pub jobs_are : AreJobs (jobs_after_steps steps jobs)

@@ -27,7 +27,8 @@ GivesNumber old new digest number =
 -- a table finds the number of each digest that has one
 abbrev pub AreNumbers : List Digest → List (Digest × ℕ) → Type 0
 AreNumbers digests table =
-    (d : Digest) → unwrap_or (lookup (same_digest d) table) (length digests) ≡ digest_number digests d
+    (d : Digest) →
+    unwrap_or (lookup (same_digest d) table) (length digests) ≡ digest_number digests d
 
 -- what is found among entries in a pool
 abbrev pub found_among : Slots → List ViewEntry → Lookup

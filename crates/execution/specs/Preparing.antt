@@ -123,4 +123,5 @@ unfoldable pub nodes_read : Digest → List Blob → List PlanNodeValue
 nodes_read d texts = nodes_among texts (action_among texts d)
 
 abbrev pub task_read : Digest → List Blob → TaskValue
-task_read d texts = record { command = command_read d texts; nodes = nodes_read d texts; texts = texts }
+task_read d texts =
+    record { command = command_read d texts; nodes = nodes_read d texts; texts = texts }

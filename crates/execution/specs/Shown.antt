@@ -49,4 +49,5 @@ Answers view (Err e) meaning = Fails e meaning
 
 -- what was read off texts
 abbrev pub task_told : List Blob → TaskRead → TaskValue
-task_told texts read = record { command = read.command.items; nodes = nodes_shown read.plan.nodes.items; texts = texts }
+task_told texts read =
+    record { command = read.command.items; nodes = nodes_shown read.plan.nodes.items; texts = texts }

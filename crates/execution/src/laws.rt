@@ -96,8 +96,8 @@ pub fn no_slot_is_left_empty()
         (slots ≤ length after.running) ⊎ (length after.waiting ≡ 0) }
 {}
 
-/// At an event each job that times out is ordered to be ended, and each that starts is ordered to be
-/// run, with its whole task; nothing else is ordered.
+/// At an event each job that times out is ordered to be ended, and each that starts is ordered to
+/// be run, with its whole task; nothing else is ordered.
 pub fn each_start_is_ordered()
     ensures tick { (slots moment : ℕ) (jobs : Jobs JobValue) →
         let steps = tick_steps slots moment jobs in

@@ -174,8 +174,8 @@ fn tell_left(runs: &FakeRunner, output: &mut Output) {
     output.print_text(format!(in output.alloc; "{programs} programs, {nodes} nodes\n"));
 }
 
-/// Tells what is left where only so many turns are taken, and then where all that is left was ended;
-/// and that where the first call of the folders fails by which it is ended.
+/// Tells what is left where only so many turns are taken, and then where all that is left was
+/// ended; and that where the first call of the folders fails by which it is ended.
 pub fn cut_short_each(
     configs: &Configs,
     texts: &[Vec<u8>],
@@ -187,8 +187,8 @@ pub fn cut_short_each(
     Ok(())
 }
 
-/// Tells what is left where only so many turns are taken, and then where all that is left was ended,
-/// while the call of the folders of this number fails. How many came before the end.
+/// Tells what is left where only so many turns are taken, and then where all that is left was
+/// ended, while the call of the folders of this number fails. How many came before the end.
 fn cut_short(
     configs: &Configs,
     texts: &[Vec<u8>],

@@ -1,6 +1,6 @@
 //! Programs in memory. The first word of a command says whether its program ends by itself, at the
-//! second question, or runs until it is ended; the others are what it writes. What cannot be done is
-//! passed over: what comes of the run shows it.
+//! second question, or runs until it is ended; the others are what it writes. What cannot be done
+//! is passed over: what comes of the run shows it.
 
 ghost use Rattle.std.specs.Prelude.{◌≡◌, ◌≤◌, IfSome, length};
 ghost use Rattle.run_calls.specs.Values.{IsInRange};

@@ -37,7 +37,8 @@ const LACK: ErrorKind = ErrorKind::OutOfMemory;
 /// More calls than there are.
 const MOST_CALLS: u64 = 10_000;
 
-/// What goes wrong, at which fake, and how; and why a run fails then, as it is written to the errors.
+/// What goes wrong, at which fake, and how; and why a run fails then, as it is written to the
+/// errors.
 type Pass = (&'static str, Fake, CallFault, &'static str);
 
 static PASSES: [Pass; 7] = [

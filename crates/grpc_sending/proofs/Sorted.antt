@@ -1,4 +1,5 @@
--- Queues in rising order of their streams: what a search finds, and what an edit at that place does.
+-- Queues in rising order of their streams: what a search finds, and what an edit at that place
+-- does.
 use Rattle.std.proofs.Common.{◌≡◌, ℕ, zero, suc, ◌+◌, ◌<◌, ◌≤◌, List, [], ◌∷◌, ◌++◌, length, get_or, refl, ap, ◌∙◌, sym, subst, arith, inl, inr}
 use Rattle.std.proofs.Math.ListN.{set}
 use Rattle.std.specs.Prelude.{true, false, not, ◌==◌, map, filter, slice_index_or, slice_set, Result, Ok, Err, IfOk, IfErr, OnOk}

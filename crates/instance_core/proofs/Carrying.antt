@@ -198,7 +198,8 @@ answer_ends_within q method s message (Ok (Messages list)) h = tt
 answer_ends_within q method s message (Ok (Watching number operation)) h = tt
 answer_ends_within q method s message (Err e) h = tt
 
--- the reply holds what the answer held, or nothing: the texts show what they showed, and so do the jobs
+-- the reply holds what the answer held, or nothing: the texts show what they showed, and so do the
+-- jobs
 pub texts_still : (p q z : Slots) (old : Holders) (new : Contents) (given those : Holders) → Moves p q old (λ k. contents_holders new k + given k) → ((k : ℕ) → old k ≤ count_at p k) → Moves q z given those → visible_in z new.view ≡ visible_in q new.view
 texts_still p q z old new given those m held more = shown_apart q z new.view.entries given those more (λ k. let a = m.counts k in let b = held k in omega arith)
 

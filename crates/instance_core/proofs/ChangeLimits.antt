@@ -24,8 +24,8 @@ use Rattle.instance_core.proofs.OperationSizes.{IsShort}
 
 -- ---- changes
 
--- what is stored is named, what a Write leaves and the results are within the limits, and what is kept
--- of a request is short; jobs stay as they are
+-- what is stored is named, what a Write leaves and the results are within the limits, and what is
+-- kept of a request is short; jobs stay as they are
 abbrev pub KeepsLimits : ℕ → InstanceChange → Type 0
 KeepsLimits quota (Text c) = StoresNamedText c
 KeepsLimits quota (Goes id call) = IsProgressOf call.method call.progress

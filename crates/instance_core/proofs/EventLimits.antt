@@ -1,4 +1,5 @@
--- An event of a call, and what happens to jobs, keep the limits of an instance, and store only what is named.
+-- An event of a call, and what happens to jobs, keep the limits of an instance, and store only what
+-- is named.
 use Rattle.std.proofs.Common.{◌≡◌, ◌≤◌, ◌<◌, ◌+◌, ℕ, Bool, true, false, cond, List, [], ◌∷◌, ◌++◌, map, length, Option, Some, None, Result, Ok, Err, refl, sym, subst, arith}
 use Rattle.std.specs.Prelude.{nat_lt}
 use Rattle.std.specs.List.{AllByRecursion}

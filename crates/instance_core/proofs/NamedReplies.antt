@@ -1,4 +1,5 @@
--- What an event of a call serves is named by the digest that was asked for, and a result that it serves is complete.
+-- What an event of a call serves is named by the digest that was asked for, and a result that it
+-- serves is complete.
 use Rattle.std.proofs.Common.{◌≡◌, ℕ, ℤ, pos, negsuc, ◌+◌, ◌-◌, ◌<◌, ◌≤◌, List, [], ◌∷◌, ◌++◌, refl, sym, ap, ◌∙◌, subst, inl, inr, length, arith, take, drop}
 use Rattle.std.specs.Prelude.{Bool, true, false, cond, ◌==◌, ◌⊎◌, nat_eq, nat_lt, nat_le, min, map, is_some, Option, Some, None, Result, Ok, Err}
 use Rattle.std.specs.List.{AllByRecursion}

@@ -1,4 +1,5 @@
--- What a run leaves: each blob that is admitted is named, no blob is larger than the quota, and the result is short.
+-- What a run leaves: each blob that is admitted is named, no blob is larger than the quota, and the
+-- result is short.
 use Rattle.std.proofs.Common.{◌≡◌, ℕ, ◌+◌, ◌<◌, ◌≤◌, ◌^◌, Bool, true, false, cond, not, ◌&&◌, ◌||◌, List, [], ◌∷◌, ◌++◌, length, map, filter, Option, Some, None, refl, sym, ap, ◌∙◌, arith}
 use Rattle.std.specs.Prelude.{is_some, nat_lt, nat_eq}
 use Rattle.std.specs.List.{AllByRecursion, flat_map, list_all}

@@ -1,4 +1,5 @@
--- What holds of the texts that are there, and of each that is named, holds of those that a message of a Write leaves.
+-- What holds of the texts that are there, and of each that is named, holds of those that a message
+-- of a Write leaves.
 use Rattle.std.proofs.Common.{◌≡◌, ◌-◌, ℕ, Bool, true, false, cond, List, [], ◌∷◌, length, take, Option, Some, None, Result, Ok, Err, refl, subst, inl, inr}
 use Rattle.std.specs.Prelude.{is_some, nat_le, nat_lt}
 use Rattle.std.specs.List.{AllByRecursion}

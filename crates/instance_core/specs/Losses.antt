@@ -2,8 +2,8 @@
 -- and its jobs. To be read from `IsByRule` up, which has a case for each kind of change and says
 -- which rule it follows: of the event's own changes, and of the state that the event met. A blob is
 -- lost to an admission alone (Room.antt says to which), and a result to a store alone; an upload is
--- lost at its end, to a piece that would bring it past its size, or by its age; and a job that waits
--- starts, and one that runs ends, and neither is lost otherwise.
+-- lost at its end, to a piece that would bring it past its size, or by its age; and a job that
+-- waits starts, and one that runs ends, and neither is lost otherwise.
 use Rattle.std.specs.Prelude.{◌≡◌, ◌⊎◌, ℕ, ◌+◌, ◌<◌, true, false, List, length, Some, Ok}
 use Rattle.std.specs.List.{AllByRecursion}
 use Rattle.digest.specs.declared.Digest.{Digest}

@@ -156,8 +156,8 @@ fn replace(by_id: &mut IndexMap<CallId, Call>, id: CallId, call: Call)
     }
 }
 
-/// The calls in course, in the order in which they began, and counts of those that were. Nothing but
-/// the calls in course is of any consequence to what is answered.
+/// The calls in course, in the order in which they began, and counts of those that were. Nothing
+/// but the calls in course is of any consequence to what is answered.
 #[derive(Drop)]
 pub struct Calls {
     by_id: IndexMap<CallId, Call>,

@@ -82,9 +82,9 @@ pub fn calls_lose_by_rules()
 {}
 
 /// A blob is lost for want of room alone. Where any front of an event's changes was made, and so
-/// where all were, a blob that is gone stood behind others, each of which stood before it already or
-/// was used or admitted by these changes; and these have more bytes together with it than the quota,
-/// or are more than 65,536.
+/// where all were, a blob that is gone stood behind others, each of which stood before it already
+/// or was used or admitted by these changes; and these have more bytes together with it than the
+/// quota, or are more than 65,536.
 pub fn calls_lose_blobs_for_room()
     ensures { (s t : InstanceState) (event : CallEventValue) → IsInstanceWithin s
         → (part : MadeInPart (answer s event).changes s t)

@@ -11,7 +11,8 @@ parent_part (Some name) = codes ":" ++ name
 -- the parts of a word, with `:` between them
 abbrev pub written : List ℕ → List ℕ → List ℕ → List ℕ → Option (List ℕ) → List ℕ
 written name port quota slots parent =
-    name ++ (codes ":" ++ (port ++ (codes ":" ++ (quota ++ (codes ":" ++ (slots ++ parent_part parent))))))
+    name ++ (codes ":"
+    ++ (port ++ (codes ":" ++ (quota ++ (codes ":" ++ (slots ++ parent_part parent))))))
 
 -- a word says that an instance has a port and a configuration
 pub record IsWordOf (word : List ℕ) (port : ℕ) (config : ConfigValue) : Type 0 where

@@ -36,8 +36,8 @@ pub fn the_least_numbered_starts<J>()
         AllByRecursion (λ m. n ≤ m) (keys_of jobs.waiting) }
 {}
 
-/// A job is found under its number from its push until it ends or is forgotten, and no other ever is:
-/// what is found there later is the same job or none.
+/// A job is found under its number from its push until it ends or is forgotten, and no other ever
+/// is: what is found there later is the same job or none.
 pub fn a_job_stays_the_same<J>()
     ensures pushed { (job : J) (changes : List (JobChange J)) (jobs : Jobs J) → AreJobs jobs →
         list_any (closes jobs.next) changes ≡ false →

@@ -1,5 +1,5 @@
-//! The jobs of an instance (remote_execution.proto, Execution): they wait, run and end, each under a
-//! number of its own. What a job is does not matter here.
+//! The jobs of an instance (remote_execution.proto, Execution): they wait, run and end, each under
+//! a number of its own. What a job is does not matter here.
 #![tactic(auto)]
 
 mod entries;

@@ -180,10 +180,16 @@ impl<J> Model for Queue<J> {
 
     ghost coded = { jobs_code J.code };
 
-    ghost view = { λ q. record { next = q.next; waiting = q.waiting.items; running = q.running.items; ended = map ended_shown q.ended.items } };
+    ghost view = { λ q. record {
+      next = q.next;
+      waiting = q.waiting.items;
+      running = q.running.items;
+      ended = map ended_shown q.ended.items;
+    } };
 
-    ghost invariant = { λ q. (deque_len q.waiting ≤ MOST_WAITING) × (vec_len q.running ≤ MOST_RUNNING)
-        × (MOST_RUNNING ≤ vec_capacity q.running) × (deque_len q.ended ≤ MOST_ENDED)
+    ghost invariant = { λ q. (deque_len q.waiting ≤ MOST_WAITING)
+        × (vec_len q.running ≤ MOST_RUNNING) × (MOST_RUNNING ≤ vec_capacity q.running)
+        × (deque_len q.ended ≤ MOST_ENDED)
         × (MOST_ENDED < deque_capacity q.ended) };
 }
 

@@ -32,8 +32,8 @@ IsNoted run before now =
     ⊎ ((now.items ≡ before.items) × (vec_capacity before ≤ vec_len before))
 
 -- a run that was to begin was begun with the task that is lent, and nothing is told of it yet; or
--- memory was refused, which is told, and none was begun. Where no task is lent none was begun either:
--- the job that it was noted for does not run
+-- memory was refused, which is told, and none was begun. Where no task is lent none was begun
+-- either: the job that it was noted for does not run
 abbrev pub IsBegunIf : Option TaskValue → RunKey → Result (Option Outcome) RunFault →
     List Run → List Run → Type 0
 IsBegunIf None run told old new = (told ≡ Ok None) × (new ≡ old)
@@ -52,8 +52,8 @@ abbrev pub end_answer : Result ⊤ RunFault → Result (Option Outcome) RunFault
 end_answer (Ok x) = Ok None
 end_answer (Err fault) = Err fault
 
--- the runner was asked, with the texts of the task that is lent, and what it answered is told; or it
--- was told to end the run, where no task is lent: the job that it was run for does not run
+-- the runner was asked, with the texts of the task that is lent, and what it answered is told; or
+-- it was told to end the run, where no task is lent: the job that it was run for does not run
 abbrev pub IsAnsweredFor : Option TaskValue → RunKey → Result (Option Outcome) RunFault →
     List Run → List Run → Option (List FolderCall) → Option (List FolderCall) →
     Option (List ProgramCall) → Option (List ProgramCall) → Type 0

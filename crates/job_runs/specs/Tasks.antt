@@ -55,8 +55,8 @@ abbrev pub function_for : List Digest → HashFunction
 function_for [] = Sha256
 function_for (d ∷ ds) = function_of d.hash
 
--- what runs is the command of the task, in the tree of the task, and what it leaves is hashed by the
--- function of the task's action
+-- what runs is the command of the task, in the tree of the task, and what it leaves is hashed by
+-- the function of the task's action
 pub record IsTaskOf (t : TaskValue) (run : Task) : Type 0 where
   pub program : command_shown run.command ≡ program_of (command_for t.command)
   pub directory : string_bytes run.working_directory ≡ (command_for t.command).working_directory

@@ -63,7 +63,8 @@ impl<F: Folder + Drop, P: Programs + Drop> JobRunner<F, P> {
     }
 
     /// Ends what runs, by a bounded piece of work for each run, and says how many are left: it is
-    /// to be called until none is. A folder that is left then is a line. What was to begin does not.
+    /// to be called until none is. A folder that is left then is a line. What was to begin does
+    /// not.
     pub fn end_all<E: Write>(
         &mut self,
         configs: &Configs,
@@ -108,8 +109,8 @@ impl<F: Folder + Drop, P: Programs + Drop> JobRunner<F, P> {
         self.runner.start(run.instance, run.job, made)
     }
 
-    /// Begins a run that was noted, where its task is lent. There is nothing to tell of it then. Where
-    /// none is lent the job that it was noted for does not run any more.
+    /// Begins a run that was noted, where its task is lent. There is nothing to tell of it then.
+    /// Where none is lent the job that it was noted for does not run any more.
     fn begin_noted(
         &mut self,
         run: RunKey,

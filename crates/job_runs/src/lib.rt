@@ -1,5 +1,5 @@
-//! The runs of the jobs that a server orders, carried out by a runner: tasks of jobs as tasks of runs,
-//! the texts of their files, and which run is asked when.
+//! The runs of the jobs that a server orders, carried out by a runner: tasks of jobs as tasks of
+//! runs, the texts of their files, and which run is asked when.
 #![tactic(auto)]
 
 mod commands;

@@ -25,9 +25,10 @@ fn function_for(texts: &[KeptText]) -> HashFunction
 
 /// What is run for a task of a job: the command that its text spells, with the variables and the
 /// outputs in the order of the command, in the tree of its plan. A file is made of the text whose
-/// number it has among the task's texts (`LentTexts`); where none of them has its digest, that number
-/// is of none, and the file is empty. Where the task's text spells no command that is taken, nothing
-/// is asked for. What the run leaves is hashed by the function of the digest of the task's action.
+/// number it has among the task's texts (`LentTexts`); where none of them has its digest, that
+/// number is of none, and the file is empty. Where the task's text spells no command that is taken,
+/// nothing is asked for. What the run leaves is hashed by the function of the digest of the task's
+/// action.
 ///
 /// Err: a request for memory was refused.
 pub fn run_task(alloc: Global, pool: &Pool, task: &JobTask) -> Result<Task, AllocError>

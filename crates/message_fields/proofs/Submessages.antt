@@ -1,4 +1,5 @@
--- An embedded message means its payloads joined, which is what the records of each of them, joined, mean.
+-- An embedded message means its payloads joined, which is what the records of each of them, joined,
+-- mean.
 use Rattle.std.proofs.Common.{◌≡◌, ℕ, List, [], ◌∷◌, ◌++◌, length, Option, Some, None, Result, Ok, Err, refl, sym, ap, ◌∙◌, append_assoc, arith}
 use Rattle.std.specs.List.{concat}
 use Rattle.std.proofs.lemmas.List.{append-nil}

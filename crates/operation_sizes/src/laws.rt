@@ -57,8 +57,8 @@ pub fn completed_operations_are_short()
         length (completed_text n d (fails fault missing)) ≤ 1000 + 200 * length missing }
 {}
 
-/// The result of a run is short: its command has at most 67,108,864 bytes, of which each output that
-/// it asks for takes two at least besides its path.
+/// The result of a run is short: its command has at most 67,108,864 bytes, of which each output
+/// that it asks for takes two at least besides its path.
 pub fn results_of_runs_are_short()
     ensures { (like : Digest) (x : ExitedValue) (text : List ℕ) (v : CommandValue) →
         command_in text ≡ Some v → are_asked (asked_outputs v) x.outputs ≡ true →

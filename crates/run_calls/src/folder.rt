@@ -124,15 +124,15 @@ pub trait Folder {
         ensures same { asked self.new ≡ asked self.old }
         ensures fails { failures self.new ≡ failures self.old };
 
-    /// Whether what is read of a file next can be read at once: the system may keep whoever opens what
-    /// a program left waiting. Where it cannot, the run is asked again later. A file in an output
-    /// directory has a name, and names above it; that of the output itself has none.
+    /// Whether what is read of a file next can be read at once: the system may keep whoever opens
+    /// what a program left waiting. Where it cannot, the run is asked again later. A file in an
+    /// output directory has a name, and names above it; that of the output itself has none.
     fn is_ready(&mut self, place: &Place, path: &str, above: &[String], name: Option<&str>) -> bool
         ensures same { asked self.new ≡ asked self.old }
         ensures fails { failures self.new ≡ failures self.old };
 
-    /// Bytes of a file from a place on, at most so many; none at its end alone. The file of no names
-    /// is that of the output itself.
+    /// Bytes of a file from a place on, at most so many; none at its end alone. The file of no
+    /// names is that of the output itself.
     fn read(
         &mut self,
         place: &Place,

@@ -54,8 +54,8 @@ pub trait Programs {
             (called (length_asked run) (length_of result)) }
         ensures counts { Counts result (failures self.old) (failures self.new) };
 
-    /// Bytes that a program that was ended wrote to a stream, from a place on, at most so many; none
-    /// at their end alone.
+    /// Bytes that a program that was ended wrote to a stream, from a place on, at most so many;
+    /// none at their end alone.
     fn read(&mut self, run: RunKey, stream: Stream, from: u64, most: u32) -> io::Result<Vec<u8>>
         ensures adds { Adds (asked self.old) (asked self.new)
             (called (read_asked run stream from most) (bytes_of result)) }
@@ -68,8 +68,8 @@ pub trait Programs {
             (called (forget_asked run) (Ok program_done)) }
         ensures counts { failures self.new ≡ failures self.old };
 
-    /// The last bytes that were written to the standard error of a program that was not forgotten, at
-    /// most so many.
+    /// The last bytes that were written to the standard error of a program that was not forgotten,
+    /// at most so many.
     fn last_words(&self, run: RunKey, most: u32) -> io::Result<Vec<u8>>
         ensures within { IfOk result (λ bytes. length bytes.items ≤ most) };
 

@@ -12,8 +12,8 @@ pub struct RunKey {
     pub job: u64,
 }
 
-/// A node of a task's tree, which names texts by their numbers among those that are lent (`Texts`). The
-/// text of a directory is not looked at.
+/// A node of a task's tree, which names texts by their numbers among those that are lent (`Texts`).
+/// The text of a directory is not looked at.
 pub type TaskNode = Node<usize>;
 
 /// A variable of the environment.

@@ -84,7 +84,8 @@ owes_quiet c step gs l none h = record {
 
 -- ---- replies
 
--- the connection of number c is open still, at its place, and what passed on it is what passed before
+-- the connection of number c is open still, at its place, and what passed on it is what passed
+-- before
 record HasReplied (c n : ℕ) (d : List Entry) (gs : List GivenItems) (m : LoneInstance) : Type 0 where
   past : Past
   stays : open_at c m.connections ≡ Some past

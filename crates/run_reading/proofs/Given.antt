@@ -1,4 +1,5 @@
--- A server's configurations have no fault, so what is supposed of a family holds of each; and what is given in a run.
+-- A server's configurations have no fault, so what is supposed of a family holds of each; and what
+-- is given in a run.
 use Rattle.std.proofs.Common.{◌≡◌, ℕ, List, [], ◌∷◌, ◌++◌, refl, subst, get_or}
 use Rattle.std.specs.Prelude.{Bool, false, cond, ◌==◌, map, IfSome, Option, Some, None}
 use Rattle.std.specs.Option.{option_and_then, option_map_or}

@@ -1,4 +1,5 @@
--- Each answer of a run is given within the instance's limits, so that it is short, and what it serves is named.
+-- Each answer of a run is given within the instance's limits, so that it is short, and what it
+-- serves is named.
 use Rattle.std.proofs.Common.{ℕ, ◌<◌, ◌^◌, List, [], ◌∷◌, sym, subst, length}
 use Rattle.std.specs.Prelude.{map, Option, Some, None}
 use Rattle.std.specs.List.{AllByRecursion, flat_map}
@@ -23,8 +24,8 @@ use Rattle.run_reading.specs.Named.{answered_events, IsNamedGift, GivesNamed}
 
 -- ---- all answers
 
--- what a request is answered at once is no range, and a message's length can be written in front of it; and a parent's
--- texts are what their digests say
+-- what a request is answered at once is no range, and a message's length can be written in front of
+-- it; and a parent's texts are what their digests say
 abbrev pub IsShortItem : Item → Type 0
 IsShortItem (Headed block) = Unit {0}
 IsShortItem (Message bytes) = length bytes < 2 ^ 32

@@ -1,4 +1,5 @@
--- Nobody takes more of a connection of a run than was put on it, so that its pump leaves nothing that could be put.
+-- Nobody takes more of a connection of a run than was put on it, so that its pump leaves nothing
+-- that could be put.
 use Rattle.std.proofs.Common.{◌≡◌, ℕ, ◌+◌, ◌≤◌, List, [], ◌∷◌, ◌++◌, ap, ◌∙◌, sym, subst, append_assoc, arith, length, length-drop, refl, inl, inr}
 use Rattle.std.specs.Prelude.{Bool, true, false, cond, nat_lt, map, fold, sum_by, zero, suc, Option, Some, None, Result, Ok, Err}
 use Rattle.std.specs.List.{AllByRecursion, flat_map}

@@ -136,7 +136,8 @@ happenings_by tick l = TimePassed ∷ turn_happenings end_late_jobs l
 happenings_by (ended job outcome) l = turn_happenings (end_job job outcome) l
 
 -- a refused event changes nothing
-abbrev pub happenings_unless : List Blob → EventValue → LoneInstance → Option EventRefusal → List Happening
+abbrev pub happenings_unless : List Blob → EventValue → LoneInstance → Option EventRefusal →
+    List Happening
 happenings_unless parent e l None =
     MomentCame parent e.moment
     ∷ (happenings_by e.what (lone_at_moment e.moment parent l) ++ EventOver ∷ [])

@@ -72,8 +72,8 @@ pub record ReadsBlob (name message : List ℕ) (received : List StreamPart) : Ty
   pub right : IsResponseToRead name message response
   pub reads : IsBeginning longest_message received response
 
--- on each connection of a run whose number none had before, and on each of its streams that asks for
--- a blob
+-- on each connection of a run whose number none had before, and on each of its streams that asks
+-- for a blob
 abbrev pub has_number : ℕ → List LoneConnection → Bool
 has_number c ks = list_any (λ k. k.number == c) ks
 

@@ -76,22 +76,22 @@ pub fn runs_are_settled()
 
 /// The replies of a run are those that the instance gives to the events of its calls, one after
 /// another, and to what happens to its jobs, from the state in which it was opened, each at its
-/// moment and beside the texts that its parent has then: nothing else makes its state, but that time
-/// passes.
+/// moment and beside the texts that its parent has then: nothing else makes its state, but that
+/// time passes.
 pub fn replies_are_the_instances()
     ensures { (family : Family) (events : List FamilyEvent)
         → (run_of_family family events).own.lone.state ≡ run_state family events }
 {}
 
 /// Each blob that is served in a run is named by the digest that was asked for: the hash is its
-/// SHA-256, or its SHA-512 where that is the digest's function, and the size its length. What a Read
-/// is given is a range of the text that the instance sees under the digest in the resource name,
-/// from read_offset on and at most read_limit bytes (bytestream.proto). A reply to BatchReadBlobs
-/// has a response for each digest asked for, in order, and data with status OK are what that digest
-/// says. A message of a reply to GetTree is a page of the tree whose root was asked for, and each
-/// directory of it is what a digest of the tree's list names. A reply to GetActionResult is the
-/// result that the instance itself has of the action, and each blob that it names is there
-/// (remote_execution.proto).
+/// SHA-256, or its SHA-512 where that is the digest's function, and the size its length. What a
+/// Read is given is a range of the text that the instance sees under the digest in the resource
+/// name, from read_offset on and at most read_limit bytes (bytestream.proto). A reply to
+/// BatchReadBlobs has a response for each digest asked for, in order, and data with status OK are
+/// what that digest says. A message of a reply to GetTree is a page of the tree whose root was
+/// asked for, and each directory of it is what a digest of the tree's list names. A reply to
+/// GetActionResult is the result that the instance itself has of the action, and each blob that it
+/// names is there (remote_execution.proto).
 pub fn blobs_served_are_named()
     ensures answers { (family : Family) (events : List FamilyEvent) → AreLimited family
         → AllByRecursion IsNarrow (map event_in events)

@@ -56,8 +56,8 @@ ProgramsCounts (Err f) old new = ProgramsFaultCounts f old new
 
 -- ---- of a whole call
 
--- the folders' fault comes only where their count rose, as does that a folder is left, and the programs'
--- two where theirs did
+-- the folders' fault comes only where their count rose, as does that a folder is left, and the
+-- programs' two where theirs did
 abbrev pub FaultFailed : RunFault → ℕ → ℕ → ℕ → ℕ → Type 0
 FaultFailed Folder f_old f_new p_old p_new = Rises f_old f_new
 FaultFailed Start f_old f_new p_old p_new = Rises p_old p_new
@@ -69,8 +69,8 @@ FaultFailed Left f_old f_new p_old p_new = Rises f_old f_new
 abbrev pub StaysOrRises : ℕ → ℕ → Type 0
 StaysOrRises old new = (new ≡ old) ⊎ Rises old new
 
--- no call of the folders failed where the call succeeded, and none of the programs but to end one that
--- has exited; its fault is of what failed
+-- no call of the folders failed where the call succeeded, and none of the programs but to end one
+-- that has exited; its fault is of what failed
 abbrev pub Counted : {A : Type 0} → Result A RunFault → ℕ → ℕ → ℕ → ℕ → Type 0
 Counted (Ok x) f_old f_new p_old p_new = (f_new ≡ f_old) × StaysOrRises p_old p_new
 Counted (Err f) f_old f_new p_old p_new = FaultFailed f f_old f_new p_old p_new

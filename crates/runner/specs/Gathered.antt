@@ -30,11 +30,13 @@ pub data ItemValue : Type 0 where
 -- the bytes of a file from a place on
 abbrev pub numbered : PlaceValue → List ℕ → List (List ℕ) → ℕ → List ℕ → List ItemValue
 numbered place path names from [] = []
-numbered place path names from (b ∷ bs) = byte_at place path names from b ∷ numbered place path names (from + 1) bs
+numbered place path names from (b ∷ bs) =
+    byte_at place path names from b ∷ numbered place path names (from + 1) bs
 
 -- the bytes of a file, to its end
 abbrev pub whole_file : PlaceValue → List ℕ → List (List ℕ) → List ℕ → List ItemValue
-whole_file place path names bs = numbered place path names 0 bs ++ end_item place path names (length bs) ∷ []
+whole_file place path names bs =
+    numbered place path names 0 bs ++ end_item place path names (length bs) ∷ []
 
 -- ---- of answers
 
@@ -86,7 +88,8 @@ abbrev pub call_items : FolderQuestion → Result FolderAnswer ErrorKind → Lis
 call_items q (Err e) = []
 call_items q (Ok a) = answer_items q a
 
--- the files that were found, with the bytes read of them, and the directories that were found and listed
+-- the files that were found, with the bytes read of them, and the directories that were found and
+-- listed
 abbrev pub items_answered : List FolderCall → List ItemValue
 items_answered calls = collect (λ c. call_items c.question c.answer) calls
 

@@ -51,7 +51,8 @@ inners_of level es = collect (inner_of level) es
 abbrev pub stack_of : List Inner → List InnerValue
 stack_of todo = reverse (map inner_shown todo)
 
--- Each stands in the directory of these many names, or in one above it, and none below the one before.
+-- Each stands in the directory of these many names, or in one above it, and none below the one
+-- before.
 abbrev pub IsStack : ℕ → List InnerValue → Type 0
 IsStack deepest [] = Unit {0}
 IsStack deepest (i ∷ is) = (1 ≤ i.level) × (i.level ≤ deepest) × IsStack i.level is
@@ -59,13 +60,15 @@ IsStack deepest (i ∷ is) = (1 ≤ i.level) × (i.level ≤ deepest) × IsStack
 abbrev pub IsTreeStack : Tree → Type 0
 IsTreeStack t = IsStack (length t.nodes.above + 1) (stack_of t.todo.items)
 
--- What is next, and what is left then. Nothing is, where nothing is left or so many nodes are gathered.
+-- What is next, and what is left then. Nothing is, where nothing is left or so many nodes are
+-- gathered.
 abbrev pub IsNext : Next → ℕ → List (List ℕ) → List (List ℕ) → List Inner → List Inner → Type 0
 IsNext (nexts.File name) count files rest todo left =
     (files ≡ string_bytes name ∷ rest) × (left ≡ todo) × (count < most_nodes)
 IsNext (nexts.Directory inner) count files rest todo left =
     (files ≡ []) × (rest ≡ []) × (todo ≡ left ++ inner ∷ []) × (count < most_nodes)
-IsNext nexts.Nothing count files rest todo left = (most_nodes ≤ count) ⊎ ((files ≡ []) × (todo ≡ []))
+IsNext nexts.Nothing count files rest todo left =
+    (most_nodes ≤ count) ⊎ ((files ≡ []) × (todo ≡ []))
 
 -- ---- what is still to be asked of an output directory
 
@@ -75,18 +78,22 @@ files_asked place path above names = map (λ n. file_asked place path (above ++ 
 
 -- directories in it
 abbrev pub lists_asked : PlaceValue → List ℕ → List (List ℕ) → List (List ℕ) → List FolderQuestion
-lists_asked place path above names = map (λ n. list_asked place path (above ++ n ∷ []) most_nodes) names
+lists_asked place path above names =
+    map (λ n. list_asked place path (above ++ n ∷ []) most_nodes) names
 
 -- one that stands there or in a directory above
 abbrev pub inner_asked : PlaceValue → List ℕ → List (List ℕ) → InnerValue → FolderQuestion
 inner_asked place path above i = list_asked place path (names_at above i.level i.name) most_nodes
 
-abbrev pub to_meet : PlaceValue → List ℕ → List (List ℕ) → List (List ℕ) → List InnerValue → List FolderQuestion
-to_meet place path above files stack = files_asked place path above files ++ map (inner_asked place path above) stack
+abbrev pub to_meet : PlaceValue → List ℕ → List (List ℕ) → List (List ℕ) → List InnerValue →
+    List FolderQuestion
+to_meet place path above files stack =
+    files_asked place path above files ++ map (inner_asked place path above) stack
 
 abbrev pub tree_to_meet : PlaceValue → Tree → List FolderQuestion
 tree_to_meet place t =
-    to_meet place (string_bytes t.path) t.nodes.above (map string_bytes t.files.items) (stack_of t.todo.items)
+    to_meet place (string_bytes t.path) t.nodes.above (map string_bytes t.files.items)
+    (stack_of t.todo.items)
 
 -- how far an output directory was gathered
 pub record Walk : Type 0 where
@@ -103,9 +110,12 @@ abbrev pub walk_before : PlaceValue → Tree → FolderQuestion → Walk
 walk_before place t q = record { left = q ∷ tree_to_meet place t; nodes = length t.nodes.nodes + 1 }
 
 abbrev pub walk_at : PlaceValue → Stage → Walk
-walk_at place (stages.Listing g path) = record { left = list_asked place (string_bytes path) [] most_nodes ∷ []; nodes = 0 }
-walk_at place (stages.Tree g t) = record { left = tree_to_meet place t; nodes = length t.nodes.nodes + 1 }
-walk_at place (stages.TreeFile g t f) = record { left = tree_to_meet place t; nodes = length t.nodes.nodes + 2 }
+walk_at place (stages.Listing g path) =
+    record { left = list_asked place (string_bytes path) [] most_nodes ∷ []; nodes = 0 }
+walk_at place (stages.Tree g t) =
+    record { left = tree_to_meet place t; nodes = length t.nodes.nodes + 1 }
+walk_at place (stages.TreeFile g t f) =
+    record { left = tree_to_meet place t; nodes = length t.nodes.nodes + 2 }
 walk_at place s = no_walk
 
 abbrev pub walk_then : PlaceValue → Step → Walk
@@ -120,9 +130,11 @@ found_told place path (Ok (found founds.Directory)) = list_asked place path [] m
 found_told place path a = []
 
 -- the files that were listed are to be looked at, and then the directories to be listed
-abbrev pub listed_told : PlaceValue → List ℕ → List (List ℕ) → Result FolderAnswer ErrorKind → List FolderQuestion
+abbrev pub listed_told : PlaceValue → List ℕ → List (List ℕ) → Result FolderAnswer ErrorKind →
+    List FolderQuestion
 listed_told place path names (Ok (entries es)) =
-    files_asked place path names (file_names es) ++ lists_asked place path names (directory_names es)
+    files_asked place path names (file_names es)
+    ++ lists_asked place path names (directory_names es)
 listed_told place path names a = []
 
 abbrev pub entries_told : FolderQuestion → Result FolderAnswer ErrorKind → List FolderQuestion
@@ -168,8 +180,10 @@ IsDone w = (w.left ≡ []) ⊎ (most_nodes < w.nodes)
 abbrev pub Closes : Walk → Walk → Type 0
 Closes w now = (now ≡ w) ⊎ (IsDone w × (now ≡ no_walk))
 
-abbrev pub walk_after : FolderQuestion → Result FolderAnswer ErrorKind → List FolderQuestion → ℕ → Walk
-walk_after q a rest nodes = record { left = entries_told q a ++ rest; nodes = nodes_met q a + nodes }
+abbrev pub walk_after : FolderQuestion → Result FolderAnswer ErrorKind → List FolderQuestion → ℕ →
+    Walk
+walk_after q a rest nodes =
+    record { left = entries_told q a ++ rest; nodes = nodes_met q a + nodes }
 
 -- each file that is looked at and each directory that is listed is the next of what is left
 abbrev pub Meets : Walk → List FolderCall → Walk → Type 0

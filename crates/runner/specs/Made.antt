@@ -52,7 +52,8 @@ above_then above n (Symlink target) = take (n.level - 1) above
 above_then above n (Directory number) = names_at above n.level (rc_str_bytes n.name)
 
 abbrev pub node_made : (ℕ → List ℕ) → RunKey → List (List ℕ) → TaskNode → List MadeItem
-node_made text run names n = node_item run names (kind_shown n.kind) ∷ kind_made text run names n.kind
+node_made text run names n =
+    node_item run names (kind_shown n.kind) ∷ kind_made text run names n.kind
 
 -- each node once, in order
 abbrev pub nodes_made : (ℕ → List ℕ) → RunKey → List (List ℕ) → List TaskNode → List MadeItem

@@ -45,7 +45,8 @@ pub record IsAt (key : RunKey) (runs : List Run) (at : ℕ) : Type 0 where
 -- a run of a task of which nothing is done yet
 abbrev pub IsRootOf : Making → Task → Type 0
 IsRootOf (makings.Root n) t =
-    (n.above.items ≡ []) × (n.left ≡ t.nodes) × (n.next.command ≡ t.command) × (n.next.outputs ≡ t.outputs)
+    (n.above.items ≡ []) × (n.left ≡ t.nodes) × (n.next.command ≡ t.command)
+    × (n.next.outputs ≡ t.outputs)
 IsRootOf m t = ⊥
 
 abbrev pub IsStageOf : Stage → Task → Type 0
@@ -58,10 +59,11 @@ IsStateOf (Over e) t = ⊥
 
 abbrev pub IsStarted : RunKey → Task → Run → Type 0
 IsStarted key t run =
-    (run.place ≡ record { run = key; directory = t.working_directory; function = t.function }) × IsStateOf run.state t
+    (run.place ≡ record { run = key; directory = t.working_directory; function = t.function })
+    × IsStateOf run.state t
 
--- whether it can go on at once: it waits neither for its folder to be made or removed, nor for its program to end
--- or to be killed
+-- whether it can go on at once: it waits neither for its folder to be made or removed, nor for its
+-- program to end or to be killed
 abbrev pub can_go_on : State → Bool
 can_go_on (Live (stages.Making (makings.Root n))) = false
 can_go_on (Live (stages.Running outputs)) = false
@@ -71,8 +73,8 @@ can_go_on (Over e) = false
 
 -- ---- of runs that are over
 
--- what is to be done for a run that is to be over: before its root is made nothing is there to remove,
--- nor was its program started
+-- what is to be done for a run that is to be over: before its root is made nothing is there to
+-- remove, nor was its program started
 abbrev pub ending_at : Stage → Option Ending
 ending_at (stages.Making (makings.Root n)) = None
 ending_at s = Some Killing
@@ -86,8 +88,8 @@ abbrev pub left_of_kill : Result ProgramAnswer ErrorKind → Ending
 left_of_kill (Ok (killed true)) = Removing
 left_of_kill a = Killing
 
--- what is left once a folder was to be removed, which is tried until nothing is left, or it fails: then
--- the folder is left, and that is told
+-- what is left once a folder was to be removed, which is tried until nothing is left, or it fails:
+-- then the folder is left, and that is told
 abbrev pub left_of_removal : Result FolderAnswer ErrorKind → Result (Option Ending) RunFault
 left_of_removal (Ok (gone false)) = Ok (Some Removing)
 left_of_removal (Ok a) = Ok None
@@ -99,7 +101,8 @@ forgotten key Removing = called (forget_asked key) (Ok program_done)
 forgotten key Killing = []
 
 -- a program was to be ended, and is let go of once it is
-abbrev pub KillsBy : RunKey → Ending → Option (List ProgramCall) → Option (List ProgramCall) → Type 0
+abbrev pub KillsBy : RunKey → Ending → Option (List ProgramCall) → Option (List ProgramCall) →
+    Type 0
 KillsBy key left before now =
     (a : Result ProgramAnswer ErrorKind) × (left ≡ left_of_kill a)
     × Adds before now (called (kill_asked key) a ++ forgotten key (left_of_kill a))
@@ -113,7 +116,8 @@ EndsBy key None left f_before f_now p_before p_now =
 EndsBy key (Some Killing) left f_before f_now p_before p_now =
     (then : Ending) × (left ≡ Ok (Some then)) × (f_now ≡ f_before) × KillsBy key then p_before p_now
 EndsBy key (Some Removing) left f_before f_now p_before p_now =
-    (a : Result FolderAnswer ErrorKind) × (left ≡ left_of_removal a) × Adds f_before f_now (call (removal_asked key) a)
+    (a : Result FolderAnswer ErrorKind) × (left ≡ left_of_removal a)
+    × Adds f_before f_now (call (removal_asked key) a)
     × (p_now ≡ p_before)
 
 -- what is still to be done
@@ -137,7 +141,8 @@ run_left place left = run_kept place (option_map Over left)
 
 -- one of these runs, which has this key, is over, and the next of what ends it was asked for
 pub record Ends (key : RunKey) (state : State) (old new : List Run)
-    (f_before f_now : Option (List FolderCall)) (p_before p_now : Option (List ProgramCall)) : Type 0 where
+    (f_before f_now : Option (List FolderCall))
+    (p_before p_now : Option (List ProgramCall)) : Type 0 where
   pub earlier : List Run
   pub later : List Run
   pub place : Place
@@ -148,8 +153,8 @@ pub record Ends (key : RunKey) (state : State) (old new : List Run)
   pub by : EndsBy key (ending_of state) left f_before f_now p_before p_now
 
 -- no run has this key, nothing was asked, and the runs are as they were
-abbrev pub Stands : RunKey → List Run → List Run → Option (List FolderCall) → Option (List FolderCall) →
-    Option (List ProgramCall) → Option (List ProgramCall) → Type 0
+abbrev pub Stands : RunKey → List Run → List Run → Option (List FolderCall) →
+    Option (List FolderCall) → Option (List ProgramCall) → Option (List ProgramCall) → Type 0
 Stands key old new f_before f_now p_before p_now =
     HasNone key old × (new ≡ old) × (f_now ≡ f_before) × (p_now ≡ p_before)
 
@@ -177,17 +182,20 @@ fault_of (Ok x) = Ok x
 fault_of (Err stopped) = Err stopped.fault
 
 -- it came to a stage, and stopped there
-abbrev pub FailsBy : (ℕ → List ℕ) → Place → Stage → Stopped → Option (List FolderCall) → Option (List FolderCall) →
-    Option (List ProgramCall) → Option (List ProgramCall) → Type 0
+abbrev pub FailsBy : (ℕ → List ℕ) → Place → Stage → Stopped → Option (List FolderCall) →
+    Option (List FolderCall) → Option (List ProgramCall) → Option (List ProgramCall) → Type 0
 FailsBy text place stage stopped f_before f_now p_before p_now =
-    (reached : Stage) × (cost : ℕ) × (f_mid : Option (List FolderCall)) × (p_mid : Option (List ProgramCall))
+    (reached : Stage) × (cost : ℕ) × (f_mid : Option (List FolderCall))
+    × (p_mid : Option (List ProgramCall))
     × (stopped.ending ≡ ending_at reached)
     × Goes text (place_shown place) stage (steps.Goes reached cost) f_before f_mid p_before p_mid
     × Stops text (place_shown place) reached stopped.fault f_mid f_now p_mid p_now
 
--- what becomes of a run that is not over: it goes on, or it is over with an outcome, or with a fault
-abbrev pub Becomes : (ℕ → List ℕ) → Place → Stage → Result (Option Outcome) RunFault → Option State →
-    Option (List FolderCall) → Option (List FolderCall) → Option (List ProgramCall) → Option (List ProgramCall) → Type 0
+-- what becomes of a run that is not over: it goes on, or it is over with an outcome, or with a
+-- fault
+abbrev pub Becomes : (ℕ → List ℕ) → Place → Stage → Result (Option Outcome) RunFault →
+    Option State → Option (List FolderCall) → Option (List FolderCall) → Option (List ProgramCall) →
+    Option (List ProgramCall) → Type 0
 Becomes text place stage (Ok None) kept f_before f_now p_before p_now =
     (next : Stage) × (cost : ℕ) × (kept ≡ Some (Live next))
     × Goes text (place_shown place) stage (steps.Goes next cost) f_before f_now p_before p_now
@@ -201,16 +209,18 @@ Becomes text place stage (Err fault) kept f_before f_now p_before p_now =
     × FailsBy text place stage record { fault = fault; ending = left } f_before f_now p_before p_now
 
 -- it is put in its place among the others, unless it is done with
-pub record HasGone (text : ℕ → List ℕ) (place : Place) (stage : Stage) (result : Result (Option Outcome) RunFault)
-    (at : ℕ) (others new : List Run)
-    (f_before f_now : Option (List FolderCall)) (p_before p_now : Option (List ProgramCall)) : Type 0 where
+pub record HasGone (text : ℕ → List ℕ) (place : Place) (stage : Stage)
+    (result : Result (Option Outcome) RunFault) (at : ℕ) (others new : List Run)
+    (f_before f_now : Option (List FolderCall))
+    (p_before p_now : Option (List ProgramCall)) : Type 0 where
   pub kept : Option State
   pub put : new ≡ take at others ++ (run_kept place kept ++ drop at others)
   pub becomes : Becomes text place stage result kept f_before f_now p_before p_now
 
 -- one of these runs, which has this key, was not over; the others stay
-pub record GoesOn (text : ℕ → List ℕ) (key : RunKey) (result : Result (Option Outcome) RunFault) (old new : List Run)
-    (f_before f_now : Option (List FolderCall)) (p_before p_now : Option (List ProgramCall)) : Type 0 where
+pub record GoesOn (text : ℕ → List ℕ) (key : RunKey) (result : Result (Option Outcome) RunFault)
+    (old new : List Run) (f_before f_now : Option (List FolderCall))
+    (p_before p_now : Option (List ProgramCall)) : Type 0 where
   pub earlier : List Run
   pub later : List Run
   pub place : Place
@@ -222,8 +232,9 @@ pub record GoesOn (text : ℕ → List ℕ) (key : RunKey) (result : Result (Opt
   pub becomes : Becomes text place stage result kept f_before f_now p_before p_now
 
 -- A run that is over gives no outcome, and no fault but that its folder is left.
-abbrev pub IsAsked : (ℕ → List ℕ) → RunKey → Result (Option Outcome) RunFault → List Run → List Run →
-    Option (List FolderCall) → Option (List FolderCall) → Option (List ProgramCall) → Option (List ProgramCall) → Type 0
+abbrev pub IsAsked : (ℕ → List ℕ) → RunKey → Result (Option Outcome) RunFault → List Run →
+    List Run → Option (List FolderCall) → Option (List FolderCall) → Option (List ProgramCall) →
+    Option (List ProgramCall) → Type 0
 IsAsked text key result old new f_before f_now p_before p_now =
     (Stands key old new f_before f_now p_before p_now × (result ≡ Ok None))
     ⊎ (((e : Ending) × (ends : Ends key (Over e) old new f_before f_now p_before p_now)

@@ -40,7 +40,8 @@ outputs_length (o ∷ os) = output_length o.kind + outputs_length os
 
 -- of its streams and of its files
 abbrev pub exited_length : Exited → ℕ
-exited_length e = length e.streams.value.stdout + (length e.streams.value.stderr + outputs_length e.outputs.items)
+exited_length e =
+    length e.streams.value.stdout + (length e.streams.value.stderr + outputs_length e.outputs.items)
 
 abbrev pub held : Stage → ℕ
 held (stages.Making m) = 0
@@ -53,7 +54,8 @@ held (stages.Outputs g) = exited_length g.exited
 held (stages.File g f) = exited_length g.exited + length f.content
 held (stages.Listing g path) = exited_length g.exited
 held (stages.Tree g t) = exited_length g.exited + nodes_length t.nodes.nodes
-held (stages.TreeFile g t f) = exited_length g.exited + (nodes_length t.nodes.nodes + length f.content)
+held (stages.TreeFile g t f) =
+    exited_length g.exited + (nodes_length t.nodes.nodes + length f.content)
 
 abbrev pub then_held : Step → ℕ
 then_held (steps.Goes s cost) = held s
@@ -119,7 +121,8 @@ abbrev pub Fits : ℕ → List RunCall → Type 0
 Fits n [] = Unit {0}
 Fits n (c ∷ cs) = (n + told c ≤ most_bytes) × Fits (n + read c) cs
 
--- ---- what was taken is counted, and is not too large; directories that are to be listed are stacked
+-- ---- what was taken is counted, and is not too large; directories that are to be listed are
+-- stacked
 
 abbrev pub IsTaken : ℕ → ℕ → Type 0
 IsTaken taken n = (taken ≡ n) × (n ≤ most_bytes)
@@ -136,7 +139,8 @@ IsCounted (stages.File g f) = IsTaken g.taken (held (stages.File g f))
 IsCounted (stages.Listing g path) = IsTaken g.taken (held (stages.Listing g path))
 IsCounted (stages.Tree g t) = IsTaken g.taken (held (stages.Tree g t)) × IsTreeStack t
 IsCounted (stages.TreeFile g t f) =
-    IsTaken g.taken (held (stages.TreeFile g t f)) × IsTreeStack t × (length t.nodes.nodes < most_nodes)
+    IsTaken g.taken (held (stages.TreeFile g t f)) × IsTreeStack t
+    × (length t.nodes.nodes < most_nodes)
 
 abbrev pub IsCountedThen : Step → Type 0
 IsCountedThen (steps.Goes s cost) = IsCounted s

@@ -1,4 +1,5 @@
--- A run that is not over: what is still to be done of it, what it has gathered, and what a call adds.
+-- A run that is not over: what is still to be done of it, what it has gathered, and what a call
+-- adds.
 use Rattle.std.specs.Prelude.{◌≡◌, ℕ, ◌-◌, List, [], ◌∷◌, ◌++◌, map, take, drop, length, string_bytes, Option}
 use Rattle.std.specs.Rc.{rc_str_bytes}
 use Rattle.run_outcomes.specs.declared.outcome.Exited.{Exited}
@@ -28,10 +29,12 @@ use Rattle.runner.specs.Sizes.{held, Fits}
 -- ---- what is still to be made, to be started and to be looked at
 
 abbrev pub prepared_left : PlaceValue → Prepared → List MadeItem
-prepared_left place p = directory_item place ∷ map (λ o. parents_item place (string_bytes o)) p.outputs.items
+prepared_left place p =
+    directory_item place ∷ map (λ o. parents_item place (string_bytes o)) p.outputs.items
 
 abbrev pub nodes_left : (ℕ → List ℕ) → PlaceValue → List (List ℕ) → Nodes → List MadeItem
-nodes_left text place above n = nodes_made text place.run above n.left.items ++ prepared_left place n.next
+nodes_left text place above n =
+    nodes_made text place.run above n.left.items ++ prepared_left place n.next
 
 abbrev pub making_left : (ℕ → List ℕ) → PlaceValue → Making → List MadeItem
 making_left text place (makings.Root n) =
@@ -42,13 +45,15 @@ making_left text place (makings.Writing w) =
     map (byte_item place.run names) (drop w.from (text w.text))
     ++ nodes_left text place (take (length names - 1) names) w.nodes
 making_left text place (makings.Directory p) = prepared_left place p
-making_left text place (makings.Parents p) = map (λ o. parents_item place (string_bytes o)) p.left.items
+making_left text place (makings.Parents p) =
+    map (λ o. parents_item place (string_bytes o)) p.left.items
 making_left text place (makings.Starting p) = []
 
 abbrev pub making_starts : PlaceValue → Making → List ProgramQuestion
 making_starts place (makings.Root n) = start_asked place (command_shown n.next.command) ∷ []
 making_starts place (makings.Nodes n) = start_asked place (command_shown n.next.command) ∷ []
-making_starts place (makings.Writing w) = start_asked place (command_shown w.nodes.next.command) ∷ []
+making_starts place (makings.Writing w) =
+    start_asked place (command_shown w.nodes.next.command) ∷ []
 making_starts place (makings.Directory p) = start_asked place (command_shown p.command) ∷ []
 making_starts place (makings.Parents p) = start_asked place (command_shown p.command) ∷ []
 making_starts place (makings.Starting p) = start_asked place (command_shown p.command) ∷ []
@@ -117,10 +122,12 @@ has_gathered place (stages.Measuring e) = []
 has_gathered place (stages.Output e out) = []
 has_gathered place (stages.Error e out err) = []
 has_gathered place (stages.Outputs g) = output_items place g.exited.outputs.items
-has_gathered place (stages.File g f) = output_items place g.exited.outputs.items ++ file_items place f
+has_gathered place (stages.File g f) =
+    output_items place g.exited.outputs.items ++ file_items place f
 has_gathered place (stages.Listing g path) =
     output_items place g.exited.outputs.items ++ found_item place (string_bytes path) ∷ []
-has_gathered place (stages.Tree g t) = output_items place g.exited.outputs.items ++ tree_items place t
+has_gathered place (stages.Tree g t) =
+    output_items place g.exited.outputs.items ++ tree_items place t
 has_gathered place (stages.TreeFile g t f) =
     output_items place g.exited.outputs.items ++ (tree_items place t ++ tree_file_items place t f)
 
@@ -185,40 +192,48 @@ look_of (removal_asked run) = []
 abbrev pub looks : List FolderCall → List FolderQuestion
 looks calls = collect (λ c. look_of c.question) calls
 
--- What was asked meanwhile, in some order of both kinds of calls, is a front of what was to be made,
--- to be started and to be looked at, and what was answered is what was gathered and told since; none
--- of it was too large. Of output directories each entry is met that was left or told of, in order,
--- until nothing is left or so many nodes are met. No program is let go of.
-pub record GoesWith (before : Walk) (text : ℕ → List ℕ) (place : PlaceValue) (from : Stage) (to : Step)
-    (f_before f_now : Option (List FolderCall)) (p_before p_now : Option (List ProgramCall)) : Type 0 where
+-- What was asked meanwhile, in some order of both kinds of calls, is a front of what was to be
+-- made, to be started and to be looked at, and what was answered is what was gathered and told
+-- since; none of it was too large. Of output directories each entry is met that was left or told
+-- of, in order, until nothing is left or so many nodes are met. No program is let go of.
+pub record GoesWith (before : Walk) (text : ℕ → List ℕ) (place : PlaceValue) (from : Stage)
+    (to : Step) (f_before f_now : Option (List FolderCall))
+    (p_before p_now : Option (List ProgramCall)) : Type 0 where
   pub calls : List RunCall
   pub folder_asked : Adds f_before f_now (folder_calls calls)
   pub programs_asked : Adds p_before p_now (program_calls calls)
   pub makes : to_make text place from ≡ made (folder_calls calls) ++ then_to_make text place to
   pub starts_it : to_start place from ≡ starts (program_calls calls) ++ then_to_start place to
   pub looks_at : to_look place from ≡ looks (folder_calls calls) ++ then_to_look place to
-  pub gathers : then_gathered place to ≡ has_gathered place from ++ items_answered (folder_calls calls)
+  pub gathers : then_gathered place to
+      ≡ has_gathered place from ++ items_answered (folder_calls calls)
   pub is_told : then_told place to ≡ has_told place from ++ items_told (program_calls calls)
   pub fits : Fits (held from) calls
   pub meets : Meets before (folder_calls calls) (walk_then place to)
   pub keeps : forgets (program_calls calls) ≡ []
 
-abbrev pub Goes : (ℕ → List ℕ) → PlaceValue → Stage → Step → Option (List FolderCall) → Option (List FolderCall) →
-    Option (List ProgramCall) → Option (List ProgramCall) → Type 0
+abbrev pub Goes : (ℕ → List ℕ) → PlaceValue → Stage → Step → Option (List FolderCall) →
+    Option (List FolderCall) → Option (List ProgramCall) → Option (List ProgramCall) → Type 0
 Goes text place from to f_before f_now p_before p_now =
     GoesWith (walk_at place from) text place from to f_before f_now p_before p_now
 
 -- the same of a step that asks folders alone, and for any texts
-abbrev pub FolderGoes : PlaceValue → Stage → Step → Option (List FolderCall) → Option (List FolderCall) → Type 0
+abbrev pub FolderGoes : PlaceValue → Stage → Step → Option (List FolderCall) →
+    Option (List FolderCall) → Type 0
 FolderGoes place from to f_before f_now =
-    (text : ℕ → List ℕ) → (p : Option (List ProgramCall)) → Goes text place from to f_before f_now p p
+    (text : ℕ → List ℕ) → (p : Option (List ProgramCall)) →
+    Goes text place from to f_before f_now p p
 
 -- of one from a stage at which an output directory was gathered so far
-abbrev pub FolderGoesWith : Walk → PlaceValue → Stage → Step → Option (List FolderCall) → Option (List FolderCall) → Type 0
+abbrev pub FolderGoesWith : Walk → PlaceValue → Stage → Step → Option (List FolderCall) →
+    Option (List FolderCall) → Type 0
 FolderGoesWith before place from to f_before f_now =
-    (text : ℕ → List ℕ) → (p : Option (List ProgramCall)) → GoesWith before text place from to f_before f_now p p
+    (text : ℕ → List ℕ) → (p : Option (List ProgramCall)) →
+    GoesWith before text place from to f_before f_now p p
 
 -- of one that asks programs alone
-abbrev pub ProgramGoes : PlaceValue → Stage → Step → Option (List ProgramCall) → Option (List ProgramCall) → Type 0
+abbrev pub ProgramGoes : PlaceValue → Stage → Step → Option (List ProgramCall) →
+    Option (List ProgramCall) → Type 0
 ProgramGoes place from to p_before p_now =
-    (text : ℕ → List ℕ) → (f : Option (List FolderCall)) → Goes text place from to f f p_before p_now
+    (text : ℕ → List ℕ) → (f : Option (List FolderCall)) →
+    Goes text place from to f f p_before p_now

@@ -36,7 +36,8 @@ abbrev pub AsksFolder : Walk → (ℕ → List ℕ) → PlaceValue → Stage →
 AsksFolder before text place (stages.Making m) q = IsMadeNext (making_left text place m) (made_by q)
 AsksFolder before text place (stages.Outputs g) q =
     (rest : List FolderQuestion) × (to_look place (stages.Outputs g) ≡ q ∷ rest)
-AsksFolder before text place (stages.File g f) q = IsPieceNext place (string_bytes f.path) [] f.content q
+AsksFolder before text place (stages.File g f) q =
+    IsPieceNext place (string_bytes f.path) [] f.content q
 AsksFolder before text place (stages.Listing g path) q = IsEntryNext before q
 AsksFolder before text place (stages.Tree g t) q = IsEntryNext before q
 AsksFolder before text place (stages.TreeFile g t f) q =
@@ -45,7 +46,8 @@ AsksFolder before text place s q = ⊥
 
 -- of programs; what is asked to end one that has exited is asked again where it fails
 abbrev pub AsksPrograms : PlaceValue → Stage → ProgramQuestion → Type 0
-AsksPrograms place (stages.Making (makings.Starting p)) q = q ≡ start_asked place (command_shown p.command)
+AsksPrograms place (stages.Making (makings.Starting p)) q =
+    q ≡ start_asked place (command_shown p.command)
 AsksPrograms place (stages.Running outputs) q = q ≡ end_asked place.run
 AsksPrograms place (stages.Measuring e) q = q ≡ length_asked place.run
 AsksPrograms place (stages.Output e out) q =
@@ -90,8 +92,9 @@ IsFaultOf fault (of_programs c ∷ []) = IsProgramsFault fault c.answer
 IsFaultOf fault (c ∷ d ∷ cs) = ⊥
 
 -- A run at this stage has this fault, and asked for one thing more at most.
-pub record StopsWith (before : Walk) (text : ℕ → List ℕ) (place : PlaceValue) (from : Stage) (fault : RunFault)
-    (f_before f_now : Option (List FolderCall)) (p_before p_now : Option (List ProgramCall)) : Type 0 where
+pub record StopsWith (before : Walk) (text : ℕ → List ℕ) (place : PlaceValue) (from : Stage)
+    (fault : RunFault) (f_before f_now : Option (List FolderCall))
+    (p_before p_now : Option (List ProgramCall)) : Type 0 where
   pub calls : List RunCall
   pub folder_asked : Adds f_before f_now (folder_calls calls)
   pub programs_asked : Adds p_before p_now (program_calls calls)
@@ -99,22 +102,28 @@ pub record StopsWith (before : Walk) (text : ℕ → List ℕ) (place : PlaceVal
   pub is_true : IsTrueOf fault (held from) calls
   pub is_of : IsFaultOf fault calls
 
-abbrev pub Stops : (ℕ → List ℕ) → PlaceValue → Stage → RunFault → Option (List FolderCall) → Option (List FolderCall) →
-    Option (List ProgramCall) → Option (List ProgramCall) → Type 0
+abbrev pub Stops : (ℕ → List ℕ) → PlaceValue → Stage → RunFault → Option (List FolderCall) →
+    Option (List FolderCall) → Option (List ProgramCall) → Option (List ProgramCall) → Type 0
 Stops text place from fault f_before f_now p_before p_now =
     StopsWith (walk_at place from) text place from fault f_before f_now p_before p_now
 
 -- the same of a step that asks folders alone, and for any texts
-abbrev pub FolderStops : PlaceValue → Stage → RunFault → Option (List FolderCall) → Option (List FolderCall) → Type 0
+abbrev pub FolderStops : PlaceValue → Stage → RunFault → Option (List FolderCall) →
+    Option (List FolderCall) → Type 0
 FolderStops place from fault f_before f_now =
-    (text : ℕ → List ℕ) → (p : Option (List ProgramCall)) → Stops text place from fault f_before f_now p p
+    (text : ℕ → List ℕ) → (p : Option (List ProgramCall)) →
+    Stops text place from fault f_before f_now p p
 
 -- of one from a stage at which an output directory was gathered so far
-abbrev pub FolderStopsWith : Walk → PlaceValue → Stage → RunFault → Option (List FolderCall) → Option (List FolderCall) → Type 0
+abbrev pub FolderStopsWith : Walk → PlaceValue → Stage → RunFault → Option (List FolderCall) →
+    Option (List FolderCall) → Type 0
 FolderStopsWith before place from fault f_before f_now =
-    (text : ℕ → List ℕ) → (p : Option (List ProgramCall)) → StopsWith before text place from fault f_before f_now p p
+    (text : ℕ → List ℕ) → (p : Option (List ProgramCall)) →
+    StopsWith before text place from fault f_before f_now p p
 
 -- of one that asks programs alone
-abbrev pub ProgramStops : PlaceValue → Stage → RunFault → Option (List ProgramCall) → Option (List ProgramCall) → Type 0
+abbrev pub ProgramStops : PlaceValue → Stage → RunFault → Option (List ProgramCall) →
+    Option (List ProgramCall) → Type 0
 ProgramStops place from fault p_before p_now =
-    (text : ℕ → List ℕ) → (f : Option (List FolderCall)) → Stops text place from fault f f p_before p_now
+    (text : ℕ → List ℕ) → (f : Option (List FolderCall)) →
+    Stops text place from fault f f p_before p_now

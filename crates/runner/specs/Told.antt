@@ -1,5 +1,5 @@
--- What is told of a program: its code, that it and all that it started are ended, and what it wrote,
--- to the end of each stream.
+-- What is told of a program: its code, that it and all that it started are ended, and what it
+-- wrote, to the end of each stream.
 use Rattle.std.specs.Prelude.{ℕ, zero, suc, ◌+◌, ℤ, true, List, [], ◌∷◌, ◌++◌, length, Result, Ok, Err}
 use Rattle.run_calls.specs.declared.task.RunKey.{RunKey}
 use Rattle.run_calls.specs.declared.programs.Stream.{Stream}
@@ -16,7 +16,8 @@ pub data ToldItem : Type 0 where
 
 abbrev pub stream_bytes : RunKey → Stream → ℕ → List ℕ → List ToldItem
 stream_bytes run stream from [] = []
-stream_bytes run stream from (b ∷ bs) = stream_byte run stream from b ∷ stream_bytes run stream (from + 1) bs
+stream_bytes run stream from (b ∷ bs) =
+    stream_byte run stream from b ∷ stream_bytes run stream (from + 1) bs
 
 -- the bytes of a stream, to its end
 abbrev pub whole_stream : RunKey → Stream → List ℕ → List ToldItem

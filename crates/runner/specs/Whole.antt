@@ -16,18 +16,20 @@ use Rattle.runner.specs.Steps.{Goes, exited_told, looks}
 -- a call of `ask` leads a run from a stage on by these calls of folders and of programs
 abbrev pub GoesBy : (ℕ → List ℕ) → PlaceValue → Stage → Step → List RunCall → Type 0
 GoesBy text place from to calls =
-    Goes text place from to (Some []) (Some (folder_calls calls)) (Some []) (Some (program_calls calls))
+    Goes text place from to (Some []) (Some (folder_calls calls)) (Some [])
+    (Some (program_calls calls))
 
 -- .. whatever was asked before, for this run or for others
 pub record IsPart (text : ℕ → List ℕ) (place : PlaceValue) (from : Stage) (to : Step)
-    (f_before f_now : Option (List FolderCall)) (p_before p_now : Option (List ProgramCall)) : Type 0 where
+    (f_before f_now : Option (List FolderCall))
+    (p_before p_now : Option (List ProgramCall)) : Type 0 where
   pub calls : List RunCall
   pub goes_by : GoesBy text place from to calls
   pub folder_asked : Adds f_before f_now (folder_calls calls)
   pub programs_asked : Adds p_before p_now (program_calls calls)
 
--- calls of `ask`, each with what it asked for, lead it from a stage to its exit; with one look-up of
--- texts
+-- calls of `ask`, each with what it asked for, lead it from a stage to its exit; with one look-up
+-- of texts
 abbrev pub ExitsBy : (ℕ → List ℕ) → PlaceValue → Stage → List (List RunCall) → Exited → Type 0
 ExitsBy text place from [] e = ⊥
 ExitsBy text place from (calls ∷ []) e = GoesBy text place from (steps.Exits e) calls
@@ -39,15 +41,16 @@ abbrev pub all_calls : List (List RunCall) → List RunCall
 all_calls [] = []
 all_calls (calls ∷ parts) = calls ++ all_calls parts
 
--- its folder is made, its task's tree, each node once, in walk order, and what is needed besides; its
--- command is started once; each output is looked at, and of one that is a directory all is met; what
--- it exits with is what was answered; and its program is not let go of before
+-- its folder is made, its task's tree, each node once, in walk order, and what is needed besides;
+-- its command is started once; each output is looked at, and of one that is a directory all is met;
+-- what it exits with is what was answered; and its program is not let go of before
 pub record IsWhole (text : ℕ → List ℕ) (place : PlaceValue) (task : Task) (e : Exited)
     (calls : List RunCall) : Type 0 where
   pub makes : made (folder_calls calls)
       ≡ root_item place.run ∷ (nodes_made text place.run [] task.nodes.items
       ++ directory_item place ∷ map (λ o. parents_item place (string_bytes o)) task.outputs.items)
-  pub starts_once : starts (program_calls calls) ≡ start_asked place (command_shown task.command) ∷ []
+  pub starts_once : starts (program_calls calls)
+      ≡ start_asked place (command_shown task.command) ∷ []
   pub looks_at : looks (folder_calls calls)
       ≡ map (look_asked place) (map string_bytes task.outputs.items)
   pub meets : Meets no_walk (folder_calls calls) no_walk

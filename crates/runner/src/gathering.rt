@@ -20,8 +20,8 @@ use run_calls::{Entry, Folder, Found, Place};
 use std::alloc::{AllocError, Global};
 use std::collections::VecDeque;
 
-/// How many nodes of an output directory are gathered. One with more is refused by whoever takes it,
-/// so that it is not gathered further.
+/// How many nodes of an output directory are gathered. One with more is refused by whoever takes
+/// it, so that it is not gathered further.
 const MOST_NODES: usize = 10_001;
 
 /// What a directory costs of what is done in one call: all of it, since many of its entries may be

@@ -12,9 +12,9 @@ ghost use Rattle.runner.specs.declared.stage.Stage.{Stage};
 ghost use Rattle.runner.specs.declared.stage.Step.{Step};
 ghost use Rattle.run_calls.specs.declared.task.Task.{Task};
 
-/// However many calls it takes: from its start to its exit a run makes its task's tree, each node once,
-/// starts its command once, looks at each output, and exits with what was answered. What a call of
-/// `ask` adds is a part of it, whatever others asked in between.
+/// However many calls it takes: from its start to its exit a run makes its task's tree, each node
+/// once, starts its command once, looks at each output, and exits with what was answered. What a
+/// call of `ask` adds is a part of it, whatever others asked in between.
 pub fn a_run_is_whole()
     ensures part { (text : ℕ → List ℕ) (place : PlaceValue) (from : Stage) (to : Step)
         (f_before f_now : Option (List FolderCall)) (p_before p_now : Option (List ProgramCall))

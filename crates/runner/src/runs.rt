@@ -74,8 +74,8 @@ fn put_back(runs: &mut Vec<Run>, at: usize, run: Run)
     runs.insert(at, run).unwrap();
 }
 
-/// A run of which nothing is done yet. It has room for what its program writes, so that none is asked
-/// for once that has ended.
+/// A run of which nothing is done yet. It has room for what its program writes, so that none is
+/// asked for once that has ended.
 fn started(alloc: Global, key: RunKey, task: Task) -> Result<Run, AllocError>
     ensures { IfOk result (IsStarted key task) }
 {
@@ -156,11 +156,11 @@ impl<F: Folder + Drop, P: Programs + Drop> Runner<F, P> {
         Ok(())
     }
 
-    /// Does a bounded piece of work for a job's run: makes some of its folder, starts its program or
-    /// asks it, or gathers some of what it left. What came of the run, or `None` while it goes on.
-    /// After an outcome or a fault the run is over; the calls that follow end what is left of its
-    /// program, remove its folder, and forget the run. A folder that cannot be removed is left, which
-    /// is told as the fault `Left`.
+    /// Does a bounded piece of work for a job's run: makes some of its folder, starts its program
+    /// or asks it, or gathers some of what it left. What came of the run, or `None` while it goes
+    /// on. After an outcome or a fault the run is over; the calls that follow end what is left of
+    /// its program, remove its folder, and forget the run. A folder that cannot be removed is left,
+    /// which is told as the fault `Left`.
     pub fn ask<T: Texts>(
         &mut self,
         instance: u32,
@@ -238,8 +238,8 @@ impl<F: Folder + Drop, P: Programs + Drop> Runner<F, P> {
         }
     }
 
-    /// A job's run is over, and gives no outcome. The first of what is to be done to end it is tried
-    /// at once, and the rest by the calls that follow, of this or of `ask`.
+    /// A job's run is over, and gives no outcome. The first of what is to be done to end it is
+    /// tried at once, and the rest by the calls that follow, of this or of `ask`.
     ///
     /// # Errors
     ///
@@ -319,8 +319,8 @@ fn ending_of(state: State) -> Option<Ending>
     }
 }
 
-/// Does the next piece of what is to be done for a run that is over. What is left then, if anything;
-/// a folder that cannot be removed is left.
+/// Does the next piece of what is to be done for a run that is over. What is left then, if
+/// anything; a folder that cannot be removed is left.
 fn end<F: Folder, P: Programs>(
     folder: &mut F,
     programs: &mut P,

@@ -145,7 +145,8 @@ pub record IsEventLine (before : ReplayScriptValue) (words : List (List ℕ))
   pub adds : after ≡ with_event before (event_at at number what)
 
 -- a line that leads from one script to the next: an empty one, which adds nothing, or one of these
-abbrev pub IsGoodReplayLine : List ConfigValue → ReplayScriptValue → List ℕ → ReplayScriptValue → Type 0
+abbrev pub IsGoodReplayLine : List ConfigValue → ReplayScriptValue → List ℕ → ReplayScriptValue →
+    Type 0
 IsGoodReplayLine all before line after =
     ((line ≡ []) × (after ≡ before))
     ⊎ ((words : List (List ℕ)) × IsSpelled line words

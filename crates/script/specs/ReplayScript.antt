@@ -79,7 +79,8 @@ with_event script event = record script { events = script.events ++ event ∷ []
 -- the script with one more line of these words; none where they have no form, or where they
 -- configure an instance after an event, one that may not follow those before it, or one that may
 -- not build on its parent among all of these
-abbrev pub after_replay_words : List ConfigValue → ReplayScriptValue → List (List ℕ) → Option ReplayScriptValue
+abbrev pub after_replay_words : List ConfigValue → ReplayScriptValue → List (List ℕ) →
+    Option ReplayScriptValue
 after_replay_words all script [] = None
 after_replay_words all script (kind ∷ arguments) =
     if bytes_eq kind (codes "instance")
@@ -89,7 +90,8 @@ after_replay_words all script (kind ∷ arguments) =
     else option_map (with_event script) (event_of kind arguments)
 
 -- the script with one more line; an empty line adds nothing
-abbrev pub after_replay_line : List ConfigValue → ReplayScriptValue → List ℕ → Option ReplayScriptValue
+abbrev pub after_replay_line : List ConfigValue → ReplayScriptValue → List ℕ →
+    Option ReplayScriptValue
 after_replay_line all script [] = Some script
 after_replay_line all script (byte ∷ line) = after_replay_words all script (words_of (byte ∷ line))
 

@@ -23,7 +23,8 @@ use Rattle.serve.proofs.Lending.{clock_for, nobody_more}
 abbrev told_so_far : ℕ → List Happening
 told_so_far k = map told (range_with_len 0 k)
 
--- the clock showed n, the instances before number k were told it, and what they ordered was carried out
+-- the clock showed n, the instances before number k were told it, and what they ordered was carried
+-- out
 pub record HasTicked (configs : List ConfigValue) (sockets : List SocketEvent) (runs : List RunEvent) (n k : ℕ) (server : Counting) (now : Option (List RunEvent)) : Type 0 where
   pub h : List MarkedHappening
   pub more : List RunEvent

@@ -71,8 +71,8 @@ none_at c k ks h = none_if c k ks (is_open_at c k) refl h
 abbrev pub Written : Type 0
 Written = ℕ × List ℕ
 
--- what was written on a connection is what was taken of it, and while it is open no other was accepted
--- under its number
+-- what was written on a connection is what was taken of it, and while it is open no other was
+-- accepted under its number
 pub record IsWrittenOn (w : Written) (ws : List Written) (k : LoneConnection) : Type 0 where
   pub number : w.0 ≡ k.number
   pub more : List ℕ

@@ -84,8 +84,8 @@ pub record IsFrontOf (w s : ℕ × List ℕ) : Type 0 where
   pub more : List ℕ
   pub bytes : s.1 ≡ w.1 ++ more
 
--- of the connections that were accepted those that the instance did not refuse are these on which it
--- put bytes, in order, and nothing was written on others
+-- of the connections that were accepted those that the instance did not refuse are these on which
+-- it put bytes, in order, and nothing was written on others
 abbrev pub AreFronts : List (ℕ × List ℕ) → List (ℕ × List ℕ) → Type 0
 AreFronts [] [] = Unit {0}
 AreFronts [] (s ∷ ss) = ⊥
@@ -93,9 +93,9 @@ AreFronts (w ∷ ws) [] = (w.1 ≡ []) × AreFronts ws []
 AreFronts (w ∷ ws) (s ∷ ss) =
     ((w.1 ≡ []) × AreFronts ws (s ∷ ss)) ⊎ (IsFrontOf w s × AreFronts ws ss)
 
--- what happened is a run of instance i and its parent p by themselves, over the events of these two,
--- of which those are done in part that are marked: on each connection a front of what the run puts
--- was written, and the orders that it gives were carried out
+-- what happened is a run of instance i and its parent p by themselves, over the events of these
+-- two, of which those are done in part that are marked: on each connection a front of what the run
+-- puts was written, and the orders that it gives were carried out
 pub record Did (family : Family) (i : ℕ) (p : Option ℕ) (h : List MarkedHappening) : Type 0 where
   pub came : MarkedRun family (family_events i p (events_from 0 h))
   pub marks : came.marked ≡ marked_from i p 0 h

@@ -97,7 +97,8 @@ pub record MayTell (may : Bool) (second instance : ℕ) (old new : List LineCoun
   pub none : slice_get old instance ≡ None → may ≡ false
   pub others : (j : ℕ) → j ≢ instance → slice_get new j ≡ slice_get old j
 
--- a line of an instance at a moment, in milliseconds: it is dropped where the instance may have none
+-- a line of an instance at a moment, in milliseconds: it is dropped where the instance may have
+-- none
 pub record TellsRun (moment instance : ℕ) (line : List ℕ) (before : Option (List ℕ)) (old : Backlog)
     (after : Option (List ℕ)) (new : Backlog) : Type 0 where
   pub may : Bool

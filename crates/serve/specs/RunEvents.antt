@@ -12,8 +12,8 @@ use Rattle.execution.specs.Orders.{OrderValue, start}
 use Rattle.server_core.specs.declared.server.LentTask.{LentTask}
 use Rattle.server_core.specs.Lent.{lent_shown}
 
--- an order of the instance of a number was carried out; the run of a job of it was lent this task with
--- its texts, or none; or that run gave an outcome
+-- an order of the instance of a number was carried out; the run of a job of it was lent this task
+-- with its texts, or none; or that run gave an outcome
 pub data RunEvent : Type 0 where
   ordered : ℕ → OrderValue → RunEvent
   lent : ℕ → ℕ → Option TaskValue → RunEvent
@@ -24,7 +24,8 @@ abbrev pub gave_events : RunKey → Option Outcome → List RunEvent
 gave_events run None = []
 gave_events run (Some o) = gave run.instance run.job (outcome_shown o) ∷ []
 
--- a fault is the outcome of a job that failed; that its folder is left is none, as its job has ended
+-- a fault is the outcome of a job that failed; that its folder is left is none, as its job has
+-- ended
 abbrev pub fault_events : RunKey → RunFault → List RunEvent
 fault_events run Left = []
 fault_events run fault = gave run.instance run.job failed ∷ []
@@ -35,7 +36,8 @@ outcome_events run (Ok o) = gave_events run o
 outcome_events run (Err fault) = fault_events run fault
 
 -- what a question adds: a task is lent with it, or none
-abbrev pub asked_events : RunKey → Option LentTask → Result (Option Outcome) RunFault → List RunEvent
+abbrev pub asked_events : RunKey → Option LentTask → Result (Option Outcome) RunFault →
+    List RunEvent
 asked_events run task answer =
     lent run.instance run.job (option_map lent_shown task) ∷ outcome_events run answer
 

@@ -30,8 +30,8 @@ abbrev pub with_orders : LoneInstance → List OrderValue → AtWork
 with_orders l orders = record { instance = l; orders = orders }
 
 -- what an event may make of it, while its parent has these texts: what it does by itself, with the
--- orders that it gives by itself; or, where it is marked, since nothing else refuses it and memory was
--- refused, a part of that, with no order
+-- orders that it gives by itself; or, where it is marked, since nothing else refuses it and memory
+-- was refused, a part of that, with no order
 abbrev pub MayStep : List Blob → EventValue → Bool → LoneInstance → AtWork → Type 0
 MayStep parent e false l w = w ≡ with_orders (lone_step parent e l) (lone_orders parent e l)
 MayStep parent e true l w =
@@ -56,8 +56,8 @@ AreBytesWritten m i c bytes l =
     (refusal_of (record { moment = m; instance = i; what = took c (length bytes) }) l ≡ None)
 
 -- a connection is accepted under a number that no open one has; what is written to one is what the
--- instance has waiting on it then, and counts as taken; and what a run is lent is the task, with its
--- texts, of the job of its number that runs then, and nothing where none does
+-- instance has waiting on it then, and counts as taken; and what a run is lent is the task, with
+-- its texts, of the job of its number that runs then, and nothing where none does
 abbrev pub IsFaithful : ℕ → ℕ → LoneInstance → Happening → Type 0
 IsFaithful i m l (at_sockets (port j (written c bytes))) = j ≡ i → AreBytesWritten m i c bytes l
 IsFaithful i m l (at_sockets (port j (accepted c))) = j ≡ i → open_at c l.connections ≡ None

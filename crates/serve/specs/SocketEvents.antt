@@ -36,7 +36,8 @@ abbrev pub shutdown_events : Socket → List SocketEvent
 shutdown_events at = port at.instance (shut at.connection) ∷ []
 
 -- this happened next
-abbrev pub AddsAll : Option (List SocketEvent) → Option (List SocketEvent) → List SocketEvent → Type 0
+abbrev pub AddsAll : Option (List SocketEvent) → Option (List SocketEvent) → List SocketEvent →
+    Type 0
 AddsAll before after more = after ≡ option_map (λ h. h ++ more) before
 
 -- where it is known then what happened, it was known before, and this happened next

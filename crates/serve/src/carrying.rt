@@ -43,7 +43,8 @@ fn carry_out<R: Runs>(server: &Server, runs: &mut R, instance: u32, orders: &[Or
 #[derive(Drop)]
 pub(crate) struct Counting {
     pub(crate) server: Server,
-    /// How many events were carried out in part, for want of memory; or 2^64 - 1 where it were more.
+    /// How many events were carried out in part, for want of memory; or 2^64 - 1 where it were
+    /// more.
     pub(crate) cut: u64,
     /// For an operator alone: nothing else depends on it.
     pub(crate) counts: ServeCounts,

@@ -190,10 +190,11 @@ fn may_tell(counts: &mut [LineCount], instance: u32, second: u64) -> bool
     may_come
 }
 
-/// Lines to an output that is not waited for: a write to it answers an error, or takes a part, where
-/// it cannot be done at once. A line that it does not begin to take is dropped, and so is each while
-/// a part of another is still to be written; the next that it takes stands behind one that says how
-/// many were: `remoted: N lines were dropped`. So no line stands in the middle of another.
+/// Lines to an output that is not waited for: a write to it answers an error, or takes a part,
+/// where it cannot be done at once. A line that it does not begin to take is dropped, and so is
+/// each while a part of another is still to be written; the next that it takes stands behind one
+/// that says how many were: `remoted: N lines were dropped`. So no line stands in the middle of
+/// another.
 ///
 /// Of the runs of an instance ten lines at most are written in a second of the server's clock.
 #[derive(Drop)]

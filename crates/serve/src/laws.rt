@@ -12,9 +12,9 @@ ghost use Rattle.serve.specs.Did.{Did, events_from};
 
 /// What a server did, as `serve` promises it of what happened: for each instance there is a run of
 /// it and its parent by themselves, over the events of these two, in which just the marked events
-/// were done in part. On each connection, in order of acceptance, a front of what the run puts there
-/// was written, and the orders that the run gives were carried out, in order. Where no event is
-/// marked, it is the run that `run` gives.
+/// were done in part. On each connection, in order of acceptance, a front of what the run puts
+/// there was written, and the orders that the run gives were carried out, in order. Where no event
+/// is marked, it is the run that `run` gives.
 pub fn what_serve_did()
     ensures did { (configs : List ConfigValue) (h : List MarkedHappening)
         → AreParents (parents_of configs) → IsServed configs h

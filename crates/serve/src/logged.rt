@@ -18,7 +18,8 @@ pub enum SocketRecord {
     Shut(Socket),
 }
 
-/// Sockets with a log of all that happened at them. Where memory is refused for it, the log is lost.
+/// Sockets with a log of all that happened at them. Where memory is refused for it, the log is
+/// lost.
 #[derive(Drop)]
 pub struct LoggedSockets<S> {
     pub sockets: S,

@@ -353,8 +353,8 @@ impl Serving {
     }
 }
 
-/// Rests where nothing moved in a turn, and says how many turns in which nothing moved went by since
-/// something did.
+/// Rests where nothing moved in a turn, and says how many turns in which nothing moved went by
+/// since something did.
 fn rest_unless<S: Sockets>(sockets: &mut S, has_moved: bool, idle_turns: u64) -> u64
     ensures adds { Adds (S.happened sockets.old) (S.happened sockets.new) [] }
 {
@@ -397,12 +397,12 @@ pub struct Tally {
 ///
 /// `served`: a connection is accepted under a number that no open one of its instance has, and what
 /// is written to one is each time what its instance alone, by its own events, has waiting on it
-/// then; what is begun and ended at the runs is what that instance alone orders, each order once and
-/// in order; and what a run is lent, each time that it is asked, is the task, with its texts, of its
-/// own job, and nothing once that runs no more. Its own events are those of its port, the time, and
-/// what the runs of its own jobs gave; of these as many were carried out in part, for want of
-/// memory, as the result says, and no others. Nothing happens at a number of no instance. An
-/// instance that builds on another is alone with that one, and reads what it has by then.
+/// then; what is begun and ended at the runs is what that instance alone orders, each order once
+/// and in order; and what a run is lent, each time that it is asked, is the task, with its texts,
+/// of its own job, and nothing once that runs no more. Its own events are those of its port, the
+/// time, and what the runs of its own jobs gave; of these as many were carried out in part, for
+/// want of memory, as the result says, and no others. Nothing happens at a number of no instance.
+/// An instance that builds on another is alone with that one, and reads what it has by then.
 ///
 /// `lines`: what is written to `errors` are whole lines, each of which says that the run of a job
 /// failed, with the instance's name, or how many lines were dropped.

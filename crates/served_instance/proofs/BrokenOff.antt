@@ -1,4 +1,5 @@
--- An event was refused for want of memory, and what that breaks off is gone: what is left is what the definitions say.
+-- An event was refused for want of memory, and what that breaks off is gone: what is left is what
+-- the definitions say.
 use Rattle.std.proofs.Common.{◌≡◌, ◌≤◌, refl, sym, ap, ◌∙◌, subst, arith, length}
 use Rattle.std.specs.Prelude.{ℕ, Bool, true, false, cond, ◌==◌, List, [], ◌∷◌, map, Result, Ok, Err, OnErr}
 use Rattle.grpc_sending.proofs.Histories.{append-nil}

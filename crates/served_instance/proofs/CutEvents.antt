@@ -1,4 +1,5 @@
--- What received bytes bring to calls, event after event, and what stands where one is refused for want of memory.
+-- What received bytes bring to calls, event after event, and what stands where one is refused for
+-- want of memory.
 use Rattle.std.proofs.Common.{◌≡◌, refl, sym, ap, ◌∙◌, subst, inl, inr, append_assoc}
 use Rattle.std.proofs.Math.Seq.{drop-append_seam, drop-length}
 use Rattle.std.specs.Prelude.{ℕ, true, false, List, [], ◌∷◌, ◌++◌, length, map, drop, Option, Some, None, Result, Ok, Err}

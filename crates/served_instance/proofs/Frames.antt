@@ -1,4 +1,5 @@
--- Instances by themselves: what is due happens one by one, and what was received is read frame by frame.
+-- Instances by themselves: what is due happens one by one, and what was received is read frame by
+-- frame.
 use Rattle.std.proofs.Common.{◌≡◌, refl, sym, ap, ◌∙◌, append_assoc}
 use Rattle.std.proofs.Math.Seq.{drop-append_seam, drop-length}
 use Rattle.std.specs.Prelude.{ℕ, Bool, true, false, List, [], ◌∷◌, ◌++◌, length, map, drop, option_map, Option, Some, None, Result, Ok, Err, ◌||◌}

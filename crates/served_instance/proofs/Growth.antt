@@ -1,4 +1,5 @@
--- What an event makes of connections beside what it says of its own: their histories grow, and no more is taken.
+-- What an event makes of connections beside what it says of its own: their histories grow, and no
+-- more is taken.
 use Rattle.std.proofs.Common.{◌≡◌, ℕ, List, [], ◌∷◌, ◌++◌, refl, ap, ◌∙◌, sym, append_assoc, arith, inl, inr}
 use Rattle.std.specs.Prelude.{Bool, true, false, cond, map, Option, Some, None, Result, Ok, Err}
 use Rattle.std.proofs.lemmas.Bool.{cases_Bool, true≢false}

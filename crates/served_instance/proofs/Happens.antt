@@ -79,7 +79,8 @@ replies_end q (r ∷ rs) h = (items_end q r.items.items h.0, replies_end q rs h.
 
 -- ---- what is held
 
--- the instance did something in a pool, and gives what is held so often; connections took that, or it was released
+-- the instance did something in a pool, and gives what is held so often; connections took that, or
+-- it was released
 pub record IsAnswered (given : Holders) (IsGood : SourceTexts → Type 0) (p q r : Slots) (i j : InstanceSlots) (vs ws : List ServedConnection) : Type 0 where
   pub kept : IsServedInPool p (slots_at i vs)
   pub moves : Moves p q (holders_of_instance i) (λ k. holders_of_instance j k + given k)

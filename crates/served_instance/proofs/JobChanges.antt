@@ -1,4 +1,5 @@
--- Whatever happens to an instance, its jobs change only as a queue of jobs may: one change after another.
+-- Whatever happens to an instance, its jobs change only as a queue of jobs may: one change after
+-- another.
 use Rattle.std.proofs.Common.{◌≡◌, ℕ, List, [], ◌∷◌, ◌++◌, Option, Some, None, refl, sym, ap, ◌∙◌, inl, inr}
 use Rattle.std.specs.Option.{option_map_or}
 use Rattle.conn_core.specs.declared.event.CallEvent.{CallEvent}

@@ -1,4 +1,5 @@
--- Event after event nobody watches a job that waits though it could run; so of jobs that start only calls on one connection are told.
+-- Event after event nobody watches a job that waits though it could run; so of jobs that start only
+-- calls on one connection are told.
 use Rattle.std.proofs.Common.{◌≡◌, refl, sym, ap, ◌∙◌, subst, inl, inr}
 use Rattle.std.specs.Prelude.{ℕ, List, [], ◌∷◌, ◌++◌, map, filter, Option, Some, None, Result, Ok, Err}
 use Rattle.std.specs.Option.{option_map_or}

@@ -1,5 +1,5 @@
--- What events leave where memory is refused. For the code alone, but for `broken_by`, which the code
--- and the record of a run name.
+-- What events leave where memory is refused. For the code alone, but for `broken_by`, which the
+-- code and the record of a run name.
 use Rattle.std.specs.Prelude.{◌≡◌, ◌==◌, if◌then◌else◌, ℕ, List, [], ◌∷◌}
 use Rattle.grpc_sending.specs.StoredSending.{SourceTexts}
 use Rattle.instance_core.specs.Apart.{calls_apart}

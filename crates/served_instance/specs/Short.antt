@@ -51,16 +51,16 @@ after_break_all s l = lone_at_rest (record l {
 abbrev pub without_job : ℕ → InstanceState → InstanceState
 without_job n s = record s { jobs = jobs_without n s.jobs }
 
--- of what the run of a job left a front was admitted, and then perhaps its result stored; the job is
--- gone, and so are all connections
+-- of what the run of a job left a front was admitted, and then perhaps its result stored; the job
+-- is gone, and so are all connections
 pub record IsEndedInPart (n : ℕ) (outcome : OutcomeValue) (l m : LoneInstance) : Type 0 where
   pub left : InstanceState
   pub made : MadeInPart (ending_changes l.state outcome (running_job n l.state.jobs)) l.state left
   pub gone : m ≡ after_break_all (without_job n left) l
 
--- no job starts then, and none times out. A connection that was to be opened is not there; where time
--- went on, old uploads are forgotten, and all connections are gone; what takes no memory is never
--- refused for it
+-- no job starts then, and none times out. A connection that was to be opened is not there; where
+-- time went on, old uploads are forgotten, and all connections are gone; what takes no memory is
+-- never refused for it
 abbrev pub IsCutEffect : WhatValue → LoneInstance → LoneInstance → Type 0
 IsCutEffect (opened c) l m = m ≡ lone_at_rest l
 IsCutEffect (received c bytes) l m = IsBrokenOff c bytes l m

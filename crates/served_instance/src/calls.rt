@@ -217,8 +217,8 @@ pub(crate) fn break_off(
     instance.forget(number);
 }
 
-/// All connections go after memory was refused: whatever they stand for, the sources of their ranges
-/// are released, and all calls are forgotten. This takes no memory.
+/// All connections go after memory was refused: whatever they stand for, the sources of their
+/// ranges are released, and all calls are forgotten. This takes no memory.
 pub(crate) fn break_off_all(
     pool: &mut Pool,
     instance: &mut Instance,

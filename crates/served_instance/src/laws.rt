@@ -33,8 +33,8 @@ pub fn want_of_memory_keeps_jobs()
 
 /// An event that was refused for want of memory loses a blob only as any event does: it stood
 /// behind others, each of which stood before it already or was used or admitted by the calls that
-/// the event brings, or left by the run that it tells of; and these have more bytes together with it
-/// than the quota, or are more than 65,536.
+/// the event brings, or left by the run that it tells of; and these have more bytes together with
+/// it than the quota, or are more than 65,536.
 pub fn want_of_memory_loses_blobs_for_room()
     ensures { (parent : List Blob) (e : EventValue) (l m : LoneInstance) → IsInstanceWithin l.state
         → Short parent e l m

@@ -1,4 +1,5 @@
--- The slots that instances hold: by the entries of their views, by their jobs, and by the ranges of their connections.
+-- The slots that instances hold: by the entries of their views, by their jobs, and by the ranges of
+-- their connections.
 use Rattle.std.proofs.Common.{◌≡◌, ℕ, ◌+◌, List, [], ◌∷◌, ◌++◌, map, refl, sym, ap, ◌∙◌, arith}
 use Rattle.std.specs.List.{flat_map}
 use Rattle.std.proofs.lemmas.List.{map-append}

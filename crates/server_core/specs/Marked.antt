@@ -23,8 +23,8 @@ MarkedEvent = FamilyEvent × Bool
 abbrev pub event_of : MarkedEvent → FamilyEvent
 event_of e = e.0
 
--- there was no other reason to refuse the event; it was done in part, nothing was ordered, and it is
--- recorded
+-- there was no other reason to refuse the event; it was done in part, nothing was ordered, and it
+-- is recorded
 pub record IsShortStep (parent : List Blob) (r : Run) (e : EventValue) (q : Run) : Type 0 where
   pub accepted : refusal_of e r.lone ≡ None
   pub lone : Short parent e r.lone q.lone
@@ -32,8 +32,8 @@ pub record IsShortStep (parent : List Blob) (r : Run) (e : EventValue) (q : Run)
   pub orders : q.orders ≡ r.orders
   pub refusals : q.refusals ≡ r.refusals ++ (r.count + 1, NoMemory) ∷ []
 
--- a step of an instance's run, while its parent has these texts: a marked event is done in part, any
--- other as it is done otherwise
+-- a step of an instance's run, while its parent has these texts: a marked event is done in part,
+-- any other as it is done otherwise
 abbrev pub IsRunStep : List Blob → Run → EventValue → Bool → Run → Type 0
 IsRunStep parent r e false q = q ≡ run_step parent r e
 IsRunStep parent r e true q = IsShortStep parent r e q

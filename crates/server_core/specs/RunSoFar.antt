@@ -53,8 +53,8 @@ pub record HasPassed (configs : List ConfigValue) (events : List EventValue)
       i (parent_of configs config) v
   pub strays : v.strays ≡ strays configs events
 
--- each of the server's instances keeps its limits and has a record, which counts no more events than
--- there were; and each parent is another instance, which has none
+-- each of the server's instances keeps its limits and has a record, which counts no more events
+-- than there were; and each parent is another instance, which has none
 pub record IsRunning (v : RunValue) : Type 0 where
   pub within : AllByRecursion IsServedWithin v.server.instances
   pub parents : AreParents v.server.parents

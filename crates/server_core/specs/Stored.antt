@@ -30,8 +30,9 @@ texts_of_all (v ∷ vs) = own_texts v ++ texts_of_all vs
 abbrev pub texts_held : ServerState → List (List ℕ)
 texts_held s = texts_of_all s.instances
 
--- those of an instance by itself: of its blobs, of its jobs, and of each range that a live stream of
--- an open connection is owed and that is not wholly put, where no error of the connection was met
+-- those of an instance by itself: of its blobs, of its jobs, and of each range that a live stream
+-- of an open connection is owed and that is not wholly put, where no error of the connection was
+-- met
 abbrev pub lone_texts : LoneInstance → List (List ℕ)
 lone_texts l = texts_of l.state.visible ++ texts_of_jobs l.state.jobs ++ lone_ranges l
 

@@ -43,20 +43,20 @@ pub fn without_a_parent_it_is_by_itself()
         ≡ output_of_run (run_of config (own_events i events)) }
 {}
 
-/// Nothing that happens to an instance reaches the one that it builds on: in a run of both the parent
-/// comes as far as by its own events alone.
+/// Nothing that happens to an instance reaches the one that it builds on: in a run of both the
+/// parent comes as far as by its own events alone.
 pub fn a_parent_is_by_itself()
     ensures { (family : Family) (i p : ℕ) (events : List EventValue) → p ≢ i
         → (run_of_family family (family_events i (Some p) events)).parent
         ≡ option_map (λ config. run_of config (own_events p events)) family.parent }
 {}
 
-/// An instance keeps its limits through every run of it and its parent. So its texts never have more
-/// bytes together than its quota, nor have its unfinished uploads, of which there are 64 at most; it has
-/// at most 10,000 results of actions, of 67,108,864 bytes together; no more jobs run than it has
-/// slots, and at most 1,000 wait; and each text is what its digest says: the hash is the text's, by
-/// SHA-256 or by SHA-512 as its length says, and the size its length. Exit codes of runs are numbers
-/// of 32 bits.
+/// An instance keeps its limits through every run of it and its parent. So its texts never have
+/// more bytes together than its quota, nor have its unfinished uploads, of which there are 64 at
+/// most; it has at most 10,000 results of actions, of 67,108,864 bytes together; no more jobs run
+/// than it has slots, and at most 1,000 wait; and each text is what its digest says: the hash is
+/// the text's, by SHA-256 or by SHA-512 as its length says, and the size its length. Exit codes of
+/// runs are numbers of 32 bits.
 pub fn a_run_keeps_its_limits()
     ensures { (family : Family) (events : List FamilyEvent) → AreLimited family
         → AllByRecursion IsNarrow (map event_in events)
@@ -68,7 +68,8 @@ pub fn a_run_keeps_its_limits()
 /// all that a run is lent is of one task.
 pub fn a_job_keeps_its_task()
     ensures run { (family : Family) (earlier later : List FamilyEvent) (n : ℕ)
-        (task other : TaskValue) → AreLimited family → AllByRecursion IsNarrow (map event_in earlier)
+        (task other : TaskValue) → AreLimited family
+        → AllByRecursion IsNarrow (map event_in earlier)
         → task_of n (run_of_family family earlier).own.lone.state.jobs ≡ Some task
         → task_of n (run_of_family family (earlier ++ later)).own.lone.state.jobs ≡ Some other
         → other ≡ task }
@@ -90,8 +91,8 @@ pub fn without_refusals_of_memory_it_is_alone()
 {}
 
 /// What the instances of a server hold is what each has by itself: the texts of its blobs, those
-/// that its jobs keep which wait or run, and one for each Read of which a message is not wholly put,
-/// on a live stream of an open connection of which no error was met; and nothing else.
+/// that its jobs keep which wait or run, and one for each Read of which a message is not wholly
+/// put, on a live stream of an open connection of which no error was met; and nothing else.
 pub fn what_is_held_is_what_instances_have()
     ensures { (s : ServerState) (ls : List LoneInstance) → AllStand s.instances ls
         → texts_held s ≡ flat_map lone_texts ls }

@@ -1,5 +1,5 @@
-//! A server of many instances, each of which gives what it would give alone, or with the one that it
-//! builds on; whole runs of it, and the record of what each instance's run gives.
+//! A server of many instances, each of which gives what it would give alone, or with the one that
+//! it builds on; whole runs of it, and the record of what each instance's run gives.
 #![tactic(auto)]
 
 mod laws;

@@ -132,8 +132,8 @@ impl Server {
     /// gives the orders to whoever runs jobs; or memory is refused, and its instance did a part of
     /// it (`Short`) and goes on from there. No other instance changes, its parent neither.
     pub fn step(&mut self, event: Event) -> Result<Vec<Order>, EventRefusal>
-        // The event's instance does what it would do by itself beside the texts of its parent, which
-        // is nothing where it refuses.
+        // The event's instance does what it would do by itself beside the texts of its parent,
+        // which is nothing where it refuses.
         ensures own { result ≢ Err EventRefusal.NoMemory → (l : LoneInstance)
             → StandsAt event.instance self.old.instances l
             → StandsAt event.instance self.new.instances
@@ -208,10 +208,10 @@ impl Server {
         self.instance(instance)?.has_calls(connection)
     }
 
-    /// The texts that the instances hold: those of their blobs, those that their jobs keep which wait
-    /// or run, and each text of which a range is still to be put. After every event, also a refused
-    /// one, the pool has each of them in one slot, which counts how often they hold it, and nothing
-    /// else.
+    /// The texts that the instances hold: those of their blobs, those that their jobs keep which
+    /// wait or run, and each text of which a range is still to be put. After every event, also a
+    /// refused one, the pool has each of them in one slot, which counts how often they hold it, and
+    /// nothing else.
     pub fn stored_texts(&self) -> StoredTexts<'_>
         ensures pool { IsPoolOf result.pool.now (texts_held self.now) }
         ensures count { AreStored (texts_held self.now) result.texts result.bytes }
@@ -227,8 +227,8 @@ impl Server {
         }
     }
 
-    /// How many different texts the instances hold, and how many bytes these have together. One that
-    /// is held several times counts once.
+    /// How many different texts the instances hold, and how many bytes these have together. One
+    /// that is held several times counts once.
     pub fn stored(&self) -> (u64, u128)
         ensures held { AreStored (texts_held self.now) result.0 result.1 }
         // What the instances hold is what each has by itself.
@@ -239,8 +239,8 @@ impl Server {
         (stored.texts, stored.bytes)
     }
 
-    /// The task of the job that runs under a number at an instance, where one does, with the pool in
-    /// which its texts lie.
+    /// The task of the job that runs under a number at an instance, where one does, with the pool
+    /// in which its texts lie.
     pub fn lend(&self, instance: u32, job: u64) -> Option<LentTask<'_>>
         ensures task { (v : ServedState) → instance_at instance self.now.instances ≡ Some v
             → option_map lent_shown result ≡ task_of job v.state.jobs }

@@ -63,11 +63,19 @@ impl Model for ServerRun {
 
     ghost Value = { RunValue };
 
-    ghost view = { λ r. record
-        { server = r.server; records = r.records.items; strays = r.strays.items; count = r.count } };
+    ghost view = { λ r. record {
+      server = r.server;
+      records = r.records.items;
+      strays = r.strays.items;
+      count = r.count;
+    } };
 
-    ghost invariant = { λ r. IsRunning (record
-        { server = r.server; records = r.records.items; strays = r.strays.items; count = r.count }) };
+    ghost invariant = { λ r. IsRunning (record {
+      server = r.server;
+      records = r.records.items;
+      strays = r.strays.items;
+      count = r.count;
+    }) };
 }
 
 impl ServerRun {
@@ -209,9 +217,9 @@ pub fn run(alloc: Global, configs: &Configs, events: Vec<Event>) -> Result<Outpu
 }
 
 /// Runs a server through events, also past those that are refused for want of memory. What each
-/// instance gives is a run of it and its parent by themselves, over the events of both, in which just
-/// those that are recorded so, of it and of its parent, were done in part. An error is want of memory
-/// for the new server or for the record.
+/// instance gives is a run of it and its parent by themselves, over the events of both, in which
+/// just those that are recorded so, of it and of its parent, were done in part. An error is want of
+/// memory for the new server or for the record.
 pub fn run_on(alloc: Global, configs: &Configs, events: Vec<Event>) -> Result<Outputs, AllocError>
     ensures may { IfOk result (λ outputs. (i : ℕ) (config : ConfigValue)
         → config_at i configs.now ≡ Some config

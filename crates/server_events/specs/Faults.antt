@@ -18,7 +18,8 @@ pub record AreGood (configs : List ConfigValue) : Type 0 where
   pub distinct : AllPairs (λ earlier later. later.name ≢ earlier.name) configs
 
 -- another one of these instances has the name, and builds on none
-pub record IsNameOfParent (configs : List ConfigValue) (config : ConfigValue) (name : List ℕ) : Type 0 where
+pub record IsNameOfParent (configs : List ConfigValue) (config : ConfigValue)
+    (name : List ℕ) : Type 0 where
   pub parent : ConfigValue
   pub there : Contains configs parent
   pub named : parent.name ≡ name
@@ -89,4 +90,5 @@ pub record IsParentAt (parents : List (Option ℕ)) (child parent : ℕ) : Type 
 -- each instance that builds on one builds on another one of these, which builds on none
 abbrev pub AreParents : List (Option ℕ) → Type 0
 AreParents parents =
-    (child parent : ℕ) → slice_get parents child ≡ Some (Some parent) → IsParentAt parents child parent
+    (child parent : ℕ) → slice_get parents child ≡ Some (Some parent) →
+    IsParentAt parents child parent

@@ -30,7 +30,8 @@ pub record IsInstanceName (name : List ℕ) : Type 0 where
 -- the same as a test
 abbrev pub is_instance_name : List ℕ → Bool
 is_instance_name name =
-    not (length name == 0) && nat_le (length name) longest_name && list_all is_instance_name_byte name
+    not (length name == 0) && nat_le (length name) longest_name
+    && list_all is_instance_name_byte name
     && not (list_any (bytes_eq name) resource_words)
 
 -- the most bytes that an instance may be given: 2^40

@@ -19,8 +19,8 @@ pub fn the_fault_is_the_first(configs: &[InstanceConfig])
         ↔ IsFaultOf (map config_value configs.now) fault }
 {}
 
-/// Where configurations have no fault, an instance that builds on one builds on another one of them,
-/// and that builds on none.
+/// Where configurations have no fault, an instance that builds on one builds on another one of
+/// them, and that builds on none.
 pub fn a_parent_builds_on_none(configs: &[InstanceConfig])
     ensures { config_fault (map config_value configs.now) ≡ None
         → AreParents (parents_of (map config_value configs.now)) }

@@ -1,4 +1,5 @@
--- How long texts are, beside what they say: what is read is no longer than its text, and what is written not much longer.
+-- How long texts are, beside what they say: what is read is no longer than its text, and what is
+-- written not much longer.
 use Rattle.std.proofs.Common.{◌≡◌, ℕ, ◌+◌, ◌*◌, ◌^◌, ◌<◌, ◌≤◌, Bool, true, false, cond, eqb, List, [], ◌∷◌, ◌++◌, length, Result, Ok, Err, refl, ap, ◌∙◌, arith}
 use Rattle.std.specs.Int.{w64, cast_signed, cast_unsigned}
 use Rattle.std.specs.List.{AllByRecursion}

@@ -90,8 +90,8 @@ fn serve_over<S: Sockets>(
     Ok(Some(tally))
 }
 
-/// Serves instances without slots over sockets for so many turns: nothing is to be run, nothing told,
-/// and no memory refused. All that happens at the sockets is in their log.
+/// Serves instances without slots over sockets for so many turns: nothing is to be run, nothing
+/// told, and no memory refused. All that happens at the sockets is in their log.
 pub fn serve_alone<S: Sockets>(
     configs: &Configs,
     sockets: &mut LoggedSockets<S>,

@@ -166,8 +166,8 @@ fn peers<'a>(
     peers
 }
 
-/// Whether a client received what a log says was written to its connection. Those of an instance are
-/// accepted in the order in which they connected.
+/// Whether a client received what a log says was written to its connection. Those of an instance
+/// are accepted in the order in which they connected.
 fn is_as_logged(log: &[SocketRecord], peers: &[Peer<'_>], place: usize) -> bool {
     let Some(peer) = peers.get(place) else {
         return false;

@@ -52,6 +52,7 @@ CASES = [
     folders.links_listed,
     folders.files_of_pieces,
     folders.large_directory,
+    folders.dear_although_little,
     folders.remover_killed,
     folders.remover_stopped,
     folders.names_of_removal,

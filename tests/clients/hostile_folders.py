@@ -519,6 +519,26 @@ for name in os.listdir():
     return f"blue's {len(took)} actions took {max(took):.2f} s at most"
 
 
+def dear_although_little(stage):
+    """Little is in a run's folder, and its removal takes long: each step waits for the disk, gigabytes of a file without
+    blocks are in memory, or the system remembers many names that are not there."""
+    scripts = [
+        "chattr +D .; for name in $(seq 20); do mkdir $name; (cd $name; seq 120 | xargs touch); done",
+        "truncate -s 2G file; cat file > /dev/null",
+        python("import os\nfor number in range(1_000_000): os.path.exists(str(number))"),
+    ]
+    with stage.serve() as (server, red):
+        took = []
+        for script in scripts:
+            for _ in range(2):
+                stage.runs(red, script)
+                end = time.monotonic() + 2
+                while time.monotonic() < end:
+                    took.append(stage.blue_runs(server))
+        stage.nothing_left(server, 60)
+    return f"blue's {len(took)} actions took {max(took):.2f} s at most"
+
+
 def remover_killed(stage):
     """What removes folders for the server is killed fifty times a second."""
     killed, is_over = 0, threading.Event()
@@ -553,11 +573,17 @@ def remover_stopped(stage):
     """What removes folders for the server is stopped (SIGSTOP), and so is the program that it has started for one."""
     with stage.serve() as (server, red):
         stage.runs(red, "true")
-        os.kill(stage.helper(server, programs.REMOVES_FOLDERS), signal.SIGSTOP)
+        is_told = lambda: any("actions wait, as folders are still to be removed: 6" in line for line in server.said())
+        count = 0
+        while count < 500 and not is_told():
+            for helper in programs.helpers(stage.folder, server.process.pid, programs.REMOVES_FOLDERS):
+                os.kill(helper, signal.SIGSTOP)
+            # too much for the server to remove it by itself
+            stage.runs(red, "seq 200 | xargs touch")
+            count += 1
+        expect(is_told(), True, "a line says that actions wait")
         begun = time.monotonic()
-        for _ in range(70):
-            stage.runs(red, "mkdir -p a/b")
-        stage.nothing_left(server)
+        stage.nothing_left(server, 30)
         took = time.monotonic() - begun
         # so many files that the program which removes them is found at it
         stage.runs(red, "seq 100000 | xargs touch")
@@ -565,13 +591,13 @@ def remover_stopped(stage):
         programs.settled(lambda: not look(), 5 * stage.slow)
         for number in look():
             os.kill(number, signal.SIGSTOP)
-        stage.runs(red, "mkdir -p a/b")
+        stage.runs(red, "seq 200 | xargs touch")
         try:
             stage.nothing_left(server, 30)
         finally:
             programs.end_stopped(stage.folder)
         stage.blue_runs(server)
-    return f"another one takes its place: 70 folders were gone after {took:.1f} s"
+    return f"another one takes its place: the folders of {count} runs were gone after {took:.1f} s"
 
 
 def names_of_removal(stage):

@@ -1,351 +1,15 @@
 //! Folders of this host.
 
-ghost use Rattle.std.specs.Prelude.{◌≡◌, ◌≤◌, IfOk, length};
+ghost use Rattle.std.specs.Prelude.{◌≡◌};
 ghost use Rattle.run_calls.specs.Failures.{Counts};
 
-use crate::directory::{COMMON_MODE, Directory, PRIVATE_MODE};
-use crate::entering::{Entered, Entrance};
-use crate::files::{Kept, again, list_in, look_in, open_to_add, open_to_read};
-use crate::opener::{Opener, Target};
-use crate::remover::Remover;
-use crate::removing::Removal;
-use crate::tallies::Tallies;
+use crate::counts::FolderCounts;
+use crate::folders::Folders;
 use crate::work::Work;
-use host_files::{
-    aside_name, file_path, found_at, is_absence, left_path, node_path, parted, read_part, root_name,
-};
-use host_shells::Removing;
 use run_calls::{Entry, FileFacts, Folder, Found, Place, RunKey};
-use std::fs::{File, OpenOptions, Permissions};
-use std::io::{self, ErrorKind, Write};
-use std::os::unix::fs::{OpenOptionsExt, PermissionsExt, symlink};
+use std::io;
 use std::rc::RcStr;
 use tree_nodes::NodeKind;
-
-/// How a file, and one that may be executed, can be used.
-const FILE_MODE: u32 = 0o644;
-
-const EXECUTABLE_MODE: u32 = 0o755;
-
-/// Folders in the folder of a start, and what is open there. Paths go from that on.
-#[derive(Drop)]
-struct Folders<'a> {
-    rt: &'a HostRuntime,
-    work: Work,
-    entrance: Entrance<'a>,
-    /// What opens files that a run left, where a program may have leases on them.
-    opener: Option<Opener<'a>>,
-    /// The file that was made last. It is closed before a program starts, as one that is open to be
-    /// written cannot be executed.
-    made: Option<Kept>,
-    /// The file of which a part was read last, or is to be read next.
-    read: Option<Kept>,
-    /// Why the file that is to be read next could not be opened, if it could not.
-    unopened: Option<io::Error>,
-    remover: Remover<'a>,
-    /// How many directories were moved in order to be removed.
-    moved: u64,
-    /// How much was gathered of runs.
-    tallies: Tallies,
-}
-
-fn make_file(rt: &HostRuntime, path: &str, is_executable: bool) -> io::Result<File> {
-    let mode = if is_executable {
-        EXECUTABLE_MODE
-    } else {
-        FILE_MODE
-    };
-    let file: File = OpenOptions::new()
-        .append(true)
-        .create_new(true)
-        .mode(mode)
-        .open(rt, path)?;
-    // Whatever the process's own mask takes away.
-    file.set_permissions(Permissions::from_mode(mode))?;
-    Ok(file)
-}
-
-impl<'a> Folders<'a> {
-    /// Whether the folder of a run may be made.
-    fn has_room(&mut self, run: RunKey) -> bool {
-        self.remover.has_room(&self.work, run.instance)
-    }
-
-    /// Makes the folder of a run, and the one aside.
-    fn make_root(&mut self, run: RunKey) -> io::Result<()> {
-        self.work.clear_some(self.rt);
-        self.tallies.begin(run)?;
-        let answer = self.make_both(run);
-        if answer.is_err() {
-            self.tallies.end(run);
-        }
-        answer
-    }
-
-    fn make_both(&self, run: RunKey) -> io::Result<()> {
-        let alloc = self.rt.alloc();
-        let start = self.work.start()?;
-        let aside = aside_name(alloc, run)?;
-        start.make_dir(alloc, aside.as_str(), PRIVATE_MODE)?;
-        let root = root_name(alloc, run)?;
-        let answer = start.make_dir(alloc, root.as_str(), PRIVATE_MODE);
-        if answer.is_err() {
-            start.remove_dir(aside.as_bytes())?;
-        }
-        answer
-    }
-
-    fn make_node(
-        &mut self,
-        run: RunKey,
-        names: &[RcStr],
-        kind: &NodeKind<usize>,
-    ) -> io::Result<()> {
-        self.made = None;
-        let path = node_path(self.rt.alloc(), run, names)?;
-        let (above, name) = parted(path.as_str());
-        let entered = self.entrance.enter(self.work.start()?, above)?;
-        let answer = self.make_node_in(&entered.directory, name, kind);
-        self.entrance.keep(entered);
-        if let Some(file) = answer? {
-            self.made = Some(Kept::new(path, file));
-        }
-        Ok(())
-    }
-
-    /// Makes a node in a directory. A file is open then, to be written.
-    fn make_node_in(
-        &self,
-        directory: &Directory,
-        name: &str,
-        kind: &NodeKind<usize>,
-    ) -> io::Result<Option<File>> {
-        let alloc = self.rt.alloc();
-        match kind {
-            NodeKind::Directory { .. } => directory.make_dir(alloc, name, COMMON_MODE)?,
-            NodeKind::Symlink { target } => {
-                let path = directory.path_of(alloc, name)?;
-                let target: &str = target;
-                symlink(self.rt, target, path.as_str())?;
-            }
-            NodeKind::File { is_executable, .. } => {
-                let path = directory.path_of(alloc, name)?;
-                return Ok(Some(make_file(self.rt, path.as_str(), *is_executable)?));
-            }
-        }
-        Ok(None)
-    }
-
-    fn write(&mut self, run: RunKey, names: &[RcStr], bytes: &[u8]) -> io::Result<()> {
-        let path = node_path(self.rt.alloc(), run, names)?;
-        let mut file = match again(self.made.take(), path.as_str()) {
-            Some(file) => file,
-            None => self.open_made(path.as_str())?,
-        };
-        file.write_all(bytes)?;
-        self.made = Some(Kept::new(path, file));
-        Ok(())
-    }
-
-    /// Opens a file that was made, to add to it.
-    fn open_made(&mut self, path: &str) -> io::Result<File> {
-        let (above, name) = parted(path);
-        let entered = self.entrance.enter(self.work.start()?, above)?;
-        let answer = open_to_add(self.rt, &entered.directory, name);
-        self.entrance.keep(entered);
-        answer
-    }
-
-    fn make_working_directory(&mut self, place: &Place) -> io::Result<()> {
-        self.made = None;
-        let path = left_path(self.rt.alloc(), place, "", &[])?;
-        self.make_directory(path.as_str())
-    }
-
-    fn make_parents(&mut self, place: &Place, path: &str) -> io::Result<()> {
-        self.tallies.add_output(place.run)?;
-        let (above, _) = parted(path);
-        let path = left_path(self.rt.alloc(), place, above, &[])?;
-        self.make_directory(path.as_str())
-    }
-
-    /// Makes a directory and those above it, where they are not there.
-    fn make_directory(&mut self, path: &str) -> io::Result<()> {
-        let entered = self.entrance.make(self.work.start()?, path)?;
-        self.entrance.keep(entered);
-        Ok(())
-    }
-
-    /// The directory at a path, unless something on the way is not there or no directory.
-    fn entered(&mut self, path: &str) -> io::Result<Option<Entered>> {
-        match self.entrance.enter(self.work.start()?, path) {
-            Ok(entered) => Ok(Some(entered)),
-            Err(error) if is_absence(&error) => Ok(None),
-            Err(error) => Err(error),
-        }
-    }
-
-    fn look(&mut self, place: &Place, path: &str, names: &[String]) -> io::Result<Found> {
-        let path = left_path(self.rt.alloc(), place, path, names)?;
-        let (above, name) = parted(path.as_str());
-        let Some(entered) = self.entered(above)? else {
-            return Ok(Found::Nothing);
-        };
-        let answer = look_in(self.rt, &entered.directory, name);
-        self.entrance.keep(entered);
-        answer
-    }
-
-    fn file(
-        &mut self,
-        place: &Place,
-        path: &str,
-        names: &[String],
-    ) -> io::Result<Option<FileFacts>> {
-        match self.look(place, path, names)? {
-            Found::File(facts) => Ok(Some(facts)),
-            Found::Nothing | Found::Other | Found::Directory => Ok(None),
-        }
-    }
-
-    fn list(
-        &mut self,
-        place: &Place,
-        path: &str,
-        names: &[String],
-        most: usize,
-    ) -> io::Result<Vec<Entry>> {
-        let path = left_path(self.rt.alloc(), place, path, names)?;
-        let entered = self.entrance.enter(self.work.start()?, path.as_str())?;
-        let answer = list_in(self.rt, &entered.directory, most);
-        self.entrance.keep(entered);
-        let entries = answer?;
-        self.tallies.add_entries(place.run, entries.len())?;
-        Ok(entries)
-    }
-
-    /// Whether a file is open, where somebody else may keep whoever opens it waiting.
-    fn is_ready(
-        &mut self,
-        place: &Place,
-        path: &str,
-        above: &[String],
-        name: Option<&str>,
-    ) -> io::Result<bool> {
-        if self.opener.is_none() {
-            return Ok(true);
-        }
-        let path = file_path(self.rt.alloc(), place, path, above, name)?;
-        if self
-            .read
-            .as_ref()
-            .is_some_and(|kept| kept.is_at(path.as_str()))
-        {
-            return Ok(true);
-        }
-        let Some(file) = self.open_left(place.run, path.as_str())? else {
-            return Ok(false);
-        };
-        self.read = Some(Kept::new(path, file));
-        Ok(true)
-    }
-
-    fn read(
-        &mut self,
-        place: &Place,
-        path: &str,
-        names: &[String],
-        from: u64,
-        most: u32,
-    ) -> io::Result<Vec<u8>>
-        ensures { IfOk result (λ bytes. length bytes.items ≤ most) }
-    {
-        if let Some(error) = self.unopened.take() {
-            return Err(error);
-        }
-        let alloc = self.rt.alloc();
-        let path = left_path(alloc, place, path, names)?;
-        let file = match again(self.read.take(), path.as_str()) {
-            Some(file) => file,
-            None => {
-                let opened = self.open_left(place.run, path.as_str())?;
-                opened.ok_or(io::Error::from(ErrorKind::WouldBlock))?
-            }
-        };
-        let bytes = read_part(alloc, &file, from, most)?;
-        if !bytes.is_empty() {
-            self.read = Some(Kept::new(path, file));
-        }
-        Ok(bytes)
-    }
-
-    /// Opens a file that a run left, to read it, unless it is to be asked for again.
-    fn open_left(&mut self, run: RunKey, path: &str) -> io::Result<Option<File>> {
-        let alloc = self.rt.alloc();
-        let (above, name) = parted(path);
-        let start = self.work.start()?;
-        let entered = self.entrance.enter(start, above)?;
-        let aside = start.open_in(aside_name(alloc, run)?.as_bytes())?;
-        let answer = match &mut self.opener {
-            Some(opener) => opener.open(Target {
-                run,
-                path,
-                directory: &entered.directory,
-                name,
-                aside: &aside,
-            }),
-            None => open_to_read(self.rt, &entered.directory, name, &aside).map(Some),
-        };
-        self.entrance.keep(entered);
-        answer
-    }
-
-    fn remove(&mut self, run: RunKey) -> io::Result<bool> {
-        if !self.remover.has(run) {
-            self.let_go(run)?;
-        }
-        self.work.clear_some(self.rt);
-        let Ok(root) = root_name(self.rt.alloc(), run) else {
-            // It is asked for again.
-            return Ok(false);
-        };
-        match self.remover.remove(&self.work, run, root.as_str()) {
-            Removing::Waits => Ok(false),
-            Removing::Done | Removing::Alone => self.remove_some(run, root.as_str()),
-        }
-    }
-
-    /// Closes what is open of a run whose folder is to be removed, and forgets the run.
-    fn let_go(&mut self, run: RunKey) -> io::Result<()> {
-        self.made = None;
-        self.read = None;
-        self.tallies.end(run);
-        if let Some(opener) = &mut self.opener {
-            opener.forget(run)?;
-        }
-        self.entrance.leave();
-        Ok(())
-    }
-
-    /// Removes some of the folder of a run, which has this name, where no shell can, or what a shell
-    /// has left. Whether nothing is left.
-    fn remove_some(&mut self, run: RunKey, root: &str) -> io::Result<bool> {
-        let alloc = self.rt.alloc();
-        let start = self.work.start()?;
-        let aside = aside_name(alloc, run)?;
-        let mut removal = Removal {
-            alloc,
-            start,
-            aside: aside.as_str(),
-            moved: &mut self.moved,
-        };
-        let path = start.path_of(alloc, root)?;
-        match found_at(self.rt, path.as_str())? {
-            Some(_) => removal.remove(start, root),
-            None => removal.remove_some(),
-        }
-    }
-}
 
 /// Folders in that of a start: that of job 3 of instance 1 is `1-3` there. Where something of that
 /// name is there already, it is not made. No link is followed below it.
@@ -356,21 +20,10 @@ pub struct HostFolder<'a> {
 }
 
 impl<'a> HostFolder<'a> {
-    /// Folders where a start has its place.
-    pub fn new(rt: &'a HostRuntime, work: Work) -> HostFolder<'a> {
+    /// Folders where a start has its place. What is still to be removed of them is counted there.
+    pub fn new(rt: &'a HostRuntime, work: Work, counts: &'a FolderCounts) -> HostFolder<'a> {
         HostFolder {
-            folders: Folders {
-                rt,
-                work,
-                entrance: Entrance::new(rt),
-                opener: None,
-                made: None,
-                read: None,
-                unopened: None,
-                remover: Remover::new(rt),
-                moved: 0,
-                tallies: Tallies::new(rt.alloc()),
-            },
+            folders: Folders::new(rt, work, counts),
             faults: 0,
         }
     }
@@ -378,12 +31,7 @@ impl<'a> HostFolder<'a> {
     /// From now on no lease on a file that a run left keeps the server waiting, if that is possible
     /// here. Whether it is.
     pub fn guard_against_leases(&mut self) -> io::Result<bool> {
-        let mut opener = Opener::new(self.folders.rt);
-        let can_open = opener.can_open(self.folders.work.start()?)?;
-        if can_open {
-            self.folders.opener = Some(opener);
-        }
-        Ok(can_open)
+        self.folders.guard_against_leases()
     }
 
     /// Counts a call that failed.
@@ -475,15 +123,7 @@ impl<'a> Folder for HostFolder<'a> {
         above: &[String],
         name: Option<&str>,
     ) -> bool {
-        let answer = self.folders.is_ready(place, path, above, name);
-        self.folders.unopened = None;
-        match answer {
-            Ok(is_ready) => is_ready,
-            Err(error) => {
-                self.folders.unopened = Some(error);
-                true
-            }
-        }
+        self.folders.is_ready(place, path, above, name)
     }
 
     fn read(

@@ -1,6 +1,7 @@
 //! What removes folders of runs beside the server: a shell for each instance. So nobody waits where
 //! that takes long, but the removals of the same instance.
 
+use crate::counts::FolderCounts;
 use crate::work::Work;
 use host_shells::{Removing, RemovingShells};
 use run_calls::RunKey;
@@ -19,14 +20,16 @@ struct OfInstance {
 #[derive(Drop)]
 pub(crate) struct Remover<'a> {
     rt: &'a HostRuntime,
+    counts: &'a FolderCounts,
     instances: Vec<OfInstance>,
 }
 
 impl<'a> Remover<'a> {
     /// No shell stands yet.
-    pub(crate) fn new(rt: &'a HostRuntime) -> Remover<'a> {
+    pub(crate) fn new(rt: &'a HostRuntime, counts: &'a FolderCounts) -> Remover<'a> {
         Remover {
             rt,
+            counts,
             instances: Vec::new(rt.alloc()),
         }
     }
@@ -36,12 +39,16 @@ impl<'a> Remover<'a> {
         let Some(paths) = work.paths() else {
             return true;
         };
-        let rt = self.rt;
-        match self.shells_of(instance) {
+        let (rt, counts) = (self.rt, self.counts);
+        let has_room = match self.shells_of(instance) {
             Some(shells) => shells.has_room(rt, [paths.shown, paths.whole], MOST_LEFT),
             // There is no memory now.
             None => false,
+        };
+        if !has_room {
+            counts.add_held(instance);
         }
+        has_room
     }
 
     /// Whether the folder of a run is being removed.
@@ -55,11 +62,13 @@ impl<'a> Remover<'a> {
         let Some(paths) = work.paths() else {
             return Removing::Alone;
         };
-        let rt = self.rt;
-        match self.shells_of(run.instance) {
-            Some(shells) => shells.remove(rt, [paths.shown, paths.whole], run.job, name),
-            None => Removing::Waits,
-        }
+        let (rt, counts) = (self.rt, self.counts);
+        let Some(shells) = self.shells_of(run.instance) else {
+            return Removing::Waits;
+        };
+        let answer = shells.remove(rt, [paths.shown, paths.whole], run.job, name);
+        counts.set_left(run.instance, shells.left());
+        answer
     }
 
     /// What removes folders of an instance, unless there is no memory for it.

@@ -127,7 +127,7 @@ fn move_aside(
 }
 
 /// Removes what has a name in a directory, unless that is a directory itself. Whether it is one.
-fn unlink(directory: &Directory, name: &[u8]) -> io::Result<bool> {
+pub(crate) fn unlink(directory: &Directory, name: &[u8]) -> io::Result<bool> {
     match directory.remove_file(name) {
         Ok(()) => Ok(false),
         Err(error) if error.kind() == ErrorKind::IsADirectory => Ok(true),

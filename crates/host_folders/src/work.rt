@@ -142,8 +142,8 @@ impl Work {
 }
 
 impl Held {
-    /// Goes on with the removal of what former starts left. Whether it is to be waited for that. The
-    /// folder of this start has this path.
+    /// Goes on with the removal of what former starts left. Whether it is to be waited for that.
+    /// The folder of this start has this path.
     fn clear_some(&mut self, rt: &HostRuntime, path: &str) -> io::Result<bool> {
         if self.is_clear {
             return Ok(false);

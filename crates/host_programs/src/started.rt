@@ -19,8 +19,8 @@ use std::os::unix::process::ExitStatusExt;
 use std::process::{Child, Command, ExitStatus, Stdio};
 use std::time::{Duration, Instant};
 
-/// What follows a run's name in the paths of the files that take what its program writes. They stand
-/// in the folder beside the run's own.
+/// What follows a run's name in the paths of the files that take what its program writes. They
+/// stand in the folder beside the run's own.
 const OUTPUT_ENDING: &str = ".aside/out";
 
 const ERROR_ENDING: &str = ".aside/err";
@@ -41,9 +41,9 @@ pub(crate) enum StartedAs {
     Launcher,
 }
 
-/// A program that was started. What it writes goes into two files, so that nothing waits for whoever
-/// else writes there. They are removed with the run's folder, by what removes that: to close the
-/// last of a file of very many pieces takes as long as to remove it.
+/// A program that was started. What it writes goes into two files, so that nothing waits for
+/// whoever else writes there. They are removed with the run's folder, by what removes that: to
+/// close the last of a file of very many pieces takes as long as to remove it.
 #[derive(Drop)]
 pub(crate) struct Started {
     run: RunKey,

@@ -2,27 +2,36 @@
 
 use crate::processes::is_stopped;
 use crate::shell::{Shell, spawned};
-use std::alloc::Global;
+use std::alloc::{AllocError, Global};
 use std::io::{self, ErrorKind};
 use std::time::{Duration, Instant};
 
 /// Goes to the folder that is its first argument, or by another path to it, its second. There it
-/// removes whatever has the name of a line, or that name and `.aside` behind it, with all that is
-/// in it, and writes an empty line. The first is moved into the second before, as the system keeps
-/// everybody from the folder in which a directory is removed. A name that begins with a dot stands
-/// for itself alone. A directory that allows neither to be listed nor to be emptied is made to
-/// allow both. When nobody hears it any more it removes on what it was told. It ends with status 9
-/// where it can do nothing here, and with another one where a program that it started was killed.
+/// removes whatever has one of the names of a line, or such a name and `.aside` behind it, with all
+/// that is in it, and writes an empty line. What has the names themselves is moved into one of the
+/// folders aside before, as the system keeps everybody from the folder in which a directory is
+/// removed. A name that begins with a dot stands for itself alone. A directory that allows neither
+/// to be listed nor to be emptied is made to allow both. When nobody hears it any more it removes
+/// on what it was told. It ends with status 9 where it can do nothing here, and with another one
+/// where a program that it started was killed.
 const SCRIPT: &str = "trap '' PIPE
+set -f
 cd -- \"$1\" || cd -- \"$2\" || exit 9
-while IFS= read -r name; do
-  set -- \"$name\"
-  case $name in
+while read -r names; do
+  set -- $names
+  case $1 in
   .*) ;;
   *)
-    set -- \"$name\" \"$name.aside\"
-    /bin/mv -f -- \"$name\" \"$name.aside/\" ||
-      { /bin/chmod u+rwx -- \"$name\"; /bin/mv -f -- \"$name\" \"$name.aside/\"; }
+    aside=
+    for name in $names; do
+      set -- \"$@\" \"$name.aside\"
+      [ ! -d \"$name.aside\" ] || aside=$name.aside
+    done
+    [ ! \"$aside\" ] || /bin/mv -f -- $names \"$aside/\" ||
+      for name in $names; do
+        [ -L \"$name\" ] || [ ! -d \"$name\" ] ||
+          { /bin/chmod u+rwx -- \"$name\"; /bin/mv -f -- \"$name\" \"$aside/\"; }
+      done
     ;;
   esac
   /bin/rm -rf -- \"$@\" || { /bin/chmod -R u+rwx -- \"$@\"; /bin/rm -rf -- \"$@\"; }
@@ -36,9 +45,16 @@ done";
 /// How it ends where it can do nothing, or where there is no shell.
 const CANNOT_WORK: [i32; 3] = [9, 126, 127];
 
-/// How many milliseconds after it was tried to start a shell it is tried again. So often it is looked
-/// whether one that leaves something without an answer for long was stopped.
+/// How many milliseconds after it was tried to start a shell it is tried again. So often it is
+/// looked whether one that leaves something without an answer for long was stopped.
 const TRIED_AGAIN: u64 = 250;
+
+/// How many milliseconds after it was looked at last the shell is looked at again, however often it
+/// is asked for meanwhile.
+const LOOKED_AGAIN: u64 = 1;
+
+/// How many names the shell is told in one line. A pipe takes so short a text whole or not at all.
+const MOST_NAMES: usize = 64;
 
 /// How many shells there may be that were lost and have not ended.
 const MOST_LOST: usize = 4;
@@ -55,10 +71,11 @@ pub enum Removing {
 }
 
 /// A folder that is to be removed.
-#[derive(Clone, Copy)]
+#[derive(Drop)]
 struct Waiting {
     number: u64,
-    /// Which question to the shell it is, once that was told it.
+    name: String,
+    /// With which question the shell was told it, once it was.
     place: Option<u64>,
 }
 
@@ -72,11 +89,13 @@ enum Standing {
     Never,
 }
 
-/// A shell that removes one folder after another in the same folder. Where it was lost another one
-/// is started, and told again what it had not answered.
+/// A shell that removes folders in the same folder. While it does so others wait, and are told to it
+/// together. Where it was lost another one is started, and told again what it had not answered.
 #[derive(Drop)]
 pub struct RemovingShells {
     shell: Option<Shell>,
+    /// When it was looked last whether one stands.
+    looked: Option<Instant>,
     /// When it was tried last to start one, or looked whether it was stopped.
     tried: Option<Instant>,
     waiting: Vec<Waiting>,
@@ -91,6 +110,7 @@ impl RemovingShells {
     pub fn new(alloc: Global) -> RemovingShells {
         RemovingShells {
             shell: None,
+            looked: None,
             tried: None,
             waiting: Vec::new(alloc),
             lost: Vec::new(alloc),
@@ -103,17 +123,19 @@ impl RemovingShells {
         self.waiting.iter().any(|waiting| waiting.number == number)
     }
 
-    /// Whether fewer than so many folders are to be removed, and they can be: a shell stands, or
-    /// none ever will. It works in the folder at these two paths.
-    pub fn has_room(&mut self, rt: &HostRuntime, folder: [&str; 2], most: usize) -> bool {
-        match self.keep(rt, folder) {
-            Standing::Stands => self.waiting.len() < most,
-            Standing::Later => false,
-            Standing::Never => true,
-        }
+    /// How many folders are to be removed.
+    pub fn left(&self) -> usize {
+        self.waiting.len()
     }
 
-    /// Goes on with the removal of the folder of this number and name, without a line's end in it.
+    /// Whether fewer than so many folders are to be removed, or no shell can be had on this host. It
+    /// works in the folder at these two paths.
+    pub fn has_room(&mut self, rt: &HostRuntime, folder: [&str; 2], most: usize) -> bool {
+        // A shell that stands before anything runs is there when no process can be started.
+        self.keep(rt, folder) == Standing::Never || self.waiting.len() < most
+    }
+
+    /// Goes on with the removal of the folder of this number and name, a word of at most 60 bytes.
     pub fn remove(
         &mut self,
         rt: &HostRuntime,
@@ -121,49 +143,58 @@ impl RemovingShells {
         number: u64,
         name: &str,
     ) -> Removing {
-        match self.keep(rt, folder) {
-            Standing::Stands => self.go_on(rt.alloc(), number, name),
-            Standing::Later => Removing::Waits,
-            Standing::Never => Removing::Alone,
+        if self.keep(rt, folder) == Standing::Never {
+            self.waiting.clear();
+            return Removing::Alone;
+        }
+        match self.place_of(rt.alloc(), number, name) {
+            Ok(at) => self.go_on(rt.alloc(), at),
+            // Where there is no memory it is asked for again.
+            Err(AllocError) => Removing::Waits,
         }
     }
 
-    /// Looks for its answer, or tells the shell that stands what is to be removed.
-    fn go_on(&mut self, alloc: Global, number: u64, name: &str) -> Removing {
-        let Some(shell) = &mut self.shell else {
-            return Removing::Waits;
-        };
+    /// Where among those to be removed a folder stands.
+    fn place_of(&mut self, alloc: Global, number: u64, name: &str) -> Result<usize, AllocError> {
         let found = self
             .waiting
             .iter()
             .position(|waiting| waiting.number == number);
-        let told = match found {
-            Some(at) => self.waiting.get(at).and_then(|waiting| waiting.place),
-            None => None,
+        if let Some(at) = found {
+            return Ok(at);
+        }
+        self.waiting.push(Waiting {
+            number,
+            name: String::from_str(alloc, name)?,
+            place: None,
+        })?;
+        Ok(self.waiting.len() - 1)
+    }
+
+    /// Looks for the answer of the shell that stands, or tells it what is to be removed.
+    fn go_on(&mut self, alloc: Global, at: usize) -> Removing {
+        let (Some(shell), Some(waiting)) = (&mut self.shell, self.waiting.get(at)) else {
+            return Removing::Waits;
         };
-        match (found, told) {
-            (Some(at), Some(place)) => {
-                if place > shell.answered() || at >= self.waiting.len() {
-                    return Removing::Waits;
+        match waiting.place {
+            None => {
+                if shell.is_idle() {
+                    // Where there is no memory it is told later.
+                    let _: Result<(), AllocError> = tell(shell, alloc, &mut self.waiting);
                 }
-                self.waiting.swap_remove(at);
+                Removing::Waits
+            }
+            Some(place) if place > shell.answered() => Removing::Waits,
+            Some(_) => {
+                self.forget(at);
                 Removing::Done
             }
-            (Some(at), None) => {
-                let place = tell(shell, alloc, name);
-                if let Some(waiting) = self.waiting.get_mut(at) {
-                    waiting.place = place;
-                }
-                Removing::Waits
-            }
-            (None, _) => {
-                // Where there is no memory it is asked for again.
-                if self.waiting.reserve(1).is_ok() {
-                    let place = tell(shell, alloc, name);
-                    let _ = self.waiting.push(Waiting { number, place });
-                }
-                Removing::Waits
-            }
+        }
+    }
+
+    fn forget(&mut self, at: usize) {
+        if at < self.waiting.len() {
+            self.waiting.swap_remove(at);
         }
     }
 
@@ -175,6 +206,12 @@ impl RemovingShells {
         let Ok(now) = Instant::now(rt) else {
             return Standing::Later;
         };
+        if !self.is_looked_again(now) {
+            return match self.shell {
+                Some(_) => Standing::Stands,
+                None => Standing::Later,
+            };
+        }
         if let Some(mut shell) = self.shell.take() {
             if shell.stands(now) && !self.is_stopped(rt, &shell, now) {
                 self.shell = Some(shell);
@@ -197,6 +234,17 @@ impl RemovingShells {
             }
         }
         self.lost.retain_mut(|shell| !shell.has_ended());
+    }
+
+    /// Whether it was not looked just now whether a shell stands; then it is now.
+    fn is_looked_again(&mut self, now: Instant) -> bool {
+        if let Some(looked) = self.looked {
+            if now.duration_since(looked) < Duration::from_millis(LOOKED_AGAIN) {
+                return false;
+            }
+        }
+        self.looked = Some(now);
+        true
     }
 
     /// Whether nothing was tried for some time; then something is now.
@@ -249,8 +297,25 @@ fn started(rt: &HostRuntime, folder: [&str; 2], now: Instant) -> io::Result<Shel
     Shell::of(spawned(rt, SCRIPT, &["sh", first, second])?, now)
 }
 
-/// Tells a shell a name. Which question that was, if it was told.
-fn tell(shell: &mut Shell, alloc: Global, name: &str) -> Option<u64> {
-    let line = format!(in alloc; "{name}\n").ok()?;
-    shell.ask(line.as_str())
+/// Tells a shell names that it was not told, in one line.
+fn tell(shell: &mut Shell, alloc: Global, waiting: &mut [Waiting]) -> Result<(), AllocError> {
+    let mut line = String::new(alloc);
+    for each in waiting
+        .iter()
+        .filter(|each| each.place.is_none())
+        .take(MOST_NAMES)
+    {
+        line.push_str(each.name.as_str())?;
+        line.push(' ')?;
+    }
+    line.push('\n')?;
+    let place = shell.ask(line.as_str());
+    for each in waiting
+        .iter_mut()
+        .filter(|each| each.place.is_none())
+        .take(MOST_NAMES)
+    {
+        each.place = place;
+    }
+    Ok(())
 }

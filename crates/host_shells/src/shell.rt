@@ -191,6 +191,11 @@ impl Shell {
         }
     }
 
+    /// Whether it has answered each question.
+    pub(crate) fn is_idle(&self) -> bool {
+        self.asked <= self.answered
+    }
+
     /// How many questions it has answered.
     pub(crate) fn answered(&self) -> u64 {
         self.answered

@@ -87,6 +87,8 @@ pub struct JobFigures {
     pub waited: u64,
     /// The milliseconds that actions have run, together.
     pub ran: u64,
+    /// Folders of actions that are still to be removed.
+    pub folders_left: u64,
 }
 
 /// What is counted of an instance.

@@ -164,7 +164,8 @@ impl Page {
 
     /// Adds what is said of a family: its lines are to come behind.
     pub fn add_family(&mut self, family: &Family<'_>) -> Result<(), AllocError>
-        ensures { OnOk result (self.new.text.items ≡ self.old.text.items ++ family_lines family.now) }
+        ensures { OnOk result
+            (self.new.text.items ≡ self.old.text.items ++ family_lines family.now) }
     {
         let text = &mut self.text;
         text.extend_from_slice(b"# HELP ")?;

@@ -26,11 +26,12 @@ pub(crate) enum Figure {
     Running,
     Waited,
     Ran,
+    FoldersLeft,
     Cut,
 }
 
 /// Each of them, and its family.
-pub(crate) static FIGURES: [(Figure, Family<'static>); 22] = [
+pub(crate) static FIGURES: [(Figure, Family<'static>); 23] = [
     (
         Figure::Blobs,
         Family {
@@ -83,7 +84,8 @@ pub(crate) static FIGURES: [(Figure, Family<'static>); 22] = [
         Figure::YoungestAge,
         Family {
             name: "remoted_blob_dropped_age_seconds",
-            help: "Seconds since the last use of the youngest blob of those driven out last, in two minutes.",
+            help: "Seconds since the last use of the youngest blob of those driven out last, in \
+                two minutes.",
             kind: Kind::Gauge,
         },
     ),
@@ -200,6 +202,14 @@ pub(crate) static FIGURES: [(Figure, Family<'static>); 22] = [
         },
     ),
     (
+        Figure::FoldersLeft,
+        Family {
+            name: "remoted_folders_left",
+            help: "Folders of actions that are still to be removed; at 64 no other action begins.",
+            kind: Kind::Gauge,
+        },
+    ),
+    (
         Figure::Cut,
         Family {
             name: "remoted_events_cut_total",
@@ -233,6 +243,7 @@ pub(crate) fn value_of(instance: &InstanceFigures<'_>, figure: Figure) -> Value 
         Figure::Running => Value::Whole(instance.jobs.running),
         Figure::Waited => Value::Milliseconds(instance.jobs.waited),
         Figure::Ran => Value::Milliseconds(instance.jobs.ran),
+        Figure::FoldersLeft => Value::Whole(instance.jobs.folders_left),
         Figure::Cut => Value::Whole(instance.cut),
     }
 }

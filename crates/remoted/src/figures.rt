@@ -3,6 +3,7 @@
 use crate::watching::{resident, unix_time};
 use call_counts::CallCounts;
 use command_line::VERSION;
+use host_folders::FolderCounts;
 use instance_core::Instance;
 use metrics_text::{
     CallFigures, ConnectionFigures, Count, HitFigures, InstanceFigures, JobFigures, ServerFigures,
@@ -244,7 +245,12 @@ fn hit_figures(counts: &CallCounts) -> HitFigures {
     }
 }
 
-fn job_figures(instance: &Instance, counts: &InstanceCounts, time: JobTime) -> JobFigures {
+fn job_figures(
+    instance: &Instance,
+    counts: &InstanceCounts,
+    time: JobTime,
+    folders_left: u64,
+) -> JobFigures {
     let sizes = instance.sizes();
     JobFigures {
         waiting: sizes.waiting as u64,
@@ -255,6 +261,7 @@ fn job_figures(instance: &Instance, counts: &InstanceCounts, time: JobTime) -> J
         not_run: counts.not_run,
         waited: time.waited,
         ran: time.ran,
+        folders_left,
     }
 }
 
@@ -265,6 +272,7 @@ fn instance_figures<'a>(
     number: u32,
     sight: &Sight<'_>,
     times: &JobTimes,
+    folders: &FolderCounts,
 ) -> Result<Option<InstanceFigures<'a>>, AllocError> {
     let Some(served) = sight.server.instance(number) else {
         return Ok(None);
@@ -279,7 +287,12 @@ fn instance_figures<'a>(
         connections: connection_figures(alloc, served.connection_count(), counts)?,
         calls: call_figures(alloc, instance.call_counts())?,
         hits: hit_figures(instance.call_counts()),
-        jobs: job_figures(instance, counts, times.of(number as usize)),
+        jobs: job_figures(
+            instance,
+            counts,
+            times.of(number as usize),
+            folders.left(number),
+        ),
         cut: counts.cut,
     }))
 }
@@ -290,13 +303,14 @@ pub fn figures_of<'a>(
     configs: &'a Configs,
     sight: &Sight<'_>,
     times: &JobTimes,
+    folders: &FolderCounts,
     turns: &mut Turns,
 ) -> Result<ServerFigures<'a>, AllocError> {
     let alloc = rt.alloc();
     let mut instances = Vec::new(alloc);
     let mut number = 0;
     for config in configs.instances() {
-        let found = instance_figures(alloc, config.name.as_str(), number, sight, times)?;
+        let found = instance_figures(alloc, config.name.as_str(), number, sight, times, folders)?;
         if let Some(figures) = found {
             instances.push(figures)?;
         }

@@ -2,6 +2,7 @@
 
 use crate::figures::FAULTS;
 use crate::standard_error::StandardError;
+use host_folders::FolderCounts;
 use instance_core::InstanceSizes;
 use rpc::Method;
 use serve::{ErrorLines, InstanceCounts, Sight};
@@ -21,6 +22,10 @@ struct Seen {
     uploads: u64,
     actions: u64,
     dropped: u64,
+    /// How often a run was kept from beginning by folders that are to be removed.
+    held: u64,
+    /// Whether one was since it was looked before.
+    is_held: bool,
 }
 
 /// Lines about each instance.
@@ -119,6 +124,8 @@ impl Notices {
             uploads: 0,
             actions: 0,
             dropped: 0,
+            held: 0,
+            is_held: false,
         };
         Ok(Notices {
             seen: vec![in alloc; nothing; instances]?,
@@ -131,11 +138,14 @@ impl Notices {
         alloc: Global,
         configs: &Configs,
         sight: &Sight<'_>,
+        folders: &FolderCounts,
         lines: &mut ErrorLines<StandardError>,
     ) {
         let mut number = 0;
         for (seen, config) in self.seen.iter_mut().zip(configs.instances()) {
-            tell_instance(alloc, config.name.as_str(), number, sight, lines, seen);
+            let name = config.name.as_str();
+            tell_instance(alloc, name, number, sight, lines, seen);
+            tell_folders(alloc, name, number, folders, lines, seen);
             number = number.saturating_add(1);
         }
     }
@@ -179,5 +189,30 @@ fn tell_instance(
         uploads,
         actions,
         dropped: sizes.dropped.count,
+        ..*seen
     };
+}
+
+/// Tells when folders that are to be removed begin to keep runs from beginning.
+fn tell_folders(
+    alloc: Global,
+    name: &str,
+    number: u32,
+    folders: &FolderCounts,
+    lines: &mut ErrorLines<StandardError>,
+    seen: &mut Seen,
+) {
+    let held = folders.held(number);
+    let is_held = held > seen.held;
+    if is_held && !seen.is_held {
+        let left = folders.left(number);
+        let line: Result<String, AllocError> = format!(in alloc;
+            "remoted: {name}: actions wait, as folders are still to be removed: {left}\n"
+        );
+        if let Ok(line) = line {
+            lines.write_line(line.as_str());
+        }
+    }
+    seen.held = held;
+    seen.is_held = is_held;
 }

@@ -5,6 +5,7 @@ use crate::notices::Notices;
 use crate::standard_error::StandardError;
 use crate::watching::{MetricsFile, StopFile};
 use command_line::VERSION;
+use host_folders::FolderCounts;
 use serve::{ErrorLines, Sight, Watch};
 use server_events::Configs;
 use std::alloc::AllocError;
@@ -17,6 +18,7 @@ const NOTICES: u64 = 1_000;
 pub struct Operator<'a> {
     rt: &'a HostRuntime,
     configs: &'a Configs,
+    folders: &'a FolderCounts,
     metrics: Option<MetricsFile<'a>>,
     stop: Option<StopFile<'a>>,
     notices: Notices,
@@ -31,6 +33,7 @@ impl<'a> Operator<'a> {
     pub fn new(
         rt: &'a HostRuntime,
         configs: &'a Configs,
+        folders: &'a FolderCounts,
         metrics: Option<MetricsFile<'a>>,
         stop: Option<StopFile<'a>>,
     ) -> Result<Operator<'a>, AllocError> {
@@ -38,6 +41,7 @@ impl<'a> Operator<'a> {
         Ok(Operator {
             rt,
             configs,
+            folders,
             metrics,
             stop,
             notices: Notices::new(rt.alloc(), count)?,
@@ -90,7 +94,14 @@ impl<'a> Operator<'a> {
         if !metrics.is_due(sight.moment) {
             return;
         }
-        let figures = figures_of(self.rt, self.configs, sight, &self.times, &mut self.turns);
+        let figures = figures_of(
+            self.rt,
+            self.configs,
+            sight,
+            &self.times,
+            self.folders,
+            &mut self.turns,
+        );
         // Where memory is refused the file stays as it is until the next time.
         if let Ok(figures) = figures {
             if let Some(line) = metrics.write(&figures, sight.moment) {
@@ -105,8 +116,13 @@ impl<'a> Operator<'a> {
             return;
         }
         self.noticed = sight.moment;
-        self.notices
-            .tell(self.rt.alloc(), self.configs, sight, &mut self.lines);
+        self.notices.tell(
+            self.rt.alloc(),
+            self.configs,
+            sight,
+            self.folders,
+            &mut self.lines,
+        );
     }
 }
 

@@ -7,7 +7,7 @@ use crate::operator::Operator;
 use crate::standard_error::StandardError;
 use crate::watching::{MetricsFile, StopFile};
 use command_line::Service;
-use host_folders::{HostFolder, Work};
+use host_folders::{FolderCounts, HostFolder, Work};
 use host_programs::{HostPrograms, Launcher, launcher_path};
 use host_sockets::HostSockets;
 use instance_words::{Instances, InstancesFault, instances_of};
@@ -140,12 +140,13 @@ fn place_of<E: Write>(
 fn job_runner<'a, E: Write>(
     rt: &'a HostRuntime,
     work: Work,
+    folders: &'a FolderCounts,
     launcher: Option<Launcher>,
     instances: &Instances,
     errors: &mut E,
 ) -> io::Result<JobRunner<HostFolder<'a>, HostPrograms<'a>>> {
     let path = String::from_str(rt.alloc(), work.path())?;
-    let mut folder = HostFolder::new(rt, work);
+    let mut folder = HostFolder::new(rt, work, folders);
     if slots_of(instances) > 0 {
         guard_against_leases(rt, &mut folder, errors)?;
     }
@@ -175,6 +176,7 @@ fn end_runs(
 fn operator_of<'a>(
     rt: &'a HostRuntime,
     configs: &'a Configs,
+    folders: &'a FolderCounts,
     service: &Service<'a>,
 ) -> Result<Operator<'a>, AllocError> {
     let metrics = match service.metrics {
@@ -185,7 +187,7 @@ fn operator_of<'a>(
         Some(path) => Some(StopFile::new(rt, path)),
         None => None,
     };
-    Operator::new(rt, configs, metrics, stop)
+    Operator::new(rt, configs, folders, metrics, stop)
 }
 
 /// Removes the folder of this start where runs were, unless something is left in it: the next start
@@ -204,12 +206,13 @@ fn serve_turns(
     instances: &Instances,
     sockets: &mut HostSockets<'_>,
     runs: &mut JobRunner<HostFolder<'_>, HostPrograms<'_>>,
+    folders: &FolderCounts,
     service: &Service<'_>,
 ) -> Result<(), AllocError> {
     let (alloc, configs) = (rt.alloc(), &instances.configs);
     let count = configs.instances().len();
     let mut lines = ErrorLines::new(alloc, StandardError::new(rt), count)?;
-    let mut operator = operator_of(rt, configs, service)?;
+    let mut operator = operator_of(rt, configs, folders, service)?;
     operator.tell_start();
     let served = serve(
         alloc,
@@ -282,9 +285,10 @@ fn serve_instances<O: Write, E: Write>(
         return Ok(FAILED);
     };
     let start = String::from_str(rt.alloc(), work.path())?;
-    let mut runs = job_runner(rt, work, launcher, instances, errors)?;
+    let folders = FolderCounts::new(rt.alloc(), instances.ports.len())?;
+    let mut runs = job_runner(rt, work, &folders, launcher, instances, errors)?;
     announce(instances, output)?;
-    let ended = serve_turns(rt, instances, &mut sockets, &mut runs, service);
+    let ended = serve_turns(rt, instances, &mut sockets, &mut runs, &folders, service);
     remove_start(rt, start.as_str());
     ended?;
     Ok(DONE)

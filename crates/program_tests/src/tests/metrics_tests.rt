@@ -77,6 +77,7 @@ fn busy(alloc: Global) -> Result<InstanceFigures<'static>, AllocError> {
             not_run: 22,
             waited: 1_005,
             ran: 18_446_744_073_709_551_615,
+            folders_left: 25,
         },
         cut: 24,
     })
@@ -120,6 +121,7 @@ fn idle(alloc: Global) -> InstanceFigures<'static> {
             not_run: 0,
             waited: 0,
             ran: 0,
+            folders_left: 0,
         },
         cut: 0,
     }

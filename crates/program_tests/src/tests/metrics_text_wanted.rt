@@ -106,6 +106,10 @@ remoted_jobs_waited_seconds_total{instance=\"blue\"} 0.000\n\
 # TYPE remoted_jobs_ran_seconds_total counter\n\
 remoted_jobs_ran_seconds_total{instance=\"re\\\"d\\\\\\n\"} 18446744073709551.615\n\
 remoted_jobs_ran_seconds_total{instance=\"blue\"} 0.000\n\
+# HELP remoted_folders_left Folders of actions that are still to be removed; at 64 no other action begins.\n\
+# TYPE remoted_folders_left gauge\n\
+remoted_folders_left{instance=\"re\\\"d\\\\\\n\"} 25\n\
+remoted_folders_left{instance=\"blue\"} 0\n\
 # HELP remoted_events_cut_total Events that were cut short for want of memory.\n\
 # TYPE remoted_events_cut_total counter\n\
 remoted_events_cut_total{instance=\"re\\\"d\\\\\\n\"} 24\n\

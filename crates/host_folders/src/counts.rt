@@ -1,0 +1,57 @@
+//! How many folders are still to be removed, for whoever watches a server.
+
+use std::alloc::{AllocError, Global};
+use std::cell::Cell;
+
+/// What is counted of an instance.
+#[derive(Drop)]
+struct OfInstance {
+    left: Cell<u64>,
+    held: Cell<u64>,
+}
+
+/// The folders of runs that are still to be removed, by instance.
+#[derive(Drop)]
+pub struct FolderCounts {
+    instances: Vec<OfInstance>,
+}
+
+impl FolderCounts {
+    /// Nothing is to be removed of so many instances.
+    pub fn new(alloc: Global, instances: usize) -> Result<FolderCounts, AllocError> {
+        let mut counts = Vec::new(alloc);
+        for _ in 0..instances {
+            counts.push(OfInstance {
+                left: Cell::new(0),
+                held: Cell::new(0),
+            })?;
+        }
+        Ok(FolderCounts { instances: counts })
+    }
+
+    fn of(&self, instance: u32) -> Option<&OfInstance> {
+        self.instances.get(instance as usize)
+    }
+
+    /// How many folders of an instance are to be removed.
+    pub fn left(&self, instance: u32) -> u64 {
+        self.of(instance).map_or(0, |counts| counts.left.get())
+    }
+
+    /// How often a run of an instance was kept from beginning by what is to be removed.
+    pub fn held(&self, instance: u32) -> u64 {
+        self.of(instance).map_or(0, |counts| counts.held.get())
+    }
+
+    pub(crate) fn set_left(&self, instance: u32, left: usize) {
+        if let Some(counts) = self.of(instance) {
+            counts.left.set(left as u64);
+        }
+    }
+
+    pub(crate) fn add_held(&self, instance: u32) {
+        if let Some(counts) = self.of(instance) {
+            counts.held.set(counts.held.get().saturating_add(1));
+        }
+    }
+}

@@ -195,6 +195,7 @@ def running(*words):
 def prometheus(program):
     rules = subprocess.run(["promtool", "check", "rules", str(DEPLOY / "alerts.yml")], capture_output=True, text=True)
     expect(rules.returncode == 0 and "6 rules found" in rules.stdout, "promtool check rules passes", rules.stderr)
+    one_of_two_is_gone()
     node, port = free_ports(2)
     with tempfile.TemporaryDirectory() as folder:
         textfiles, path = os.path.join(folder, "textfiles"), os.path.join(folder, "remoted.prom")
@@ -214,6 +215,28 @@ def prometheus(program):
             with Counted(server.ports[0], "red", collections.Counter()) as red:
                 known_calls(red)
             scraped(port)
+
+
+def one_of_two_is_gone():
+    """Two servers, the file of one of which is gone from the sixth minute on: that is told, and of that one alone."""
+    red, blue = ("/run/remoted-red/remoted.prom", "/run/remoted-blue/remoted.prom")
+    series = [("remoted_build_info", "1x20"), (f'node_textfile_mtime_seconds{{file="{red}"}}', "0+60x20")]
+    series += [(f'node_textfile_mtime_seconds{{file="{blue}"}}', "0+60x5")]
+    summary = "A server is gone, or its figures are more than a minute old"
+    gone = {"exp_labels": {"severity": "critical", "file": blue}, "exp_annotations": {"summary": summary}}
+    wanted = [("4m", []), ("14m", [gone])]
+    case = {
+        "interval": "1m",
+        "input_series": [{"series": name, "values": values} for name, values in series],
+        "alert_rule_test": [
+            {"eval_time": when, "alertname": "RemotedGone", "exp_alerts": alerts} for when, alerts in wanted
+        ],
+    }
+    with tempfile.NamedTemporaryFile("w", suffix=".yml") as file:
+        json.dump({"rule_files": [str(DEPLOY / "alerts.yml")], "tests": [case]}, file)
+        file.flush()
+        tried = subprocess.run(["promtool", "test", "rules", file.name], capture_output=True, text=True)
+        expect(tried.returncode == 0, "of two servers the one that is gone is told", tried.stdout + tried.stderr)
 
 
 def scraped(port):

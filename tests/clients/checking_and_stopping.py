@@ -115,7 +115,39 @@ def stop(program):
         done = subprocess.run(words, capture_output=True, text=True)
         told = f"remoted: writing {path} would make {path}.new\n"
         expect((done.returncode, done.stderr) == (2, told), "one file for both is a fault", done)
+    ports_close_first(program, mark)
     stop_as_the_unit(program, mark)
+
+
+def is_over(connection):
+    """Whether a connection ends within five seconds."""
+    connection.settimeout(5)
+    try:
+        while connection.recv(1000):
+            pass
+    except ConnectionResetError:
+        return True
+    except TimeoutError:
+        return False
+    return True
+
+
+def ports_close_first(program, mark):
+    """A launcher does not end when it is told to: nobody waits for that at the ports."""
+    with tempfile.TemporaryDirectory() as folder:
+        path, launcher = pathlib.Path(folder, "stop"), pathlib.Path(folder, "launcher")
+        launcher.write_text(f"#!/bin/sh\ntrap '' TERM\nexec sleep {mark}\n")
+        launcher.chmod(0o755)
+        words = ["--stop", str(path)]
+        with Watched(program, [("red", 10**6, 1)], words, launcher=str(launcher)) as server:
+            port = server.ports[0]
+            with begin_long_action(server, mark), socket.create_connection(("127.0.0.1", port)) as connection:
+                path.touch()
+                expect(is_over(connection), "connections end within five seconds")
+                status, _, errors = checked(program, "--port", str(port))
+                expect(status == 4 and "Connection refused" in errors, "and the port is closed", errors)
+                expect(server.is_running() and is_alive(mark), "while an action's launcher does not end")
+                expect(server.process.wait(20) == 0 and not is_alive(mark), "then it is ended, and the server ends")
 
 
 def stop_as_the_unit(program, mark):

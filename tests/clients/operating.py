@@ -77,7 +77,7 @@ class Service:
         """The figures as they are written next."""
         path, moment = pathlib.Path(self.variables["METRICS"]), time.time() + 0.5
         expect(within(seconds, lambda: path.exists() and path.stat().st_mtime > moment), "figures are written")
-        return figures_of(path.read_text())
+        return figures_of(path)
 
 
 class Proxy:

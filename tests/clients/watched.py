@@ -26,13 +26,16 @@ def within(seconds, test):
     return found
 
 
-def figures_of(text):
-    """The samples of a text: numbers by name and labels."""
+def figures_of(path):
+    """The samples of a file: numbers by name and labels. Each has that of the file before its own."""
     found = {}
-    for line in text.splitlines():
+    for line in path.read_text().splitlines():
         if not line.startswith("#"):
             name, labels, value = SAMPLE.match(line).groups()
-            found[(name, *sorted(LABEL.findall(labels or "")))] = float(value)
+            file, *others = LABEL.findall(labels or "")
+            if file != ("file", str(path)):
+                raise SystemExit(f"not so: a sample tells its file: {line}")
+            found[(name, *sorted(others))] = float(value)
     return found
 
 

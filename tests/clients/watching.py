@@ -66,7 +66,7 @@ def read_when_new(path, moment):
     """The figures of a file once it was written after a moment, by the clock of the host."""
     fresh = within(25, lambda: path.exists() and path.stat().st_mtime > moment)
     expect(fresh, "the file is written anew within 25 seconds")
-    return figures_of(path.read_text())
+    return figures_of(path)
 
 
 def known_calls(peer):
@@ -200,8 +200,10 @@ def prometheus(program):
     with tempfile.TemporaryDirectory() as folder:
         textfiles, path = os.path.join(folder, "textfiles"), os.path.join(folder, "remoted.prom")
         os.mkdir(textfiles)
+        other = os.path.join(folder, "other.prom")
         # As deploy/tmpfiles.conf does.
         os.symlink(path, os.path.join(textfiles, "remoted.prom"))
+        os.symlink(other, os.path.join(textfiles, "remoted-other.prom"))
         config = os.path.join(folder, "prometheus.yml")
         pathlib.Path(config).write_text(
             f"global: {{scrape_interval: 1s, evaluation_interval: 1s}}\nrule_files: [{DEPLOY}/alerts.yml]\n"
@@ -215,6 +217,11 @@ def prometheus(program):
             with Counted(server.ports[0], "red", collections.Counter()) as red:
                 known_calls(red)
             scraped(port)
+            with Watched(program, [("red", 10**6)], ["--metrics", other]):
+                told = within(30, lambda: len(quotas := ask_prometheus(port, "remoted_quota_bytes")) == 2 and quotas)
+            expect(sorted(told or []) == [10**6, 10**7], "two servers of a host are told apart", told)
+            expect(ask_prometheus(port, "remoted_build_info") == [1, 1], "by what is said of them as a whole, too")
+            expect(ask_prometheus(port, "node_textfile_scrape_error") == [0], "and node_exporter finds no fault")
 
 
 def one_of_two_is_gone():

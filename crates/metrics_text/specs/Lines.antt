@@ -33,10 +33,9 @@ abbrev pub more_labels : List Label → List ℕ
 more_labels [] = []
 more_labels (label ∷ rest) = codes "," ++ label_text label ++ more_labels rest
 
--- {name="value",..}, or nothing where there is none
-abbrev pub labels_text : List Label → List ℕ
-labels_text [] = []
-labels_text (label ∷ rest) = codes "{" ++ label_text label ++ more_labels rest ++ codes "}"
+-- {name="value",..}
+abbrev pub labels_text : Label → List Label → List ℕ
+labels_text first others = codes "{" ++ label_text first ++ more_labels others ++ codes "}"
 
 -- three digits, of a number below a thousand
 abbrev pub thousandths : ℕ → List ℕ
@@ -52,7 +51,7 @@ family_lines family =
     codes "# HELP " ++ family.name.now ++ codes " " ++ family.help.now
     ++ codes "\n# TYPE " ++ family.name.now ++ codes " " ++ kind_word family.kind ++ codes "\n"
 
--- a sample of the family of this name
-abbrev pub sample_line : List ℕ → List Label → Value → List ℕ
-sample_line name labels value =
-    name ++ labels_text labels ++ codes " " ++ value_text value ++ codes "\n"
+-- a sample of the family of this name, with the label of all samples and its own
+abbrev pub sample_line : List ℕ → Label → List Label → Value → List ℕ
+sample_line name common labels value =
+    name ++ labels_text common labels ++ codes " " ++ value_text value ++ codes "\n"

@@ -92,7 +92,7 @@ fn server_numbers(server: &ServerFigures<'_>) -> [(Family<'static>, Value); 5] {
         (
             Family {
                 name: "remoted_lines_dropped_total",
-                help: "Lines that standard error did not take.",
+                help: "Lines on failed runs that were not written.",
                 kind: Kind::Counter,
             },
             Value::Whole(server.lines_dropped),
@@ -100,7 +100,7 @@ fn server_numbers(server: &ServerFigures<'_>) -> [(Family<'static>, Value); 5] {
     ]
 }
 
-fn add_server(page: &mut Page, server: &ServerFigures<'_>) -> Result<(), AllocError> {
+fn add_server(page: &mut Page<'_>, server: &ServerFigures<'_>) -> Result<(), AllocError> {
     page.add_family(&BUILD)?;
     let version = Label {
         name: "version",
@@ -116,7 +116,11 @@ fn add_server(page: &mut Page, server: &ServerFigures<'_>) -> Result<(), AllocEr
 }
 
 /// Adds a family of one sample, where its number is known.
-fn add_known(page: &mut Page, family: &Family<'_>, known: Option<u64>) -> Result<(), AllocError> {
+fn add_known(
+    page: &mut Page<'_>,
+    family: &Family<'_>,
+    known: Option<u64>,
+) -> Result<(), AllocError> {
     if let Some(number) = known {
         page.add_family(family)?;
         page.add_sample(family, &[], Value::Whole(number))?;
@@ -132,7 +136,7 @@ fn instance_label<'a>(instance: &InstanceFigures<'a>) -> Label<'a> {
 }
 
 /// Adds the families that have one sample for each instance.
-fn add_single(page: &mut Page, instances: &[InstanceFigures<'_>]) -> Result<(), AllocError> {
+fn add_single(page: &mut Page<'_>, instances: &[InstanceFigures<'_>]) -> Result<(), AllocError> {
     for (figure, family) in FIGURES.iter() {
         page.add_family(family)?;
         for instance in instances {
@@ -145,7 +149,7 @@ fn add_single(page: &mut Page, instances: &[InstanceFigures<'_>]) -> Result<(), 
 
 /// Adds the samples of an instance whose last label is a name, as far as these came.
 fn add_counts(
-    page: &mut Page,
+    page: &mut Page<'_>,
     family: &Family<'_>,
     instance: Label<'_>,
     label: &str,
@@ -163,7 +167,7 @@ fn add_counts(
     Ok(())
 }
 
-fn add_faults(page: &mut Page, instances: &[InstanceFigures<'_>]) -> Result<(), AllocError> {
+fn add_faults(page: &mut Page<'_>, instances: &[InstanceFigures<'_>]) -> Result<(), AllocError> {
     page.add_family(&FAULTS)?;
     for instance in instances {
         let label = instance_label(instance);
@@ -183,7 +187,7 @@ fn endings(instance: &InstanceFigures<'_>) -> [(&'static str, u64); 4] {
     ]
 }
 
-fn add_endings(page: &mut Page, instances: &[InstanceFigures<'_>]) -> Result<(), AllocError> {
+fn add_endings(page: &mut Page<'_>, instances: &[InstanceFigures<'_>]) -> Result<(), AllocError> {
     page.add_family(&ENDED)?;
     for instance in instances {
         for (how, count) in endings(instance).iter() {
@@ -223,7 +227,7 @@ fn method_label<'a>(calls: &CallFigures<'a>) -> Label<'a> {
 
 /// Adds how often an instance's calls of a method ended with which status.
 fn add_statuses(
-    page: &mut Page,
+    page: &mut Page<'_>,
     instance: Label<'_>,
     calls: &CallFigures<'_>,
 ) -> Result<(), AllocError> {
@@ -240,7 +244,7 @@ fn add_statuses(
     Ok(())
 }
 
-fn add_calls(page: &mut Page, instances: &[InstanceFigures<'_>]) -> Result<(), AllocError> {
+fn add_calls(page: &mut Page<'_>, instances: &[InstanceFigures<'_>]) -> Result<(), AllocError> {
     page.add_family(&CALLS)?;
     for instance in instances {
         for calls in instance.calls.iter() {
@@ -259,7 +263,7 @@ enum Way {
 
 /// Adds how many bytes of messages each method received, or sent.
 fn add_bytes(
-    page: &mut Page,
+    page: &mut Page<'_>,
     instances: &[InstanceFigures<'_>],
     way: Way,
 ) -> Result<(), AllocError> {
@@ -283,9 +287,14 @@ fn add_bytes(
     Ok(())
 }
 
-/// All figures of a server, in the text form that Prometheus reads.
+/// All figures of a server, in the text form that Prometheus reads. Each has the label `file`: what
+/// reads the files of several servers can tell them apart.
 pub fn figures_text(alloc: Global, server: &ServerFigures<'_>) -> Result<Vec<u8>, AllocError> {
-    let mut page = Page::new(alloc);
+    let common = Label {
+        name: "file",
+        value: server.file,
+    };
+    let mut page = Page::new(alloc, common);
     let instances = &server.instances;
     add_server(&mut page, server)?;
     add_single(&mut page, instances)?;

@@ -107,6 +107,8 @@ pub struct InstanceFigures<'a> {
 /// What is counted of a server.
 #[derive(Drop)]
 pub struct ServerFigures<'a> {
+    /// The file to which they are written: no two servers of a host have the same.
+    pub file: &'a str,
     pub version: &'a str,
     /// The texts in the pool now, and their bytes.
     pub texts: u64,

@@ -85,15 +85,13 @@ fn add_more_labels(text: &mut Vec<u8>, labels: &[Label<'_>]) -> Result<(), Alloc
     Ok(())
 }
 
-fn add_labels(text: &mut Vec<u8>, labels: &[Label<'_>]) -> Result<(), AllocError>
-    ensures { OnOk result (text.new.items ≡ text.old.items ++ labels_text labels.entry.now) }
+fn add_labels(text: &mut Vec<u8>, first: Label<'_>, others: &[Label<'_>]) -> Result<(), AllocError>
+    ensures { OnOk result (text.new.items ≡ text.old.items
+        ++ labels_text first.entry others.entry.now) }
 {
-    let [first, rest @ ..] = labels else {
-        return Ok(());
-    };
     text.push(b'{')?;
-    add_label(text, *first)?;
-    add_more_labels(text, rest)?;
+    add_label(text, first)?;
+    add_more_labels(text, others)?;
     text.push(b'}')?;
     Ok(())
 }
@@ -139,24 +137,29 @@ fn add_value(alloc: Global, text: &mut Vec<u8>, value: Value) -> Result<(), Allo
 /// A text that grows by whole lines. Where a request for memory is refused for one, a front of it
 /// may stand.
 #[derive(Drop)]
-pub struct Page {
+pub struct Page<'a> {
     alloc: Global,
     text: Vec<u8>,
+    /// The first label of each sample.
+    common: Label<'a>,
 }
 
-impl Page {
-    pub fn new(alloc: Global) -> Page
-        ensures { result.text.items ≡ [] }
+impl<'a> Page<'a> {
+    /// A page without a line, each sample of which is to have this label before its own.
+    pub fn new(alloc: Global, common: Label<'a>) -> Page<'a>
+        ensures text { result.text.items ≡ [] }
+        ensures common { result.common ≡ common.entry }
     {
         Page {
             alloc,
             text: Vec::new(alloc),
+            common,
         }
     }
 
     /// The text, as far as it was written.
     pub fn into_text(self) -> Vec<u8>
-        ensures { result ≡ self.text }
+        ensures { result ≡ self.entry.text }
     {
         let Page { text, .. } = self;
         text
@@ -164,8 +167,9 @@ impl Page {
 
     /// Adds what is said of a family: its lines are to come behind.
     pub fn add_family(&mut self, family: &Family<'_>) -> Result<(), AllocError>
-        ensures { OnOk result
+        ensures ok { OnOk result
             (self.new.text.items ≡ self.old.text.items ++ family_lines family.now) }
+        ensures common { self.new.common ≡ self.old.common }
     {
         let text = &mut self.text;
         text.extend_from_slice(b"# HELP ")?;
@@ -180,19 +184,20 @@ impl Page {
         Ok(())
     }
 
-    /// Adds a sample of a family.
+    /// Adds a sample of a family. It has the label of all samples, and then these.
     pub fn add_sample(
         &mut self,
         family: &Family<'_>,
         labels: &[Label<'_>],
         value: Value,
     ) -> Result<(), AllocError>
-        ensures { OnOk result (self.new.text.items ≡ self.old.text.items
-            ++ sample_line family.now.name.now labels.now value) }
+        ensures ok { OnOk result (self.new.text.items ≡ self.old.text.items
+            ++ sample_line family.now.name.now self.old.common labels.now value) }
+        ensures common { self.new.common ≡ self.old.common }
     {
         let text = &mut self.text;
         text.extend_from_slice(family.name.as_bytes())?;
-        add_labels(text, labels)?;
+        add_labels(text, self.common, labels)?;
         text.push(b' ')?;
         add_value(self.alloc, text, value)?;
         text.push(b'\n')?;

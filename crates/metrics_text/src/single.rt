@@ -125,7 +125,7 @@ pub(crate) static FIGURES: [(Figure, Family<'static>); 23] = [
         Figure::Memory,
         Family {
             name: "remoted_connections_closed_memory_total",
-            help: "Connections that were closed for want of memory.",
+            help: "Connections that were closed, or refused, for want of memory.",
             kind: Kind::Counter,
         },
     ),
@@ -157,7 +157,7 @@ pub(crate) static FIGURES: [(Figure, Family<'static>); 23] = [
         Figure::Answered,
         Family {
             name: "remoted_execute_hits_total",
-            help: "Calls of Execute that were answered a stored result.",
+            help: "Calls of Execute that were answered at once: by a stored result, or a fault.",
             kind: Kind::Counter,
         },
     ),

@@ -297,7 +297,7 @@ fn instance_figures<'a>(
     }))
 }
 
-/// The figures of a server now. The longest turn is that since they were asked for last.
+/// The figures of a server now, for a file. The longest turn is that since they were asked for last.
 pub fn figures_of<'a>(
     rt: &HostRuntime,
     configs: &'a Configs,
@@ -305,6 +305,7 @@ pub fn figures_of<'a>(
     times: &JobTimes,
     folders: &FolderCounts,
     turns: &mut Turns,
+    file: &'a str,
 ) -> Result<ServerFigures<'a>, AllocError> {
     let alloc = rt.alloc();
     let mut instances = Vec::new(alloc);
@@ -320,6 +321,7 @@ pub fn figures_of<'a>(
     let longest = turns.longest;
     turns.longest = 0;
     Ok(ServerFigures {
+        file,
         version: VERSION,
         texts,
         bytes: u64::try_from(bytes).unwrap_or(u64::MAX),

@@ -101,6 +101,7 @@ impl<'a> Operator<'a> {
             &self.times,
             self.folders,
             &mut self.turns,
+            metrics.path(),
         );
         // Where memory is refused the file stays as it is until the next time.
         if let Ok(figures) = figures {

@@ -17,7 +17,7 @@ use server_events::Configs;
 use std::alloc::{AllocError, Global};
 use std::io::{self, ErrorKind, Write};
 use std::net::{IpAddr, Ipv4Addr, SocketAddr};
-use std::time::Duration;
+use std::time::{Duration, Instant};
 use std::{fs, thread};
 
 pub const DONE: u8 = 0;
@@ -154,17 +154,31 @@ fn job_runner<'a, E: Write>(
     Ok(JobRunner::new(rt.alloc(), folder, programs, slots_of(instances))?)
 }
 
-/// Ends what runs, and removes its folders. One that is left is a line.
+/// The milliseconds since a moment; 0 where the clock cannot be read.
+fn passed_since(rt: &HostRuntime, moment: Option<Instant>) -> u64 {
+    match (moment, Instant::now(rt)) {
+        (Some(moment), Ok(now)) => {
+            let passed = now.saturating_duration_since(moment).as_millis();
+            u64::try_from(passed).unwrap_or(u64::MAX)
+        }
+        _ => 0,
+    }
+}
+
+/// Closes all ports and connections. Then ends what runs, and removes its folders. One that is left
+/// is a line.
 fn end_runs(
     rt: &HostRuntime,
     configs: &Configs,
-    sockets: &mut HostSockets<'_>,
+    mut sockets: HostSockets<'_>,
     runs: &mut JobRunner<HostFolder<'_>, HostPrograms<'_>>,
     lines: &mut ErrorLines<StandardError>,
 ) {
-    let last = sockets.now().saturating_add(MOST_ENDING);
+    let (began, end) = (Instant::now(rt).ok(), sockets.now());
+    drop(sockets);
+    let last = end.saturating_add(MOST_ENDING);
     for _ in 0..MOST_ENDING {
-        let now = sockets.now();
+        let now = end.saturating_add(passed_since(rt, began));
         if runs.end_all(configs, now, lines) == 0 || now >= last {
             return;
         }
@@ -204,7 +218,7 @@ fn remove_start(rt: &HostRuntime, path: &str) {
 fn serve_turns(
     rt: &HostRuntime,
     instances: &Instances,
-    sockets: &mut HostSockets<'_>,
+    mut sockets: HostSockets<'_>,
     runs: &mut JobRunner<HostFolder<'_>, HostPrograms<'_>>,
     folders: &FolderCounts,
     service: &Service<'_>,
@@ -217,7 +231,7 @@ fn serve_turns(
     let served = serve(
         alloc,
         configs,
-        sockets,
+        &mut sockets,
         runs,
         &mut lines,
         &mut operator,
@@ -288,7 +302,7 @@ fn serve_instances<O: Write, E: Write>(
     let folders = FolderCounts::new(rt.alloc(), instances.ports.len())?;
     let mut runs = job_runner(rt, work, &folders, launcher, instances, errors)?;
     announce(instances, output)?;
-    let ended = serve_turns(rt, instances, &mut sockets, &mut runs, &folders, service);
+    let ended = serve_turns(rt, instances, sockets, &mut runs, &folders, service);
     remove_start(rt, start.as_str());
     ended?;
     Ok(DONE)

@@ -67,6 +67,11 @@ impl<'a> MetricsFile<'a> {
         })
     }
 
+    /// The path of the file, as it was given.
+    pub fn path(&self) -> &'a str {
+        self.path
+    }
+
     /// Whether figures are due at this moment: ten seconds have passed since they last were.
     pub fn is_due(&mut self, moment: u64) -> bool {
         self.writing.take(moment)

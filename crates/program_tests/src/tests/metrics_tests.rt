@@ -129,6 +129,7 @@ fn idle(alloc: Global) -> InstanceFigures<'static> {
 
 fn shown(alloc: Global) -> Result<Vec<u8>, AllocError> {
     let server = ServerFigures {
+        file: "/run/\"r\".prom",
         version: "1.2.3",
         texts: 25,
         bytes: 26,

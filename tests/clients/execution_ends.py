@@ -69,6 +69,30 @@ def output_trees(c):
     return "trees of 10,000 nodes and 64 levels; one more of either is 13 `run failed`"
 
 
+def replaced_directories(c):
+    """A program puts other directories in the place of those that were made for its outputs, or came with its inputs."""
+    old, new = {"d": {"e": {"o": b"old"}}}, (m.digest(b"new"), False)
+    makes = "mkdir -p d/e; printf new > d/e/o"
+    with c.peer() as peer:
+        for script, tree in [
+            ("rm -r d", {}),
+            ("mv d other", {}),
+            ("rm -r d", old),
+            ("mv d other", old),
+            ("mv d/e e", old),
+        ]:
+            for more in ({"paths": ["d/e/o"]}, {"files": ["d/e/o"]}):
+                result = c.ran(peer, c.action(shell(f"{script}; {makes}", **more), tree=tree)).result
+                expect(result.files, {"d/e/o": new}, f"after {script}, with {more}")
+            result = c.ran(peer, c.action(shell(f"{script}; {makes}", paths=["d/e"]), tree=tree)).result
+            expect(peer.tree(result.trees["d/e"]), {"o": new}, f"a tree after {script}")
+        moved = shell("cd ..; mv w other; mkdir w; printf new > w/o", paths=["o"], folder="w")
+        expect(c.ran(peer, moved).result.files, {"o": new}, "in another working directory")
+        gone = c.ran(peer, c.action(shell("mv d other", paths=["d/e/o"]), tree=old)).result
+        expect(gone.files, {}, "what was moved away is no output")
+    return "outputs are what stands at their paths at the end, whatever became of the directories there before"
+
+
 def large_streams(c):
     zeros = lambda byte, count: hashlib.sha256(byte * count).hexdigest()
     with c.peer() as peer:

@@ -37,7 +37,8 @@ OF_INPUTS += [
     inputs.many_files,
     inputs.odd_trees,
 ]
-OF_ENDS = [ends.outputs, ends.output_trees, ends.large_streams, ends.too_large, ends.over_quota, ends.timeouts]
+OF_ENDS = [ends.outputs, ends.output_trees, ends.replaced_directories, ends.large_streams, ends.too_large]
+OF_ENDS += [ends.over_quota, ends.timeouts]
 OF_ENDS += [ends.leftovers_of_programs, ends.own_groups, ends.named_by_sha512, ends.cached, ends.not_cached]
 OF_ENDS += [ends.watched, ends.cut, ends.side_by_side, ends.hundred]
 PLAIN_USER = [
@@ -45,6 +46,7 @@ PLAIN_USER = [
     inputs.not_there,
     inputs.trees,
     ends.outputs,
+    ends.replaced_directories,
     ends.timeouts,
     ends.leftovers_of_programs,
     ends.rights,

@@ -89,6 +89,19 @@ def lines_unheard(stage):
     return "the server goes on"
 
 
+def lines_unheard_from_the_start(stage):
+    """The reader of standard error has gone before the server begins."""
+    reader, writer = os.pipe()
+    os.close(reader)
+    with open(writer, "wb") as pipe, stage.serve(heard=False, stderr=pipe) as (server, red):
+        for _ in range(20):
+            done = red.execute(stage.action(["/no/such"]))
+            expect((done.status.code, done.status.text), (13, "run failed"), "a run that fails")
+        stage.runs(red, "printf abc")
+        stage.blue_runs(server)
+    return "the server begins, and goes on"
+
+
 # What ends sessions.
 
 

@@ -97,6 +97,28 @@ def folder_by_link(stage):
     return "what they lead to stays"
 
 
+def shared_folder(stage):
+    """Each user may write in the folder, or it is another user's; and somebody else would hold its mark."""
+    line = f"remoted: other users may put folders of their own into {stage.work}: "
+    with stage.serve() as (server, red):
+        stage.runs(red, "printf abc")
+        expect([each for each in server.said() if "other users" in each], [], "of a folder of one's own")
+        mode = stat.S_IMODE(os.stat(os.path.join(stage.work, "remoted.lock")).st_mode)
+        expect(oct(mode), oct(0o600), "who may open the mark")
+    ways = [lambda: os.chmod(stage.work, 0o777)]
+    if not os.geteuid() and stage.user is None:
+        ways.append(lambda: (os.chmod(stage.work, 0o755), os.chown(stage.work, 65534, 65534)))
+    for way in ways:
+        way()
+        os.chmod(os.path.join(stage.work, "remoted.lock"), 0o644)
+        with stage.serve() as (server, red):
+            stage.runs(red, "printf abc")
+            expect([each.startswith(line) for each in server.said()[:1]], [True], f"a line: {server.said()}")
+            mode = stat.S_IMODE(os.stat(os.path.join(stage.work, "remoted.lock")).st_mode)
+            expect(oct(mode), oct(0o600), "who may open the mark of a former version")
+    return "a line says so, and nobody else can hold the mark"
+
+
 def odd_numbers(stage):
     """The folder has names that starts would have, with the largest numbers and beyond, made by an action."""
     script = """for n in 18446744073709551615 18446744073709551614 99999999999999999999 9223372036854775807; do

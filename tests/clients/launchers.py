@@ -81,6 +81,12 @@ class Report:
             self.missed(what, found)
 
 
+def as_plain_user(report, program):
+    plain, who = {"user": PLAIN, "group": PLAIN, "extra_groups": []}, "as a plain user"
+    sandbox.reach(report, program, who, **plain)
+    sandbox.nothing_started(report, program, who, **plain)
+
+
 def main():
     parts = ["lost", "sandbox", "plain", "slurm", "both", "cost"]
     parser = argparse.ArgumentParser(description=__doc__, formatter_class=argparse.RawDescriptionHelpFormatter)
@@ -90,14 +96,13 @@ def main():
     parser.add_argument("--count", type=int, default=100)
     options = parser.parse_args()
     report, program = Report(options.slow), options.program
-    plain = {"user": PLAIN, "group": PLAIN, "extra_groups": []}
     no_sandbox = [] if shutil.which("bwrap") else ["bubblewrap (bwrap)"]
     no_root = [] if os.geteuid() == 0 else ["root"]
     no_cluster = slurm_cluster.lacking()
     ways = {
         "lost": ([], lambda: launchers_lost.lost(report, program)),
         "sandbox": (no_sandbox, lambda: sandbox.reach(report, program, "as this user")),
-        "plain": (no_sandbox + no_root, lambda: sandbox.reach(report, program, "as a plain user", **plain)),
+        "plain": (no_sandbox + no_root, lambda: as_plain_user(report, program)),
         "slurm": (no_cluster, lambda: slurm.on_nodes(report, program)),
         "both": (no_cluster + no_sandbox, lambda: slurm.sandboxed(report, program)),
         "cost": (no_sandbox, lambda: cost(report, program, options.count)),

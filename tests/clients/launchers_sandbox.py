@@ -26,6 +26,13 @@ for port in sys.argv[1:]:
             pass
 """
 
+KEYS = """import ctypes, platform
+kernel = ctypes.CDLL(None, use_errno=True)
+first = {"x86_64": 248, "aarch64": 217}[platform.machine()]
+for call in (first, first + 1, first + 2):
+    print(kernel.syscall(call, 0, 0, 0, 0, 0), ctypes.get_errno())
+"""
+
 
 class Told:
     """What came of an action, with its texts."""
@@ -107,6 +114,7 @@ def processes(helpers, server):
         ("both ports", ["/usr/bin/python3", "-c", CONNECTING, *ports], {}, lambda t: t.stdout == "" and t.code == 0),
         ("killing the server and its helper", killing, {}, nothing),
         ("stopping the server and its helper", stopping, {}, nothing),
+        ("keys of the kernel's", ["/usr/bin/python3", "-c", KEYS], {}, lambda t: t.stdout == 3 * "-1 1\n"),
         ("rights", "grep -c 'Cap.*:.0000000000000000$' /proc/self/status", {}, lambda t: t.stdout == "5\n"),
         ("another namespace", "unshare --user true", {}, lambda t: t.code != 0),
         ("the kernel's settings", settings, {}, nothing),
@@ -167,6 +175,26 @@ def reach(report, program, who, **more):
     finally:
         for number in programs.running(folder):
             os.kill(number, signal.SIGKILL)
+        shutil.rmtree(folder, ignore_errors=True)
+
+
+def nothing_started(report, program, who, **more):
+    """A sandbox in which no process can be started: that is the launcher's fault, and no result of the action."""
+    folder = tempfile.mkdtemp(prefix="launchers-")
+    os.chmod(folder, 0o777)
+    launcher, work = shutil.copy(SANDBOX, folder), os.path.join(folder, "work")
+    with open(SANDBOX) as file:
+        text = file.read().replace("--nproc=2000", "--nproc=1")
+    with open(launcher, "w") as file:
+        file.write(text)
+    try:
+        with Server(program, [("red", 10**8, 1)], 2**62, None, work, True, launcher, **more) as server:
+            with Peer(server.ports[0], 60 * report.slow) as red:
+                told = Told(red, marked(folder, "true"))
+            programs.settled(lambda: not server.said(), 2 * report.slow)
+            is_told = told.status == 13 and server.said()[-1:] == ["remoted: run red 1 failed: launcher"]
+            report.expect(is_told, f"{who}: a sandbox in which no program can be started", (str(told), server.said()))
+    finally:
         shutil.rmtree(folder, ignore_errors=True)
 
 

@@ -5,6 +5,7 @@ import os
 import re
 import shutil
 import signal
+import subprocess
 import tempfile
 import threading
 import time
@@ -70,9 +71,21 @@ def on_nodes(report, program):
             with Peer(server.ports[0], 300 * report.slow) as second:
                 many(here, peer, second)
             here.nothing_left(server, "200 actions")
+        not_copied(here)
         killed(here)
         with here.serve() as (server, peer):
             node_lost(here, server, peer)
+
+
+def not_copied(here):
+    """The launcher alone, where what the program wrote cannot be written once more."""
+    root = os.path.join(here.folder, "start-1", "0-1")
+    os.makedirs(root)
+    words, aside = [here.launcher, "red", root, ".", "/bin/echo", "x"], {"stdin": subprocess.DEVNULL, "env": {}}
+    ended = [subprocess.run(words, stdout=subprocess.DEVNULL, **aside).returncode]
+    with open("/dev/full", "wb") as full:
+        ended.append(subprocess.run(words, stdout=full, stderr=subprocess.DEVNULL, **aside).returncode)
+    here.expect(ended == [0, -signal.SIGKILL], "what cannot be copied is no result", ended)
 
 
 def results(here, peer):

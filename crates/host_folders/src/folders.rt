@@ -3,14 +3,13 @@
 ghost use Rattle.std.specs.Prelude.{◌≡◌, ◌≤◌, IfOk, length};
 
 use crate::counts::FolderCounts;
-use crate::directory::{COMMON_MODE, Directory, PRIVATE_MODE};
-use crate::entering::{Entered, Entrance};
-use crate::files::{Kept, again, list_in, look_in, open_to_add, open_to_read};
-use crate::opener::{Opener, Target};
 use crate::remover::Remover;
-use crate::removing::Removal;
 use crate::tallies::Tallies;
 use crate::work::Work;
+use host_directories::{
+    COMMON_MODE, Directory, Entered, Entrance, Kept, Opener, PRIVATE_MODE, Removal, Target,
+    kept_file, list_in, look_in, open_to_add, open_to_read,
+};
 use host_files::{
     aside_name, file_path, found_at, is_absence, left_path, node_path, parted, read_part, root_name,
 };
@@ -167,7 +166,7 @@ impl<'a> Folders<'a> {
     /// Adds to a file that was made.
     pub(crate) fn write(&mut self, run: RunKey, names: &[RcStr], bytes: &[u8]) -> io::Result<()> {
         let path = node_path(self.rt.alloc(), run, names)?;
-        let mut file = match again(self.made.take(), path.as_str()) {
+        let mut file = match kept_file(self.made.take(), path.as_str()) {
             Some(file) => file,
             None => self.open_made(path.as_str())?,
         };
@@ -200,10 +199,10 @@ impl<'a> Folders<'a> {
         self.make_directory(path.as_str())
     }
 
-    /// Makes a directory and those above it, where they are not there.
+    /// Makes a directory and those above it, where they are not there. It is not kept: the program
+    /// that starts next may put another one in its place.
     fn make_directory(&mut self, path: &str) -> io::Result<()> {
-        let entered = self.entrance.make(self.work.start()?, path)?;
-        self.entrance.keep(entered);
+        let _made: Entered = self.entrance.make(self.work.start()?, path)?;
         Ok(())
     }
 
@@ -325,7 +324,7 @@ impl<'a> Folders<'a> {
         }
         let alloc = self.rt.alloc();
         let path = left_path(alloc, place, path, names)?;
-        let file = match again(self.read.take(), path.as_str()) {
+        let file = match kept_file(self.read.take(), path.as_str()) {
             Some(file) => file,
             None => {
                 let opened = self.open_left(place.run, path.as_str())?;

@@ -2,14 +2,9 @@
 #![tactic(auto)]
 
 mod counts;
-mod directory;
-mod entering;
-mod files;
 mod folder;
 mod folders;
-mod opener;
 mod remover;
-mod removing;
 mod starts;
 mod tallies;
 mod work;

@@ -1,6 +1,6 @@
 //! The folders of starts in a directory.
 
-use crate::directory::{Directory, PRIVATE_MODE};
+use host_directories::{Directory, PRIVATE_MODE};
 use std::alloc::{AllocError, Global};
 use std::io::{self, ErrorKind};
 use std::time::{SystemTime, UNIX_EPOCH};

@@ -1,13 +1,12 @@
 //! The directory for the work of actions, and the folder of a start in it.
 
-use crate::directory::{Directory, PRIVATE_MODE};
-use crate::files::open_regular;
-use crate::removing::Removal;
 use crate::starts::{make_start, number_after, starts_in};
+use host_directories::{Directory, PRIVATE_MODE, Removal, open_regular};
 use host_shells::{Removing, RemovingShells};
 use std::alloc::Global;
-use std::fs::{self, File, OpenOptions, TryLockError};
+use std::fs::{self, File, OpenOptions, Permissions, TryLockError};
 use std::io::{self, ErrorKind, Write};
+use std::os::unix::fs::{MetadataExt, OpenOptionsExt, PermissionsExt};
 use std::thread;
 use std::time::{Duration, Instant};
 
@@ -17,6 +16,15 @@ const MARK: &str = "remoted.lock";
 const MARK_TEXT: &str =
     "The actions of a remoted server have their folders here. It removes what it \
     finds in them.\n";
+
+/// How it can be used: who could open it could hold it.
+const MARK_MODE: u32 = 0o600;
+
+/// The user whom a system has for itself.
+const ROOT: u32 = 0;
+
+/// The bit of a directory in which each user may write.
+const WRITTEN_BY_ALL: u32 = 0o002;
 
 /// What the root of a file system has from the start.
 const LOST_AND_FOUND: &str = "lost+found";
@@ -97,6 +105,9 @@ pub enum Complaint {
     Unlocked(io::Error),
     /// What stands at this path is left of a former start, and cannot be removed.
     Left(String, io::Error),
+    /// It is another user's, or each user may write there: who may can put up folders in the place
+    /// of those of runs.
+    Shared,
 }
 
 impl Work {
@@ -217,7 +228,11 @@ fn marked(rt: &HostRuntime, directory: &Directory) -> io::Result<Option<File>> {
     let alloc = rt.alloc();
     let path = directory.path_of(alloc, MARK)?;
     match open_regular(rt, path.as_str(), OpenOptions::new().read(true).write(true)) {
-        Ok(mark) => return Ok(Some(mark)),
+        Ok(mark) => {
+            // One of a former version. Where it is another user's, it stays as it is.
+            let _ = mark.set_permissions(Permissions::from_mode(MARK_MODE));
+            return Ok(Some(mark));
+        }
         Err(error) if error.kind() == ErrorKind::NotFound => {}
         Err(error) => return Err(error),
     }
@@ -227,6 +242,7 @@ fn marked(rt: &HostRuntime, directory: &Directory) -> io::Result<Option<File>> {
     let mut mark: File = OpenOptions::new()
         .write(true)
         .create_new(true)
+        .mode(MARK_MODE)
         .open(rt, path.as_str())?;
     mark.write_all(MARK_TEXT.as_bytes())?;
     Ok(Some(mark))
@@ -283,6 +299,9 @@ fn begin_in(
         }
     }
     let whole = format!(in alloc; "{path}/{name}")?;
+    if is_shared(rt, path, whole.as_str())? {
+        push(complaints, Complaint::Shared)?;
+    }
     let mut held = Held {
         shown: start.shown_path(alloc, ".")?,
         clearing: RemovingShells::new(alloc),
@@ -299,6 +318,17 @@ fn begin_in(
         path: whole,
         held: Some(held),
     })
+}
+
+/// Whether others may rename what is in the directory at a path: it is neither of the user who made
+/// the folder of the start, nor of root, or each user may write there.
+fn is_shared(rt: &HostRuntime, path: &str, start: &str) -> io::Result<bool> {
+    let (found, made) = (
+        fs::symlink_metadata(rt, path)?,
+        fs::symlink_metadata(rt, start)?,
+    );
+    let is_own = found.uid() == made.uid() || found.uid() == ROOT;
+    Ok(!is_own || found.mode() & WRITTEN_BY_ALL != 0)
 }
 
 /// Whether nothing has this name in a directory.

@@ -45,6 +45,10 @@ done";
 /// How it ends where it can do nothing, or where there is no shell.
 const CANNOT_WORK: [i32; 3] = [9, 126, 127];
 
+/// How many have to end so, one after another and without an answer, until none is started any
+/// more: where memory is short for a moment, one may.
+const MOST_UNABLE: u32 = 3;
+
 /// How many milliseconds after it was tried to start a shell it is tried again. So often it is
 /// looked whether one that leaves something without an answer for long was stopped.
 const TRIED_AGAIN: u64 = 250;
@@ -101,6 +105,8 @@ pub struct RemovingShells {
     waiting: Vec<Waiting>,
     /// Those that were lost, until they have ended.
     lost: Vec<Shell>,
+    /// How many of them could do nothing since one answered.
+    unable: u32,
     /// Whether none can be had on this host.
     is_alone: bool,
 }
@@ -114,6 +120,7 @@ impl RemovingShells {
             tried: None,
             waiting: Vec::new(alloc),
             lost: Vec::new(alloc),
+            unable: 0,
             is_alone: false,
         }
     }
@@ -226,13 +233,18 @@ impl RemovingShells {
         self.start(rt, folder, now)
     }
 
-    /// Forgets those of the lost ones that have ended, and notes whether one could do nothing here.
+    /// Forgets those of the lost ones that have ended, and notes which could do nothing here.
     fn forget_ended(&mut self) {
         for shell in &mut self.lost {
-            if let Some(code) = shell.code() {
-                self.is_alone = self.is_alone || CANNOT_WORK.contains(&code);
+            match shell.code() {
+                _ if shell.answered() > 0 => self.unable = 0,
+                Some(code) if CANNOT_WORK.contains(&code) => {
+                    self.unable = self.unable.saturating_add(1);
+                }
+                _ => {}
             }
         }
+        self.is_alone = self.is_alone || self.unable >= MOST_UNABLE;
         self.lost.retain_mut(|shell| !shell.has_ended());
     }
 

@@ -149,6 +149,11 @@ fn tell<E: Write>(path: &str, complaint: &Complaint, errors: &mut E) -> io::Resu
             "remoted: cannot tell whether another server works in {path}: {error}"
         ),
         Complaint::Left(left, error) => writeln!(errors, "remoted: cannot remove {left}: {error}"),
+        Complaint::Shared => writeln!(
+            errors,
+            "remoted: other users may put folders of their own into {path}: let it be the server's \
+             user's, and not be written by all"
+        ),
     }
 }
 

@@ -1,14 +1,12 @@
 //! `remoted check`.
 
-use crate::serve_ports::{BAD_WORDS, DONE, ip_of, is_memory};
+use crate::exit::{DONE, Exit};
+use crate::serve_ports::{ip_of, is_memory};
 use command_line::Question;
 use port_check::{Answer, ask, question_bytes};
 use std::io::{self, Write};
 use std::net::{IpAddr, Ipv4Addr, SocketAddr, TcpStream};
 use std::time::Duration;
-
-/// The status where a server does not answer as it should.
-const NO_ANSWER: u8 = 4;
 
 /// The most bytes of an instance's name.
 const NAME_LIMIT: usize = 64;
@@ -73,20 +71,19 @@ fn tell<E: Write>(told: &str, seconds: u64, outcome: &Outcome, errors: &mut E) -
     }
 }
 
-/// Asks a server what it can do, tells whether it answers, and gives the status with which the
-/// program ends.
+/// Asks a server what it can do, tells whether it answers, and says how the program ends.
 pub fn check_port<O: Write, E: Write>(
     rt: &HostRuntime,
     asked: Question<'_>,
     output: &mut O,
     errors: &mut E,
-) -> io::Result<u8> {
+) -> io::Result<Exit> {
     let Some(host) = ip_of("--host", asked.host, errors)? else {
-        return Ok(BAD_WORDS);
+        return Ok(Exit::BadWords);
     };
     if asked.instance.unwrap_or("").len() > NAME_LIMIT {
         writeln!(errors, "remoted: --instance is longer than any name")?;
-        return Ok(BAD_WORDS);
+        return Ok(Exit::BadWords);
     }
     let address = SocketAddr::new(host, asked.port);
     let told = told_address(rt, address)?;
@@ -97,7 +94,7 @@ pub fn check_port<O: Write, E: Write>(
         }
         outcome => {
             tell(told.as_str(), asked.seconds, &outcome, errors)?;
-            Ok(NO_ANSWER)
+            Ok(Exit::NoAnswer)
         }
     }
 }

@@ -1,6 +1,7 @@
 //! The figures of a server, as they are written for an operator.
 
-use crate::watching::{resident, unix_time};
+use crate::clock::{milliseconds_between, unix_time};
+use crate::watching::resident;
 use call_counts::CallCounts;
 use command_line::VERSION;
 use host_folders::FolderCounts;
@@ -51,6 +52,13 @@ const STATUSES: [&str; 17] = [
     "DATA_LOSS",
     "UNAUTHENTICATED",
 ];
+
+/// The places of some of them.
+pub const OK: usize = 0;
+
+pub const NOT_FOUND: usize = 5;
+
+pub const RESOURCE_EXHAUSTED: usize = 8;
 
 /// The error codes of HTTP/2, by their numbers.
 pub const FAULTS: [&str; 14] = [
@@ -158,9 +166,7 @@ impl Turns {
         self.count = self.count.saturating_add(1);
         let now = Instant::now(rt).ok();
         if let (Some(last), Some(now)) = (self.last, now) {
-            let passed = now.saturating_duration_since(last).as_millis();
-            let length = u64::try_from(passed).unwrap_or(u64::MAX);
-            self.longest = self.longest.max(length);
+            self.longest = self.longest.max(milliseconds_between(last, now));
         }
         self.last = now;
         let more = if sight.dropped >= self.seen_dropped {
@@ -238,8 +244,8 @@ fn call_figures(
 fn hit_figures(counts: &CallCounts) -> HitFigures {
     let found = counts.of(Method::GetActionResult);
     HitFigures {
-        found: found.ended[0],
-        missing: found.ended[5],
+        found: found.ended[OK],
+        missing: found.ended[NOT_FOUND],
         answered: counts.executions_from_cache,
         queued: counts.executions_queued,
     }

@@ -3,6 +3,8 @@
 
 mod beginning;
 mod checking;
+mod clock;
+mod exit;
 mod figures;
 mod notices;
 mod operator;
@@ -11,6 +13,7 @@ mod standard_error;
 mod watching;
 
 use crate::checking::check_port;
+use crate::exit::{DONE, Exit, FAILED};
 use crate::serve_ports::serve_ports;
 use command_line::{CommandLineError, Invocation, parse};
 use probe::{Request, probe};
@@ -28,23 +31,23 @@ enum Script {
     Events,
 }
 
-/// Carries out the script of a file, and gives the number with which the program ends.
+/// Carries out the script of a file, and says how the program ends.
 fn carry_out_file<O: Write, E: Write>(
     rt: &HostRuntime,
     script: Script,
     file: &str,
     output: &mut O,
     errors: &mut E,
-) -> io::Result<u8> {
+) -> io::Result<Exit> {
     let Some(text) = read_file(rt, file, errors)? else {
-        return Ok(Status::Failed.code());
+        return Ok(FAILED);
     };
     let mut input = text.as_slice();
     let status = match script {
         Script::Calls => unary(rt.alloc(), &mut input, output, errors),
         Script::Events => replay(rt.alloc(), &mut input, output, errors),
     };
-    Ok(status.code())
+    Ok(Exit::With(status))
 }
 
 /// Sends a request to a port of this host, and shows what comes back.
@@ -69,8 +72,8 @@ fn probe_port<O: Write, E: Write>(
     ))
 }
 
-/// Sends the bytes of a file to a port of this host, shows what comes back, and gives the number
-/// with which the program ends.
+/// Sends the bytes of a file to a port of this host, shows what comes back, and says how the
+/// program ends.
 fn probe_with_file<O: Write, E: Write>(
     rt: &HostRuntime,
     port: u16,
@@ -78,9 +81,9 @@ fn probe_with_file<O: Write, E: Write>(
     (want, turns): (u64, u64),
     output: &mut O,
     errors: &mut E,
-) -> io::Result<u8> {
+) -> io::Result<Exit> {
     let Some(bytes) = read_file(rt, file, errors)? else {
-        return Ok(Status::Failed.code());
+        return Ok(FAILED);
     };
     let request = Request {
         bytes: &bytes,
@@ -88,22 +91,23 @@ fn probe_with_file<O: Write, E: Write>(
         turns,
     };
     let status = probe_port(rt, port, request, output, errors)?;
-    Ok(status.code())
+    Ok(Exit::With(status))
 }
 
-/// Does what is asked for, and gives the number with which the program ends.
+/// Does what is asked for, and says how the program ends.
 fn perform<O: Write, E: Write>(
     rt: &HostRuntime,
     invocation: &Invocation<'_>,
     output: &mut O,
     errors: &mut E,
-) -> io::Result<u8> {
+) -> io::Result<Exit> {
     match invocation {
         Invocation::Unary { file: Some(file) } => {
             carry_out_file(rt, Script::Calls, file, output, errors)
         }
         Invocation::Unary { file: None } => {
-            Ok(unary(rt.alloc(), &mut rt.stdin(), output, errors).code())
+            let status = unary(rt.alloc(), &mut rt.stdin(), output, errors);
+            Ok(Exit::With(status))
         }
         Invocation::Replay { file } => carry_out_file(rt, Script::Events, file, output, errors),
         Invocation::Probe {
@@ -117,39 +121,41 @@ fn perform<O: Write, E: Write>(
     }
 }
 
-/// Does what these words of a command line ask for, and gives the number with which the program
-/// ends.
+/// Does what these words of a command line ask for, and says how the program ends.
 fn answer<O: Write, E: Write>(
     rt: &HostRuntime,
     words: &[String],
     output: &mut O,
     errors: &mut E,
-) -> io::Result<u8> {
+) -> io::Result<Exit> {
     match parse(rt.alloc(), words) {
         Ok(invocation) => perform(rt, &invocation, output, errors),
         Err(CommandLineError::NoMemory) => Err(io::Error::from(ErrorKind::OutOfMemory)),
         Err(CommandLineError::Answered(error)) => {
             error.print(rt)?;
-            Ok(command_line::status(&error))
+            match command_line::status(&error) {
+                0 => Ok(DONE),
+                _ => Ok(Exit::BadWords),
+            }
         }
     }
 }
 
-/// Does what the command line asks for, and gives the number with which the program ends.
-fn status(rt: &HostRuntime) -> io::Result<u8> {
+/// Does what the command line asks for, and says how the program ends.
+fn exit_of(rt: &HostRuntime) -> io::Result<Exit> {
     let words: Vec<String> = std::env::args(rt)?.collect(rt.alloc())?;
     let mut output = BufWriter::new(rt.alloc(), rt.stdout())?;
-    let status = answer(rt, &words, &mut output, &mut rt.stderr())?;
+    let exit = answer(rt, &words, &mut output, &mut rt.stderr())?;
     match output.flush() {
         // Where writing failed, that was told before.
-        Err(error) if status != Status::Failed.code() => Err(error),
-        _ => Ok(status),
+        Err(error) if exit != FAILED => Err(error),
+        _ => Ok(exit),
     }
 }
 
 fn main(rt: HostRuntime) -> ExitCode {
-    match status(&rt) {
-        Ok(status) => ExitCode::from(status),
+    match exit_of(&rt) {
+        Ok(exit) => ExitCode::from(exit.code()),
         Err(error) => {
             let status = Fault::of(&error).status();
             let _told: io::Result<()> = status.tell(&mut rt.stderr());

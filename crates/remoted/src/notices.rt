@@ -1,6 +1,6 @@
 //! Lines for what an operator has to know of an instance: how often it came since the last line.
 
-use crate::figures::FAULTS;
+use crate::figures::{FAULTS, RESOURCE_EXHAUSTED};
 use crate::standard_error::StandardError;
 use host_folders::FolderCounts;
 use instance_core::InstanceSizes;
@@ -11,9 +11,6 @@ use std::alloc::{AllocError, Global};
 
 /// Blobs that were used later than so many milliseconds ago should not be dropped.
 const YOUNG: u64 = 60_000;
-
-/// The place of gRPC's RESOURCE_EXHAUSTED among the statuses.
-const EXHAUSTED: usize = 8;
 
 /// What was counted at an instance when it was looked last.
 #[derive(Clone, Copy)]
@@ -166,8 +163,8 @@ fn tell_instance(
         return;
     };
     let (sizes, calls) = (served.instance().sizes(), served.instance().call_counts());
-    let uploads = calls.of(Method::Write).ended[EXHAUSTED];
-    let actions = calls.of(Method::Execute).ended[EXHAUSTED];
+    let uploads = calls.of(Method::Write).ended[RESOURCE_EXHAUSTED];
+    let actions = calls.of(Method::Execute).ended[RESOURCE_EXHAUSTED];
     tell_connections(alloc, lines, name, &seen.counts, counts);
     tell_more(
         alloc,

@@ -3,6 +3,8 @@
 use crate::beginning::{
     begin, can_open, can_run, guard_against_leases, keep_freed_memory, slots_of,
 };
+use crate::clock::milliseconds_between;
+use crate::exit::{DONE, Exit, FAILED};
 use crate::operator::Operator;
 use crate::standard_error::StandardError;
 use crate::watching::{MetricsFile, StopFile};
@@ -20,12 +22,6 @@ use std::net::{IpAddr, Ipv4Addr, SocketAddr};
 use std::time::{Duration, Instant};
 use std::{fs, thread};
 
-pub const DONE: u8 = 0;
-
-const FAILED: u8 = 1;
-
-pub const BAD_WORDS: u8 = 2;
-
 /// For how many milliseconds it is tried, once each, to end what runs, before the program ends. A
 /// launcher that is told to end may take ten seconds.
 const MOST_ENDING: u64 = 15_000;
@@ -34,8 +30,8 @@ pub fn is_memory(error: &io::Error) -> bool {
     error.kind() == ErrorKind::OutOfMemory
 }
 
-/// Tells why the words are refused, and gives the status for that.
-fn tell_fault<E: Write>(words: &[&str], fault: InstancesFault, errors: &mut E) -> io::Result<u8> {
+/// Tells why the words are refused.
+fn tell_fault<E: Write>(words: &[&str], fault: InstancesFault, errors: &mut E) -> io::Result<Exit> {
     match fault {
         InstancesFault::Bad(place, reason) => {
             let word = words.get(place).copied().unwrap_or("");
@@ -46,7 +42,7 @@ fn tell_fault<E: Write>(words: &[&str], fault: InstancesFault, errors: &mut E) -
         }
         InstancesFault::NoMemory(refused) => return Err(io::Error::from(refused)),
     }
-    Ok(BAD_WORDS)
+    Ok(Exit::BadWords)
 }
 
 /// Listens on the port of each instance; where it cannot on one, that is told, and the answer is
@@ -157,10 +153,7 @@ fn job_runner<'a, E: Write>(
 /// The milliseconds since a moment; 0 where the clock cannot be read.
 fn passed_since(rt: &HostRuntime, moment: Option<Instant>) -> u64 {
     match (moment, Instant::now(rt)) {
-        (Some(moment), Ok(now)) => {
-            let passed = now.saturating_duration_since(moment).as_millis();
-            u64::try_from(passed).unwrap_or(u64::MAX)
-        }
+        (Some(moment), Ok(now)) => milliseconds_between(moment, now),
         _ => 0,
     }
 }
@@ -284,7 +277,7 @@ fn serve_instances<O: Write, E: Write>(
     instances: &Instances,
     output: &mut O,
     errors: &mut E,
-) -> io::Result<u8> {
+) -> io::Result<Exit> {
     let Some(launcher) = launcher_of(rt, service, instances, errors)? else {
         return Ok(FAILED);
     };
@@ -343,16 +336,16 @@ pub fn ip_of<E: Write>(option: &str, word: &str, errors: &mut E) -> io::Result<O
     }
 }
 
-/// Serves instances on ports of this host, and gives the status with which the program ends. An
-/// error is one of the streams, or want of memory.
+/// Serves instances on ports of this host, and says how the program ends. An error is one of the
+/// streams, or want of memory.
 pub fn serve_ports<O: Write, E: Write>(
     rt: &HostRuntime,
     service: &Service<'_>,
     output: &mut O,
     errors: &mut E,
-) -> io::Result<u8> {
+) -> io::Result<Exit> {
     let Some(address) = address_of(service, errors)? else {
-        return Ok(BAD_WORDS);
+        return Ok(Exit::BadWords);
     };
     keep_freed_memory(rt.alloc());
     match instances_of(rt.alloc(), &service.instances) {

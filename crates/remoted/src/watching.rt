@@ -5,7 +5,6 @@ use metrics_text::{ServerFigures, figures_text};
 use std::alloc::AllocError;
 use std::fs::{self, File, OpenOptions};
 use std::io::{self, ErrorKind, Write};
-use std::time::SystemTime;
 
 /// How often the file of figures is written, in milliseconds.
 const WRITING: u64 = 10_000;
@@ -163,12 +162,4 @@ pub fn resident(rt: &HostRuntime) -> Option<u64> {
     let line = text.lines().find_map(|line| line.strip_prefix("VmRSS:"))?;
     let kilobytes = line.trim().split(' ').next()?;
     kilobytes.parse::<u64>().ok()?.checked_mul(1024)
-}
-
-/// The Unix time in seconds, if the clock can be read.
-pub fn unix_time(rt: &HostRuntime) -> Option<u64> {
-    let passed = SystemTime::now(rt)
-        .ok()?
-        .duration_since(SystemTime::UNIX_EPOCH);
-    Some(passed.ok()?.as_secs())
 }

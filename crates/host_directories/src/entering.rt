@@ -9,16 +9,16 @@ const MOST_NAMES: usize = 192;
 
 /// A directory below the folder of a start that was gone down to.
 #[derive(Drop)]
-pub(crate) struct Entered {
+pub struct Entered {
     /// From the folder of the start on; empty for that itself.
     path: String,
-    pub(crate) directory: Directory,
+    pub directory: Directory,
 }
 
 /// The directories below the folder of a start. The one that was used last is kept open, since what
 /// is done next is mostly done there.
 #[derive(Drop)]
-pub(crate) struct Entrance<'a> {
+pub struct Entrance<'a> {
     rt: &'a HostRuntime,
     last: Option<Entered>,
 }
@@ -41,13 +41,13 @@ fn is_deep(path: &str) -> bool {
 }
 
 impl<'a> Entrance<'a> {
-    pub(crate) fn new(rt: &'a HostRuntime) -> Entrance<'a> {
+    pub fn new(rt: &'a HostRuntime) -> Entrance<'a> {
         Entrance { rt, last: None }
     }
 
     /// The directory at a path. Where anything on the way is no directory, as a link is none, that
     /// is an error, as where something is not there.
-    pub(crate) fn enter(&mut self, start: &Directory, path: &str) -> io::Result<Entered> {
+    pub fn enter(&mut self, start: &Directory, path: &str) -> io::Result<Entered> {
         let (mut directory, rest) = self.nearest(start, path)?;
         for name in rest.split('/') {
             if !rest.is_empty() {
@@ -58,7 +58,7 @@ impl<'a> Entrance<'a> {
     }
 
     /// The directory at a path, which is made with all on the way that is not there.
-    pub(crate) fn make(&mut self, start: &Directory, path: &str) -> io::Result<Entered> {
+    pub fn make(&mut self, start: &Directory, path: &str) -> io::Result<Entered> {
         let (mut directory, rest) = self.nearest(start, path)?;
         for name in rest.split('/') {
             if !rest.is_empty() {
@@ -69,12 +69,12 @@ impl<'a> Entrance<'a> {
     }
 
     /// Keeps a directory for the next call.
-    pub(crate) fn keep(&mut self, entered: Entered) {
+    pub fn keep(&mut self, entered: Entered) {
         self.last = Some(entered);
     }
 
     /// Closes the directory that is kept.
-    pub(crate) fn leave(&mut self) {
+    pub fn leave(&mut self) {
         self.last = None;
     }
 

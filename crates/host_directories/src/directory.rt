@@ -15,12 +15,12 @@ const DOTS: u32 = 2;
 
 /// How a directory can be used that is this user's alone, and one whose use the process's own mask
 /// bounds.
-pub(crate) const PRIVATE_MODE: u32 = 0o700;
+pub const PRIVATE_MODE: u32 = 0o700;
 
-pub(crate) const COMMON_MODE: u32 = 0o777;
+pub const COMMON_MODE: u32 = 0o777;
 
 /// A directory that is open. It is closed where it is let go.
-pub(crate) struct Directory {
+pub struct Directory {
     descriptor: i32,
 }
 
@@ -62,12 +62,12 @@ fn is_dots(name: &[u8]) -> bool {
 
 impl Directory {
     /// The directory at a path. Where the path ends in a link, it is none.
-    pub(crate) fn open(path: &str) -> io::Result<Directory> {
+    pub fn open(path: &str) -> io::Result<Directory> {
         opened(os::open_dir_at(libc::AT_FDCWD, path.as_bytes()))
     }
 
     /// The directory of this name in this one. A link is none.
-    pub(crate) fn open_in(&self, name: &[u8]) -> io::Result<Directory> {
+    pub fn open_in(&self, name: &[u8]) -> io::Result<Directory> {
         if !is_of_entry(name) {
             return Err(io::Error::from(ErrorKind::InvalidFilename));
         }
@@ -75,29 +75,29 @@ impl Directory {
     }
 
     /// The same directory, opened once more.
-    pub(crate) fn again(&self) -> io::Result<Directory> {
+    pub fn again(&self) -> io::Result<Directory> {
         opened(os::open_dir_at(self.descriptor, b"."))
     }
 
     /// Makes a directory of this name.
-    pub(crate) fn make_dir(&self, alloc: Global, name: &str, mode: u32) -> io::Result<()> {
+    pub fn make_dir(&self, alloc: Global, name: &str, mode: u32) -> io::Result<()> {
         let path = self.path_of(alloc, name)?;
         done(os::mkdir_with(path.as_bytes(), mode))
     }
 
     /// Removes what has this name and is no directory.
-    pub(crate) fn remove_file(&self, name: &[u8]) -> io::Result<()> {
+    pub fn remove_file(&self, name: &[u8]) -> io::Result<()> {
         done(os::unlink_at(self.descriptor, name))
     }
 
     /// Removes the directory of this name, which is empty.
-    pub(crate) fn remove_dir(&self, name: &[u8]) -> io::Result<()> {
+    pub fn remove_dir(&self, name: &[u8]) -> io::Result<()> {
         done(os::rmdir_at(self.descriptor, name))
     }
 
     /// Moves what has this name into another directory, under a name that nothing has there but
     /// perhaps an empty directory.
-    pub(crate) fn move_into(
+    pub fn move_into(
         &self,
         alloc: Global,
         name: &[u8],
@@ -128,7 +128,7 @@ impl Directory {
     }
 
     /// A path to what has this name in this directory, as long as that is open.
-    pub(crate) fn path_of(&self, alloc: Global, name: &str) -> io::Result<String> {
+    pub fn path_of(&self, alloc: Global, name: &str) -> io::Result<String> {
         if !is_of_entry(name.as_bytes()) {
             return Err(io::Error::from(ErrorKind::InvalidFilename));
         }
@@ -139,7 +139,7 @@ impl Directory {
 
     /// A path by which another process of this user finds what has this name in this directory, or
     /// that itself, `.`, as long as it is open.
-    pub(crate) fn shown_path(&self, alloc: Global, name: &str) -> Result<String, AllocError> {
+    pub fn shown_path(&self, alloc: Global, name: &str) -> Result<String, AllocError> {
         let (process, descriptor) = (libc::getpid(), self.descriptor);
         format!(in alloc; "/proc/{process}/fd/{descriptor}/{name}")
     }
@@ -167,7 +167,7 @@ impl Directory {
     }
 
     /// The names of what is in this directory, as the system lists them. It lists them once.
-    pub(crate) fn names(&self, alloc: Global) -> Result<Names<'_>, AllocError> {
+    pub fn names(&self, alloc: Global) -> Result<Names<'_>, AllocError> {
         Ok(Names {
             alloc,
             directory: self,
@@ -180,7 +180,7 @@ impl Directory {
 
 /// The names in a directory that were not taken yet. They need be no text.
 #[derive(Drop)]
-pub(crate) struct Names<'a> {
+pub struct Names<'a> {
     alloc: Global,
     directory: &'a Directory,
     room: Vec<u8>,
@@ -191,7 +191,7 @@ pub(crate) struct Names<'a> {
 
 impl<'a> Names<'a> {
     /// The next name, if there is one.
-    pub(crate) fn next(&mut self) -> io::Result<Option<Vec<u8>>> {
+    pub fn next(&mut self) -> io::Result<Option<Vec<u8>>> {
         for _ in 0..=DOTS {
             if self.from >= self.to && !self.read()? {
                 return Ok(None);

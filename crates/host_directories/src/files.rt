@@ -14,7 +14,7 @@ const MOST_SEEN: u32 = 15_000;
 pub(crate) const LINKED: &str = "linked";
 
 /// What has this name in a directory, a link not followed.
-pub(crate) fn look_in(rt: &HostRuntime, directory: &Directory, name: &str) -> io::Result<Found> {
+pub fn look_in(rt: &HostRuntime, directory: &Directory, name: &str) -> io::Result<Found> {
     let path = directory.path_of(rt.alloc(), name)?;
     let Some(found) = found_at(rt, path.as_str())? else {
         return Ok(Found::Nothing);
@@ -32,7 +32,7 @@ pub(crate) fn look_in(rt: &HostRuntime, directory: &Directory, name: &str) -> io
 }
 
 /// Opens the file of this name in a directory to add to its end.
-pub(crate) fn open_to_add(rt: &HostRuntime, directory: &Directory, name: &str) -> io::Result<File> {
+pub fn open_to_add(rt: &HostRuntime, directory: &Directory, name: &str) -> io::Result<File> {
     let path = directory.path_of(rt.alloc(), name)?;
     open_regular(
         rt,
@@ -43,7 +43,7 @@ pub(crate) fn open_to_add(rt: &HostRuntime, directory: &Directory, name: &str) -
 
 /// Opens the file of this name in a directory to read it. Where it may not be opened to be written,
 /// it gets another name for that, in a directory that no program of an action reaches.
-pub(crate) fn open_to_read(
+pub fn open_to_read(
     rt: &HostRuntime,
     directory: &Directory,
     name: &str,
@@ -67,7 +67,7 @@ fn is_refused(error: &io::Error) -> bool {
 /// Opens what stands at a path where it is a file and no link, and the same when it is open. What
 /// is opened to be read and written waits for no other program, whatever has come there in between:
 /// a FIFO is open at once.
-pub(crate) fn open_regular(rt: &HostRuntime, path: &str, how: &OpenOptions) -> io::Result<File> {
+pub fn open_regular(rt: &HostRuntime, path: &str, how: &OpenOptions) -> io::Result<File> {
     let found = fs::symlink_metadata(rt, path)?;
     if !found.is_file() {
         return Err(io::Error::from(ErrorKind::InvalidInput));
@@ -91,11 +91,7 @@ fn open_linked(rt: &HostRuntime, path: &str, aside: &Directory) -> io::Result<Fi
 }
 
 /// The files and directories in a directory, in the order of their names, at most so many.
-pub(crate) fn list_in(
-    rt: &HostRuntime,
-    directory: &Directory,
-    most: usize,
-) -> io::Result<Vec<Entry>> {
+pub fn list_in(rt: &HostRuntime, directory: &Directory, most: usize) -> io::Result<Vec<Entry>> {
     let alloc = rt.alloc();
     // What is listed is gone through once.
     let listed = directory.again()?;
@@ -157,23 +153,23 @@ fn in_order(entries: Vec<Entry>) -> Vec<Entry> {
 
 /// A file that was opened, and is kept for the next call.
 #[derive(Drop)]
-pub(crate) struct Kept {
+pub struct Kept {
     path: String,
     file: File,
 }
 
 impl Kept {
-    pub(crate) fn new(path: String, file: File) -> Kept {
+    pub fn new(path: String, file: File) -> Kept {
         Kept { path, file }
     }
 
-    pub(crate) fn is_at(&self, path: &str) -> bool {
+    pub fn is_at(&self, path: &str) -> bool {
         self.path.as_str() == path
     }
 }
 
 /// The kept file, where it is that of a path.
-pub(crate) fn again(kept: Option<Kept>, path: &str) -> Option<File> {
+pub fn kept_file(kept: Option<Kept>, path: &str) -> Option<File> {
     let kept = kept?;
     if kept.is_at(path) {
         let Kept { path, file } = kept;

@@ -20,17 +20,17 @@ const MOST_SEEN: u32 = 1_024;
 /// Where something is to be removed: the folder of a start, the folder aside that is in it, and how
 /// many directories were moved there by now, which is a part of their names.
 #[derive(Drop)]
-pub(crate) struct Removal<'a> {
-    pub(crate) alloc: Global,
-    pub(crate) start: &'a Directory,
-    pub(crate) aside: &'a str,
-    pub(crate) moved: &'a mut u64,
+pub struct Removal<'a> {
+    pub alloc: Global,
+    pub start: &'a Directory,
+    pub aside: &'a str,
+    pub moved: &'a mut u64,
 }
 
 impl<'a> Removal<'a> {
     /// Moves what has a name in a directory into the folder aside, which is made if it is not
     /// there.
-    pub(crate) fn set_aside(&mut self, directory: &Directory, name: &str) -> io::Result<()> {
+    pub fn set_aside(&mut self, directory: &Directory, name: &str) -> io::Result<()> {
         let aside = self.opened_aside()?;
         move_aside(self.alloc, directory, name.as_bytes(), &aside, self.moved)
     }
@@ -56,7 +56,7 @@ impl<'a> Removal<'a> {
 
     /// The same as `set_aside`, and then removes some of what stands there. Where the new name is
     /// taken, what has it is removed, in this call or in others.
-    pub(crate) fn remove(&mut self, directory: &Directory, name: &str) -> io::Result<bool> {
+    pub fn remove(&mut self, directory: &Directory, name: &str) -> io::Result<bool> {
         match self.set_aside(directory, name) {
             Ok(()) => self.remove_some(),
             Err(error) if is_taken(&error) => {
@@ -69,7 +69,7 @@ impl<'a> Removal<'a> {
 
     /// Removes some of what stands in the folder aside, and that itself once it is empty. Whether
     /// nothing is left: where something is, something was removed.
-    pub(crate) fn remove_some(&mut self) -> io::Result<bool> {
+    pub fn remove_some(&mut self) -> io::Result<bool> {
         let aside = match self.start.open_in(self.aside.as_bytes()) {
             Ok(aside) => aside,
             Err(error) if error.kind() == ErrorKind::NotFound => return Ok(true),
@@ -127,7 +127,7 @@ fn move_aside(
 }
 
 /// Removes what has a name in a directory, unless that is a directory itself. Whether it is one.
-pub(crate) fn unlink(directory: &Directory, name: &[u8]) -> io::Result<bool> {
+fn unlink(directory: &Directory, name: &[u8]) -> io::Result<bool> {
     match directory.remove_file(name) {
         Ok(()) => Ok(false),
         Err(error) if error.kind() == ErrorKind::IsADirectory => Ok(true),

@@ -44,15 +44,15 @@ const MOST_KILLED: usize = 16;
 
 /// A file that a run left, and where it stands.
 #[derive(Clone, Copy)]
-pub(crate) struct Target<'a> {
-    pub(crate) run: RunKey,
+pub struct Target<'a> {
+    pub run: RunKey,
     /// From the folder of the start on.
-    pub(crate) path: &'a str,
-    pub(crate) directory: &'a Directory,
+    pub path: &'a str,
+    pub directory: &'a Directory,
     /// Its name in that.
-    pub(crate) name: &'a str,
+    pub name: &'a str,
     /// Where it may get another name.
-    pub(crate) aside: &'a Directory,
+    pub aside: &'a Directory,
 }
 
 /// A file that is being opened.
@@ -144,7 +144,7 @@ fn is_of_ended(error: &io::Error) -> bool {
 
 /// What opens files of programs, one after another.
 #[derive(Drop)]
-pub(crate) struct Opener<'a> {
+pub struct Opener<'a> {
     rt: &'a HostRuntime,
     shell: Option<OpeningShell>,
     request: Option<Request>,
@@ -157,7 +157,7 @@ pub(crate) struct Opener<'a> {
 
 impl<'a> Opener<'a> {
     /// No shell stands yet.
-    pub(crate) fn new(rt: &'a HostRuntime) -> Opener<'a> {
+    pub fn new(rt: &'a HostRuntime) -> Opener<'a> {
         Opener {
             rt,
             shell: None,
@@ -169,7 +169,7 @@ impl<'a> Opener<'a> {
     }
 
     /// Whether a shell opens what is open here: the system may not show it that.
-    pub(crate) fn can_open(&mut self, directory: &Directory) -> io::Result<bool> {
+    pub fn can_open(&mut self, directory: &Directory) -> io::Result<bool> {
         let mut shell = OpeningShell::start(self.rt)?;
         let line = directory.line_of(self.rt.alloc(), ".")?;
         let answer = if shell.tell(line.as_str()) {
@@ -187,7 +187,7 @@ impl<'a> Opener<'a> {
 
     /// Opens a file to read it. There is none while it is being opened, and while another one is:
     /// it is to be asked for again.
-    pub(crate) fn open(&mut self, target: Target<'_>) -> io::Result<Option<File>> {
+    pub fn open(&mut self, target: Target<'_>) -> io::Result<Option<File>> {
         let now = Instant::now(self.rt)?;
         let mut request = match self.request.take() {
             Some(request) if request.is_for(target) => request,
@@ -219,7 +219,7 @@ impl<'a> Opener<'a> {
     }
 
     /// Opens no file of this run any more.
-    pub(crate) fn forget(&mut self, run: RunKey) -> Result<(), AllocError> {
+    pub fn forget(&mut self, run: RunKey) -> Result<(), AllocError> {
         match self.request.take() {
             Some(request) if request.run == run => self.give_up(request),
             kept => {

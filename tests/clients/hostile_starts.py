@@ -213,6 +213,8 @@ def few_descriptors(stage):
                 time.sleep(3)
                 used = server.cpu_seconds() - begun
             told = server.said()[0]
+            waits = "remoted: clients wait, and the system gives no connection to them: Too many open files (os error 24)"
+            expect(waits in server.said(), True, f"a line on clients that wait: {server.said()}")
             stage.waits(lambda: can_connect(server), 10, "blue connects again")
             stage.blue_runs(server)
             return f"the start says `{told}`; out of them, it used {used / 3:.0%} of a processor, and then goes on"

@@ -2,13 +2,14 @@
 """watching.py PROGRAM [--only PART ..]: what an operator sees of a server, and how it is stopped.
 
 PROGRAM is the built `remoted`. Parts: `figures` has known calls made of two instances, and compares each figure with
-what the callers counted; `prometheus` has node_exporter and Prometheus of Debian read them, and asks for the hit rate;
-`unwritable` is a FILE that cannot be written; `hostile` has another user of the host put links, FIFOs, folders and files
-in the way of the files of --metrics and --stop, and `full` fills their disk (both beside a team that goes on being
-served; parts of them need root); `notices` are lines on standard error, each after what it tells of;
-`check` in each of its ends; `stop` ends a server while an action runs, and as the unit of deploy/ does; `listen` serves
-on other addresses. A line for each thing that holds; it ends with status 1 at the first that does not. Debian:
-prometheus, prometheus-node-exporter, python3-grpcio.
+what the callers counted; `prometheus` has node_exporter and Prometheus of Debian read them, and asks for the hit
+rate; `unwritable` is a FILE that cannot be written; `hostile` has another user of the host put links, FIFOs, folders
+and files in the way of the files of --metrics and --stop, and `full` fills their disk (both beside a team that goes
+on being served; parts of them need root); `notices` are lines on standard error, each after what it tells of;
+`vanished` has the system look after clients that say nothing (`ss` of iproute2); `check` in each of its ends; `stop`
+ends a server while an action runs, and as the unit of deploy/ does; `listen` serves on other addresses. A line for
+each thing that holds; it ends with status 1 at the first that does not. Debian: prometheus, prometheus-node-exporter,
+python3-grpcio.
 """
 
 import argparse
@@ -18,6 +19,7 @@ import hashlib
 import json
 import os
 import pathlib
+import shutil
 import socket
 import subprocess
 import tempfile
@@ -307,7 +309,18 @@ def notices(program):
         hears(server, "remoted: red: blobs dropped, the youngest used 0 s before: 1")
 
 
-PARTS = [figures, prometheus, unwritable, hostile, full, notices, check, stop, listen]
+def vanished(program):
+    if not shutil.which("ss"):
+        print("skipped: there is no ss")
+        return
+    with Watched(program, [("red", 10**6)], []) as server, Peer(server.ports[0]) as peer:
+        peer.call(m.CAPABILITIES, m.capabilities(""))
+        words = ["ss", "-tnoH", "state", "established", f"( sport = :{server.ports[0]} )"]
+        found = subprocess.run(words, capture_output=True, text=True, check=True).stdout
+        expect("timer:(keepalive," in found, "the system asks a silent client whether it is there", found)
+
+
+PARTS = [figures, prometheus, unwritable, hostile, full, notices, vanished, check, stop, listen]
 
 
 def main():

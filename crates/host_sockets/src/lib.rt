@@ -1,6 +1,10 @@
 //! The sockets of this host, and its clock.
 #![tactic(auto)]
 
+mod counts;
+
+pub use counts::SocketCounts;
+use libc::net;
 use mio::net::{TcpListener, TcpStream};
 use mio::{Events, Interest, Poll, Token};
 use serve::{Socket, Sockets, is_not_ready};
@@ -8,6 +12,7 @@ use std::alloc::Global;
 use std::collections::HashMap;
 use std::io::{self, ErrorKind, Read, Write};
 use std::net::{Ipv4Addr, Shutdown, SocketAddr};
+use std::os::fd::AsRawFd;
 use std::thread;
 use std::time::{Duration, Instant};
 
@@ -25,6 +30,51 @@ const DROP_LIMIT: usize = 16_384;
 /// How many ports are found at a time at which clients wait. Any further one is found the next
 /// time.
 const WAITING_LIMIT: usize = 256;
+
+/// After how many seconds in which nothing came on a connection the system asks whether its client
+/// is still there. One that does not answer for some ten minutes more is gone, and the connection
+/// ends with an error: else a client that vanished would keep its place, where it has left a
+/// request half sent.
+const ASKED_AFTER: i32 = 300;
+
+/// How many bytes an option of a socket has that is a number.
+const NUMBER: u32 = 4;
+
+/// A number as an option of a socket.
+fn option_of(number: i32) -> [u8; 16] {
+    let mut option = [0; 16];
+    option[..4].copy_from_slice(&number.to_ne_bytes());
+    option
+}
+
+/// Has the system ask after clients of connections that come in at a port.
+fn ask_after_clients(listener: &TcpListener) -> io::Result<()> {
+    let descriptor = listener.as_raw_fd();
+    let (asks, after) = (option_of(1), option_of(ASKED_AFTER));
+    // The system reads the numbers alone.
+    let asked = unsafe {
+        net::setsockopt(
+            descriptor,
+            net::SOL_SOCKET,
+            net::SO_KEEPALIVE,
+            &asks,
+            NUMBER,
+        )
+    };
+    let timed = unsafe {
+        net::setsockopt(
+            descriptor,
+            net::IPPROTO_TCP,
+            net::TCP_KEEPIDLE,
+            &after,
+            NUMBER,
+        )
+    };
+    if asked < 0 || timed < 0 {
+        return Err(io::Error::from_raw_os_error(os::errno()));
+    }
+    Ok(())
+}
 
 /// A port.
 #[derive(Drop)]
@@ -89,6 +139,8 @@ pub struct HostSockets<'a> {
     /// What the clock showed last.
     moment: u64,
     faults: u64,
+    /// Where it is counted what the system refuses, if it is.
+    counts: Option<&'a SocketCounts>,
 }
 
 impl<'a> HostSockets<'a> {
@@ -105,7 +157,13 @@ impl<'a> HostSockets<'a> {
             start: Instant::now(rt)?,
             moment: 0,
             faults: 0,
+            counts: None,
         })
+    }
+
+    /// From now on what the system refuses is counted there.
+    pub fn count_in(&mut self, counts: &'a SocketCounts) {
+        self.counts = Some(counts);
     }
 
     /// Listens on a port of 127.0.0.1, for the next instance. With port 0 the system chooses one.
@@ -116,6 +174,7 @@ impl<'a> HostSockets<'a> {
     /// Listens on a port of an address, for the next instance.
     pub fn listen_at(&mut self, address: SocketAddr) -> io::Result<()> {
         let mut listener = TcpListener::bind(self.rt, address)?;
+        ask_after_clients(&listener)?;
         let token = Token(self.ports.len());
         let registry = self.poll.registry();
         registry.register(&mut listener, token, Interest::READABLE)?;
@@ -142,7 +201,13 @@ impl<'a> HostSockets<'a> {
         if self.streams.reserve(1).is_err() {
             return Err(io::Error::from(ErrorKind::OutOfMemory));
         }
-        let stream = port.accept()?;
+        let stream = match port.accept() {
+            Ok(stream) => stream,
+            Err(error) => {
+                self.count_refusal(&error);
+                return Err(error);
+            }
+        };
         // Otherwise the end of a response waits for the client's acknowledgement of what was before
         // it.
         stream.set_nodelay(true)?;
@@ -164,6 +229,15 @@ impl<'a> HostSockets<'a> {
             drop(kept);
         }
         Ok(())
+    }
+
+    /// Counts that the system does not give a client that waits: one that went meanwhile is none.
+    fn count_refusal(&self, error: &io::Error) {
+        if let Some(counts) = self.counts {
+            if !is_not_ready(error) && error.kind() != ErrorKind::ConnectionAborted {
+                counts.add(error);
+            }
+        }
     }
 
     /// Counts a fault.

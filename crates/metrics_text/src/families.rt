@@ -55,7 +55,7 @@ const ENDED: Family<'static> = Family {
 };
 
 /// The families of one sample each, which is a number of the server.
-fn server_numbers(server: &ServerFigures<'_>) -> [(Family<'static>, Value); 5] {
+fn server_numbers(server: &ServerFigures<'_>) -> [(Family<'static>, Value); 6] {
     [
         (
             Family {
@@ -96,6 +96,14 @@ fn server_numbers(server: &ServerFigures<'_>) -> [(Family<'static>, Value); 5] {
                 kind: Kind::Counter,
             },
             Value::Whole(server.lines_dropped),
+        ),
+        (
+            Family {
+                name: "remoted_accept_failures_total",
+                help: "How often the system gave no connection to a client that waits.",
+                kind: Kind::Counter,
+            },
+            Value::Whole(server.unaccepted),
         ),
     ]
 }

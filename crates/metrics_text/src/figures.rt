@@ -118,6 +118,8 @@ pub struct ServerFigures<'a> {
     pub longest_turn: u64,
     /// Lines that were to be written on standard error, and were not.
     pub lines_dropped: u64,
+    /// How often the system refused to give a client that waits at a port.
+    pub unaccepted: u64,
     /// The bytes of memory that the process has now, where that is known.
     pub resident: Option<u64>,
     /// The Unix time of the start, in seconds, where that is known.

@@ -1,6 +1,6 @@
 //! What has to be there before instances are served, and what an operator is told of it.
 
-use crate::serve_ports::is_memory;
+use crate::serve_ports::{is_memory, told};
 use host_folders::{Complaint, HostFolder, Work, WorkFault, begin_work};
 use host_programs::{has_leases, has_sessions, most_open, sees_ends};
 use host_sockets::LINGERING_LIMIT;
@@ -69,11 +69,11 @@ pub fn can_open<E: Write>(instances: &Instances, errors: &mut E) -> io::Result<b
         .saturating_add(OTHER_FILES);
     let fewest = count.saturating_mul(2).saturating_add(FEWEST_OTHER_FILES);
     if most < needed {
-        writeln!(
+        told(writeln!(
             errors,
             "remoted: {most} files may be open, and up to {needed} are needed: raise the limit \
              (ulimit -n {needed}, or LimitNOFILE={needed})"
-        )?;
+        ))?;
     }
     Ok(most >= fewest)
 }
@@ -81,10 +81,10 @@ pub fn can_open<E: Write>(instances: &Instances, errors: &mut E) -> io::Result<b
 /// Whether programs can be run on this host; what it lacks for that is told.
 pub fn can_run<E: Write>(rt: &HostRuntime, errors: &mut E) -> io::Result<bool> {
     if !has_sessions(rt) {
-        writeln!(
+        told(writeln!(
             errors,
             "remoted: there is no /usr/bin/setsid, so what a program starts is not ended with it"
-        )?;
+        ))?;
     }
     match sees_ends(rt) {
         Ok(true) => Ok(true),
@@ -117,12 +117,12 @@ pub fn guard_against_leases<E: Write>(
     match folder.guard_against_leases() {
         Ok(true) => Ok(()),
         Err(error) if is_memory(&error) => Err(error),
-        _ => writeln!(
+        _ => told(writeln!(
             errors,
             "remoted: an action can stop the server for 45 seconds (fs.lease-break-time) by a \
              lease on each of its outputs: end that by sysctl fs.leases-enable=0, or by a sandbox \
              (--launcher)"
-        ),
+        )),
     }
 }
 
@@ -131,7 +131,7 @@ pub fn begin<E: Write>(rt: &HostRuntime, path: &str, errors: &mut E) -> io::Resu
     let mut complaints = Vec::new(rt.alloc());
     let begun = begin_work(rt, path, &mut complaints);
     for complaint in complaints.iter() {
-        tell(path, complaint, errors)?;
+        told(tell(path, complaint, errors))?;
     }
     match begun {
         Ok(work) => Ok(Some(work)),

@@ -5,6 +5,7 @@ use crate::watching::resident;
 use call_counts::CallCounts;
 use command_line::VERSION;
 use host_folders::FolderCounts;
+use host_sockets::SocketCounts;
 use instance_core::Instance;
 use metrics_text::{
     CallFigures, ConnectionFigures, Count, HitFigures, InstanceFigures, JobFigures, ServerFigures,
@@ -309,7 +310,7 @@ pub fn figures_of<'a>(
     configs: &'a Configs,
     sight: &Sight<'_>,
     times: &JobTimes,
-    folders: &FolderCounts,
+    (folders, sockets): (&FolderCounts, &SocketCounts),
     turns: &mut Turns,
     file: &'a str,
 ) -> Result<ServerFigures<'a>, AllocError> {
@@ -334,6 +335,7 @@ pub fn figures_of<'a>(
         turns: turns.count,
         longest_turn: longest,
         lines_dropped: turns.dropped,
+        unaccepted: sockets.unaccepted(),
         resident: resident(rt),
         start: turns.start,
         instances,

@@ -3,6 +3,7 @@
 use crate::figures::{FAULTS, RESOURCE_EXHAUSTED};
 use crate::standard_error::StandardError;
 use host_folders::FolderCounts;
+use host_sockets::SocketCounts;
 use instance_core::InstanceSizes;
 use rpc::Method;
 use serve::{ErrorLines, InstanceCounts, Sight};
@@ -25,10 +26,12 @@ struct Seen {
     is_held: bool,
 }
 
-/// Lines about each instance.
+/// Lines about each instance, and about the ports of all.
 #[derive(Drop)]
 pub struct Notices {
     seen: Vec<Seen>,
+    /// How often the system had refused to give a client that waits.
+    unaccepted: u64,
 }
 
 /// Writes what came, and how often since the last line, if it did.
@@ -126,18 +129,20 @@ impl Notices {
         };
         Ok(Notices {
             seen: vec![in alloc; nothing; instances]?,
+            unaccepted: 0,
         })
     }
 
-    /// Writes what came at each instance since it was looked last.
+    /// Writes what came since it was looked last.
     pub fn tell(
         &mut self,
         alloc: Global,
         configs: &Configs,
         sight: &Sight<'_>,
-        folders: &FolderCounts,
+        (folders, sockets): (&FolderCounts, &SocketCounts),
         lines: &mut ErrorLines<StandardError>,
     ) {
+        self.tell_unaccepted(alloc, sockets, lines);
         let mut number = 0;
         for (seen, config) in self.seen.iter_mut().zip(configs.instances()) {
             let name = config.name.as_str();
@@ -145,6 +150,26 @@ impl Notices {
             tell_folders(alloc, name, number, folders, lines, seen);
             number = number.saturating_add(1);
         }
+    }
+
+    /// Tells that the system refuses to give clients that wait, and why.
+    fn tell_unaccepted(
+        &mut self,
+        alloc: Global,
+        sockets: &SocketCounts,
+        lines: &mut ErrorLines<StandardError>,
+    ) {
+        let unaccepted = sockets.unaccepted();
+        if unaccepted > self.unaccepted {
+            let reason = sockets.reason();
+            let line: Result<String, AllocError> = format!(in alloc;
+                "remoted: clients wait, and the system gives no connection to them: {reason}\n"
+            );
+            if let Ok(line) = line {
+                lines.write_line(line.as_str());
+            }
+        }
+        self.unaccepted = unaccepted;
     }
 }
 

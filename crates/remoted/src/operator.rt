@@ -6,6 +6,7 @@ use crate::standard_error::StandardError;
 use crate::watching::{MetricsFile, StopFile};
 use command_line::VERSION;
 use host_folders::FolderCounts;
+use host_sockets::SocketCounts;
 use serve::{ErrorLines, Sight, Watch};
 use server_events::Configs;
 use std::alloc::AllocError;
@@ -19,6 +20,7 @@ pub struct Operator<'a> {
     rt: &'a HostRuntime,
     configs: &'a Configs,
     folders: &'a FolderCounts,
+    sockets: &'a SocketCounts,
     metrics: Option<MetricsFile<'a>>,
     stop: Option<StopFile<'a>>,
     notices: Notices,
@@ -34,6 +36,7 @@ impl<'a> Operator<'a> {
         rt: &'a HostRuntime,
         configs: &'a Configs,
         folders: &'a FolderCounts,
+        sockets: &'a SocketCounts,
         metrics: Option<MetricsFile<'a>>,
         stop: Option<StopFile<'a>>,
     ) -> Result<Operator<'a>, AllocError> {
@@ -42,6 +45,7 @@ impl<'a> Operator<'a> {
             rt,
             configs,
             folders,
+            sockets,
             metrics,
             stop,
             notices: Notices::new(rt.alloc(), count)?,
@@ -99,7 +103,7 @@ impl<'a> Operator<'a> {
             self.configs,
             sight,
             &self.times,
-            self.folders,
+            (self.folders, self.sockets),
             &mut self.turns,
             metrics.path(),
         );
@@ -121,7 +125,7 @@ impl<'a> Operator<'a> {
             self.rt.alloc(),
             self.configs,
             sight,
-            self.folders,
+            (self.folders, self.sockets),
             &mut self.lines,
         );
     }

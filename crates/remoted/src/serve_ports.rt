@@ -11,7 +11,7 @@ use crate::watching::{MetricsFile, StopFile};
 use command_line::Service;
 use host_folders::{FolderCounts, HostFolder, Work};
 use host_programs::{HostPrograms, Launcher, launcher_path};
-use host_sockets::HostSockets;
+use host_sockets::{HostSockets, SocketCounts};
 use instance_words::{Instances, InstancesFault, instances_of};
 use job_runs::JobRunner;
 use serve::{ErrorLines, Sockets, Tally, serve};
@@ -74,6 +74,15 @@ fn tell_taken<E: Write>(address: SocketAddr, error: &io::Error, errors: &mut E) 
         writeln!(errors, "remoted: cannot listen on {port}: {error}")
     } else {
         writeln!(errors, "remoted: cannot listen on {address}: {error}")
+    }
+}
+
+/// What came of telling something after which the server goes on: it does so where the line could
+/// not be written too.
+pub fn told(outcome: io::Result<()>) -> io::Result<()> {
+    match outcome {
+        Err(error) if is_memory(&error) => Err(error),
+        _ => Ok(()),
     }
 }
 
@@ -184,6 +193,7 @@ fn operator_of<'a>(
     rt: &'a HostRuntime,
     configs: &'a Configs,
     folders: &'a FolderCounts,
+    refusals: &'a SocketCounts,
     service: &Service<'a>,
 ) -> Result<Operator<'a>, AllocError> {
     let metrics = match service.metrics {
@@ -194,7 +204,7 @@ fn operator_of<'a>(
         Some(path) => Some(StopFile::new(rt, path)),
         None => None,
     };
-    Operator::new(rt, configs, folders, metrics, stop)
+    Operator::new(rt, configs, folders, refusals, metrics, stop)
 }
 
 /// Removes the folder of this start where runs were, unless something is left in it: the next start
@@ -214,12 +224,13 @@ fn serve_turns(
     mut sockets: HostSockets<'_>,
     runs: &mut JobRunner<HostFolder<'_>, HostPrograms<'_>>,
     folders: &FolderCounts,
+    refusals: &SocketCounts,
     service: &Service<'_>,
 ) -> Result<(), AllocError> {
     let (alloc, configs) = (rt.alloc(), &instances.configs);
     let count = configs.instances().len();
     let mut lines = ErrorLines::new(alloc, StandardError::new(rt), count)?;
-    let mut operator = operator_of(rt, configs, folders, service)?;
+    let mut operator = operator_of(rt, configs, folders, refusals, service)?;
     operator.tell_start();
     let served = serve(
         alloc,
@@ -269,12 +280,13 @@ fn is_stopped<E: Write>(
     Ok(true)
 }
 
-/// Serves these instances at an address.
-fn serve_instances<O: Write, E: Write>(
-    rt: &HostRuntime,
+/// Serves these instances at an address. What the system refuses is counted there.
+fn serve_instances<'a, O: Write, E: Write>(
+    rt: &'a HostRuntime,
     service: &Service<'_>,
     address: IpAddr,
     instances: &Instances,
+    refusals: &'a SocketCounts,
     output: &mut O,
     errors: &mut E,
 ) -> io::Result<Exit> {
@@ -285,6 +297,7 @@ fn serve_instances<O: Write, E: Write>(
         return Ok(FAILED);
     }
     let mut sockets = HostSockets::new(rt, rt.alloc())?;
+    sockets.count_in(refusals);
     if !listen(&mut sockets, address, &instances.ports, errors)? {
         return Ok(FAILED);
     }
@@ -294,8 +307,10 @@ fn serve_instances<O: Write, E: Write>(
     let start = String::from_str(rt.alloc(), work.path())?;
     let folders = FolderCounts::new(rt.alloc(), instances.ports.len())?;
     let mut runs = job_runner(rt, work, &folders, launcher, instances, errors)?;
-    announce(instances, output)?;
-    let ended = serve_turns(rt, instances, sockets, &mut runs, &folders, service);
+    told(announce(instances, output))?;
+    let ended = serve_turns(
+        rt, instances, sockets, &mut runs, &folders, refusals, service,
+    );
     remove_start(rt, start.as_str());
     ended?;
     Ok(DONE)
@@ -348,8 +363,11 @@ pub fn serve_ports<O: Write, E: Write>(
         return Ok(Exit::BadWords);
     };
     keep_freed_memory(rt.alloc());
+    let refusals = SocketCounts::new();
     match instances_of(rt.alloc(), &service.instances) {
-        Ok(instances) => serve_instances(rt, service, address, &instances, output, errors),
+        Ok(instances) => serve_instances(
+            rt, service, address, &instances, &refusals, output, errors,
+        ),
         Err(fault) => tell_fault(&service.instances, fault, errors),
     }
 }

@@ -136,6 +136,7 @@ fn shown(alloc: Global) -> Result<Vec<u8>, AllocError> {
         turns: 27,
         longest_turn: 28,
         lines_dropped: 29,
+        unaccepted: 31,
         resident: Some(30),
         start: None,
         instances: vec![in alloc; busy(alloc)?, idle(alloc)]?,

@@ -19,6 +19,9 @@ remoted_longest_turn_seconds{file=\"/run/\\\"r\\\".prom\"} 0.028\n\
 # HELP remoted_lines_dropped_total Lines on failed runs that were not written.\n\
 # TYPE remoted_lines_dropped_total counter\n\
 remoted_lines_dropped_total{file=\"/run/\\\"r\\\".prom\"} 29\n\
+# HELP remoted_accept_failures_total How often the system gave no connection to a client that waits.\n\
+# TYPE remoted_accept_failures_total counter\n\
+remoted_accept_failures_total{file=\"/run/\\\"r\\\".prom\"} 31\n\
 # HELP remoted_resident_memory_bytes Memory that the process has now.\n\
 # TYPE remoted_resident_memory_bytes gauge\n\
 remoted_resident_memory_bytes{file=\"/run/\\\"r\\\".prom\"} 30\n\

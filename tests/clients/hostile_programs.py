@@ -90,8 +90,12 @@ def lines_unheard(stage):
 
 
 def lines_unheard_from_the_start(stage):
-    """The reader of standard error has gone before the server begins."""
-    reader, writer = os.pipe()
+    """Standard error is a FIFO whose reader has gone before the server begins."""
+    path = os.path.join(stage.folder, "standard-error")
+    os.mkfifo(path)
+    os.chown(path, *stage.owner())
+    reader = os.open(path, os.O_RDONLY | os.O_NONBLOCK)
+    writer = os.open(path, os.O_WRONLY)
     os.close(reader)
     with open(writer, "wb") as pipe, stage.serve(heard=False, stderr=pipe) as (server, red):
         for _ in range(20):

@@ -304,7 +304,8 @@ fn instance_figures<'a>(
     }))
 }
 
-/// The figures of a server now, for a file. The longest turn is that since they were asked for last.
+/// The figures of a server now, for a file. The longest turn is that since they were asked for
+/// last.
 pub fn figures_of<'a>(
     rt: &HostRuntime,
     configs: &'a Configs,

@@ -45,7 +45,7 @@ impl StandardError {
 
 /// What standard error is open on, opened again so that no write waits; none for a regular file,
 /// where each that has it open has a place of its own in it. It is opened for reading too: to open
-/// a pipe for writing alone waits for a reader, and the reader may have gone.
+/// a FIFO for writing alone waits for a reader, and the reader may have gone.
 fn opened_again(rt: &HostRuntime) -> io::Result<Option<File>> {
     if fs::metadata(rt, OPENED)?.is_file() {
         return Ok(None);

@@ -103,7 +103,7 @@ def main():
         "lost": ([], lambda: launchers_lost.lost(report, program)),
         "sandbox": (no_sandbox, lambda: sandbox.reach(report, program, "as this user")),
         "plain": (no_sandbox + no_root, lambda: as_plain_user(report, program)),
-        "slurm": (no_cluster, lambda: slurm.on_nodes(report, program)),
+        "slurm": (no_cluster, lambda: (slurm.on_nodes(report, program), slurm.next_missing(report, program))),
         "both": (no_cluster + no_sandbox, lambda: slurm.sandboxed(report, program)),
         "cost": (no_sandbox, lambda: cost(report, program, options.count)),
     }

@@ -7,6 +7,7 @@ import tempfile
 import time
 
 import programs
+import sandbox_attacks as attacks
 from executing import PATH, Action, Link, Peer
 from server import Server
 
@@ -15,24 +16,6 @@ SANDBOX = os.path.realpath(os.path.join(HERE, "..", "..", "launchers", "sandbox"
 SECRET, SOURCE = "server-secret", b"the source of blue\n"
 ODD = ["a b", "", "-n", "*", "$HOME", "a\nb", "A=B", "'", '"']
 TOP = "../" * 24
-
-CONNECTING = """import socket, sys
-for port in sys.argv[1:]:
-    for host in ("127.0.0.1", "::1", "0.0.0.0"):
-        try:
-            socket.create_connection((host, int(port)), 2)
-            print("in")
-        except OSError:
-            pass
-"""
-
-KEYS = """import ctypes, platform
-kernel = ctypes.CDLL(None, use_errno=True)
-first = {"x86_64": 248, "aarch64": 217}[platform.machine()]
-for call in (first, first + 1, first + 2):
-    print(kernel.syscall(call, 0, 0, 0, 0, 0), ctypes.get_errno())
-"""
-
 
 class Told:
     """What came of an action, with its texts."""
@@ -105,16 +88,20 @@ def processes(helpers, server):
         [ -w $f ] && (: >> $f) && echo $f; done; true"""
     mounting = "mount -t tmpfs x /work && echo in; mount -o remount,rw / && echo in; umount /proc && echo in; true"
     nothing = lambda t: t.stdout == "" and t.code is not None
+    python = ["/usr/bin/python3", "-c"]
     silent = lambda t: SECRET not in t.stdout and "serve\0--work" not in t.stdout and t.code is not None
     return [
-        ("the server's environment", "cat /proc/[0-9]*/environ", {}, lambda t: SECRET not in t.stdout),
+        ("the server's environment", "cat /proc/[0-9]*/environ", {}, lambda t: SECRET not in t.stdout and "MARK" in t.stdout),
         ("the server's /proc", proc, {}, silent),
         ("the server's memory", memory, {}, nothing),
         ("the server's process", "ls -d /proc/[0-9]* | wc -l", {}, lambda t: int(t.stdout) < 6),
-        ("both ports", ["/usr/bin/python3", "-c", CONNECTING, *ports], {}, lambda t: t.stdout == "" and t.code == 0),
+        ("both ports", [*python, attacks.CONNECTING, *ports], {}, lambda t: t.stdout == "" and t.code == 0),
         ("killing the server and its helper", killing, {}, nothing),
         ("stopping the server and its helper", stopping, {}, nothing),
-        ("keys of the kernel's", ["/usr/bin/python3", "-c", KEYS], {}, lambda t: t.stdout == 3 * "-1 1\n"),
+        ("calls that are refused", [*python, attacks.CALLS], {}, lambda t: t.stdout == attacks.CALLS_SAY),
+        ("the same as a program of 32 bits", [*python, attacks.CALLS_OF_32], {}, lambda t: t.stdout in attacks.SAY_32),
+        ("calls that are not", [*python, attacks.OWN_CALLS], {}, lambda t: t.stdout == "as ever\n"),
+        ("what is told of keys", "cat /proc/keys /proc/key-users", {}, nothing),
         ("rights", "grep -c 'Cap.*:.0000000000000000$' /proc/self/status", {}, lambda t: t.stdout == "5\n"),
         ("another namespace", "unshare --user true", {}, lambda t: t.code != 0),
         ("the kernel's settings", settings, {}, nothing),
@@ -139,6 +126,8 @@ def own_matters():
         ("a code", "exit 7", {}, lambda t: t.code == 7 and not t.stderr),
         ("a signal", "kill -KILL $$", {}, lambda t: t.code == 137 and not t.stderr),
         ("another signal", "kill -SEGV $$", {}, lambda t: t.code == 139 and not t.stderr),
+        ("a signal to its whole group", "echo x; kill 0", {}, lambda t: t.code == 143 and t.stdout == "x\n"),
+        ("streams that are opened again", attacks.REOPENING, {}, lambda t: (t.stdout, t.stderr) == attacks.REOPENED),
         ("a daemon, which ends with its program", writing, {"files": ["out"]}, lambda t: t.code == 0),
         ("a timeout", "(setsid sleep 4321 &); sleep 4321", {"seconds": 2}, lambda t: t.status == 4),
         ("a timeout of a program that goes on", stubborn, {"seconds": 2}, lambda t: t.status == 4),
@@ -207,12 +196,16 @@ def tried_all(report, who, server, red, folder, other):
     """One team's actions, one after another."""
     Told(red, marked(folder, "true"))
     helpers = programs.helpers(folder, server.process.pid)
-    for what, words, given, holds in [*folders_and_files(other, server), *processes(helpers, server), *own_matters()]:
+    cases = [*folders_and_files(other, server), *processes(helpers, server), *own_matters()]
+    of_folders = len(folders_and_files(other, server))
+    for number, (what, words, given, holds) in enumerate(cases):
         is_bare = "variables" in given
         told = Told(red, Action(words, do_not_cache=True, **given) if is_bare else marked(folder, words, **given))
         report.expect(holds(told), f"{who}: {what}", told)
         if programs.settled(lambda: daemons(folder, server), 15 * report.slow):
             report.missed(f"{who}: {what}: it goes on", daemons(folder, server))
+        if number < of_folders and other not in server.entries():
+            report.missed(f"{who}: {what}: the other's folder is there", "it is not")
     are_there = set(helpers) <= set(programs.helpers(folder, server.process.pid)) and server.is_running()
     report.expect(are_there, f"{who}: the server and its helper are there", "they are not")
 
@@ -221,6 +214,7 @@ def ends_with_server(report, who, server, red, folder):
     """A server that is killed takes its programs with it."""
     red.start(marked(folder, "(setsid sleep 4321 &); sleep 4321"))
     programs.settled(lambda: "sleep 4321" not in str(programs.running(folder)), 20 * report.slow)
+    report.expect("sleep 4321" in str(programs.running(folder)), f"{who}: a program runs", "none does")
     server.process.kill()
     server.process.wait()
     begun = time.monotonic()

@@ -14,6 +14,7 @@ import messages as m
 import programs
 from executing import PATH, Action, Peer
 from launchers_sandbox import ODD, SANDBOX, Told
+from sandbox_attacks import REOPENED, REOPENING
 from server import Server
 from slurm_cluster import LOST_AFTER, NODES, Cluster, launcher
 
@@ -100,6 +101,10 @@ def results(here, peer):
     for number in [6, 9, 11, 15]:
         told = here.told(peer, f"kill -{number} $$")
         here.expect((told.code, told.stdout) == (128 + number, ""), f"ended by signal {number}", told)
+    told = here.told(peer, "echo x; kill 0")
+    here.expect((told.code, told.stdout) == (143, "x\n"), "a signal to its whole group", told)
+    told = here.told(peer, REOPENING)
+    here.expect((told.stdout, told.stderr) == REOPENED, "streams that are opened again", told)
     told = here.told(peer, ["/no/such"])
     here.expect(told.code == 127, "a program that is not there", told)
     told = Told(peer, Action(["/usr/bin/env"], variables=[("B", " x\ty'\"$(z)"), ("A", "1")], do_not_cache=True))
@@ -217,6 +222,13 @@ def node_lost(here, server, peer):
     here.nothing_left(server, "a lost node")
 
 
+def next_missing(report, program):
+    """What is to start programs on the nodes is not there."""
+    with site(report, program, "/no/such") as here, here.serve() as (_, peer):
+        told = here.told(peer, "true")
+        here.expect(told.status == 13, "nothing on the node to start programs: no result", told)
+
+
 def sandboxed(report, program):
     """The sandbox on the node, which is told the same words."""
     with site(report, program, SANDBOX) as here, here.serve() as (server, peer):
@@ -228,7 +240,7 @@ def sandboxed(report, program):
             told = here.told(peer, f"exit {code}")
             here.expect((told.code, told.stderr) == (code, ""), f"in a sandbox: exit code {code}", told)
         told = here.told(peer, f"cat /etc/passwd /etc/hostname; ls {here.folder} /root /home; true")
-        here.expect(told.stdout == "", "in a sandbox: the host's files", told)
+        here.expect((told.code, told.stdout) == (0, ""), "in a sandbox: the host's files", told)
         told = here.told(peer, "(setsid sleep 4321 &); sleep 0.2; printf abc")
         here.expect(told.stdout == "abc", "in a sandbox: a daemon is left", told)
         told = here.told(peer, "(setsid sleep 4321 &); trap '' TERM; while :; do sleep 4321; done", seconds=4)

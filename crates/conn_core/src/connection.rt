@@ -1,6 +1,6 @@
 //! One connection: what it keeps, and what it is asked for.
 
-ghost use Rattle.std.specs.Prelude.{◌≡◌, ◌≢◌, ◌≤◌, ◌<◌, ◌==◌, ◌&&◌, not, [], option_to_list, IsTrue, IfOk, OnOk, OnErr, OnSome, None, Err, length, take, drop};
+ghost use Rattle.std.specs.Prelude.{◌≡◌, ◌≢◌, ◌≤◌, ◌<◌, ◌==◌, ◌&&◌, not, [], option_to_list, IsTrue, true, IfOk, OnOk, OnErr, OnSome, None, Err, length, take, drop};
 ghost use Rattle.grpc_messages.specs.Wire.{message_length_limit};
 ghost use Rattle.http2_frames.specs.declared.error.FrameError.{FrameError};
 ghost use Rattle.grpc_sending.specs.SortedQueues.{AreSorted};
@@ -121,10 +121,11 @@ impl Connection {
         })
     }
 
-    /// Takes received bytes. After an error of the connection they are ignored. Where memory is
-    /// refused all but what is still to be read is as before.
+    /// Takes received bytes. After an error of the connection nothing of them is kept. Where memory
+    /// is refused all but what is still to be read is as before.
     pub fn feed(&mut self, piece: Vec<u8>) -> Result<(), AllocError>
         ensures rest { self.new ≡ record self.old { reader = self.new.reader } }
+        ensures ignored { self.old.ended ≡ true → self.new ≡ self.old }
         ensures stands { OnOk result (Becomes self.old (with_bytes piece.items) self.new) }
     {
         if self.ended {

@@ -1,8 +1,9 @@
 -- How a program is started, by itself or by a launcher.
-use Rattle.std.specs.Prelude.{◌≡◌, ℕ, Bool, true, false, List, [], ◌∷◌, ◌++◌, None, Some, codes, map}
+use Rattle.std.specs.Prelude.{◌≡◌, ℕ, Bool, true, false, List, [], ◌∷◌, ◌++◌, None, Some, IsSomeAnd, codes, map, slice_get, string_bytes}
 use Rattle.std.specs.Process.{clears_env, command_args, command_dir, command_program, command_var}
 use Rattle.std.specs.declared.process.command.Command.{Command}
-use Rattle.run_calls.specs.Values.{CommandValue, VariableValue}
+use Rattle.run_calls.specs.Values.{CommandValue, PlaceValue, VariableValue}
+use Rattle.host_programs.specs.declared.launching.Launcher.{Launcher}
 
 abbrev pub Text : Type 0
 Text = List ℕ
@@ -36,3 +37,12 @@ StartsBare words directory command =
     × (clears_env command ≡ true)
     × ((name : Text) → command_var command name ≡ None)
     × (command_dir command ≡ Some directory)
+
+-- the command starts a launcher, in no directory of an action; the name that it is told is that of
+-- the run's instance
+abbrev pub StartsLauncher : {A : Type 0} → Bool → Launcher → PlaceValue → Text → CommandValue →
+    Command A → Type 0
+StartsLauncher has_sessions launcher place root ordered command =
+    IsSomeAnd (slice_get launcher.instances.items place.run.instance) (λ instance.
+    StartsBare (session_words has_sessions (launcher_words (string_bytes launcher.program)
+    (string_bytes instance) root place.directory ordered)) (codes "/") command)

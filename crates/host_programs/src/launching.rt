@@ -1,8 +1,8 @@
 //! How a program is started by a launcher.
 
-ghost use Rattle.std.specs.Prelude.{◌≡◌, ◌++◌, IfOk, IfSome, OnOk, codes, map, slice_get, string_bytes};
-ghost use Rattle.run_calls.specs.Values.{command_shown, variable_shown};
-ghost use Rattle.host_programs.specs.Launching.{StartsBare, assignment, directory_word, launcher_words, session_words};
+ghost use Rattle.std.specs.Prelude.{◌≡◌, ◌++◌, IfOk, OnOk, map, string_bytes};
+ghost use Rattle.run_calls.specs.Values.{command_shown, place_shown, variable_shown};
+ghost use Rattle.host_programs.specs.Launching.{StartsLauncher, assignment, directory_word, launcher_words};
 
 use crate::starting::bare_command;
 use host_files::is_executable;
@@ -26,7 +26,10 @@ pub struct Launcher {
 
 impl Launcher {
     /// The launcher of this absolute path, and the names of the instances in their order.
-    pub fn new(program: String, instances: Vec<String>) -> Launcher {
+    pub fn new(program: String, instances: Vec<String>) -> Launcher
+        ensures program { result.program ≡ program }
+        ensures instances { result.instances ≡ instances }
+    {
         Launcher { program, instances }
     }
 
@@ -46,11 +49,8 @@ impl Launcher {
         root: &str,
         ordered: &Ordered,
     ) -> io::Result<Command>
-        ensures { IfOk result (λ command.
-            IfSome (slice_get self.now.instances.items place.now.run.instance) (λ instance.
-            StartsBare (session_words has_sessions (launcher_words (string_bytes self.now.program)
-            (string_bytes instance) root.now (string_bytes place.now.directory)
-            (command_shown ordered.now))) (codes "/") command)) }
+        ensures { IfOk result (StartsLauncher has_sessions self.now (place_shown place.now)
+            root.now (command_shown ordered.now)) }
     {
         let Some(instance) = self.instances.get(place.run.instance as usize) else {
             return Err(io::Error::from(ErrorKind::InvalidInput));

@@ -1,8 +1,10 @@
 //! Programs of this host.
 
-ghost use Rattle.std.specs.Prelude.{◌≡◌, ◌≤◌, IfOk, IfSome, length};
+ghost use Rattle.std.specs.Prelude.{◌≡◌, ◌≤◌, IfOk, IfSome, length, string_bytes};
 ghost use Rattle.run_calls.specs.Failures.{Counts};
-ghost use Rattle.run_calls.specs.Values.{IsInRange};
+ghost use Rattle.run_calls.specs.Values.{IsInRange, command_shown, place_shown};
+ghost use Rattle.host_files.specs.Folders.{root_path};
+ghost use Rattle.host_programs.specs.Launching.{StartsLauncher};
 
 use crate::children::reap;
 use crate::exec_size::check_size;
@@ -68,9 +70,13 @@ impl<'a> Table<'a> {
         }
     }
 
-    /// The command that starts a launcher. The program is not looked for: it may be there for the
-    /// launcher alone.
-    fn told(&self, launcher: &Launcher, place: &Place, ordered: &Ordered) -> io::Result<Command> {
+    /// The command that starts a launcher, which is told the folder of the run. The program is not
+    /// looked for: it may be there for the launcher alone.
+    fn told(&self, launcher: &Launcher, place: &Place, ordered: &Ordered) -> io::Result<Command>
+        ensures { IfOk result (StartsLauncher self.now.has_sessions launcher.now
+            (place_shown place.now) (root_path (string_bytes self.now.work)
+            place.now.run.instance place.now.run.job) (command_shown ordered.now)) }
+    {
         launcher.check(self.rt)?;
         let alloc = self.rt.alloc();
         let root = root_path(alloc, self.work.as_str(), place.run)?;

@@ -6,7 +6,7 @@ use Rattle.std.specs.declared.io.ErrorKind.{ErrorKind}
 use Rattle.run_calls.specs.Calls.{FolderCall, FolderQuestion, FolderAnswer, ProgramCall, ProgramQuestion, ProgramAnswer, of_folder, of_programs, folder_call, program_call, folder_calls, program_calls, call, called, Adds, collect}
 use Rattle.runner.specs.Made.{made, made_by}
 use Rattle.runner.specs.Gathered.{items_answered, call_items, answer_items}
-use Rattle.runner.specs.Told.{items_told, call_told, starts, start_of, forgets, forget_of}
+use Rattle.runner.specs.Told.{items_told, call_told, starts, start_of, forgets, forget_of, failures, failure_of}
 use Rattle.runner.specs.Listed.{Walk, walk_at, walk_then, Closes, Meets}
 use Rattle.runner.specs.Steps.{GoesWith, Goes, to_make, to_start, to_look, has_gathered, has_told, then_to_make, then_to_start, then_to_look, then_gathered, then_told, looks, look_of}
 use Rattle.runner.specs.declared.stage.Stage.{Stage}
@@ -53,6 +53,7 @@ goes_drops text place from to f p makes starts_it looks_at gathers told closes =
   fits = tt;
   meets = closes;
   keeps = refl;
+  succeeds = refl;
 }
 
 pub goes_alone : (text : ℕ → List ℕ) (place : PlaceValue) (from : Stage) (to : Step) (f : Option (List FolderCall)) (p : Option (List ProgramCall))
@@ -81,6 +82,7 @@ goes_folder_with before text place from to f g p q a adds makes starts_it looks_
   fits = (fits, tt);
   meets = meets_one before (walk_then place to) q a moves;
   keeps = refl;
+  succeeds = refl;
 }
 
 pub goes_folder : (text : ℕ → List ℕ) (place : PlaceValue) (from : Stage) (to : Step) (f g : Option (List FolderCall)) (p : Option (List ProgramCall)) (q : FolderQuestion) (a : Result FolderAnswer ErrorKind)
@@ -97,9 +99,9 @@ pub goes_program : (text : ℕ → List ℕ) (place : PlaceValue) (from : Stage)
     → Adds p s (called q a)
     → to_make text place from ≡ then_to_make text place to → to_start place from ≡ start_of q ++ then_to_start place to → to_look place from ≡ then_to_look place to
     → then_gathered place to ≡ has_gathered place from → then_told place to ≡ has_told place from ++ call_told q a
-    → held from + program_told q a ≤ most_bytes → walk_at place from ≡ walk_then place to → forget_of q ≡ []
+    → held from + program_told q a ≤ most_bytes → walk_at place from ≡ walk_then place to → forget_of q ≡ [] → failure_of q a ≡ []
     → Goes text place from to f f p s
-goes_program text place from to f p s q a adds makes starts_it looks_at gathers told fits same keeps = record {
+goes_program text place from to f p s q a adds makes starts_it looks_at gathers told fits same keeps succeeds = record {
   calls = of_programs record { question = q; answer = a } ∷ [];
   folder_asked = adds_none f;
   programs_asked = adds;
@@ -111,6 +113,7 @@ goes_program text place from to f p s q a adds makes starts_it looks_at gathers 
   fits = (fits, tt);
   meets = inl (sym same);
   keeps = append-nil (forget_of q) ∙ keeps;
+  succeeds = append-nil (failure_of q a) ∙ succeeds;
 }
 
 -- then more was asked
@@ -134,6 +137,8 @@ goes_on text place from mid cost to f g h p s t first next =
           (meets_append (walk_at place from) (walk_at place mid) (walk_then place to) (folder_calls first.calls) (folder_calls next.calls) first.meets next.meets);
       keeps = ap forgets programs ∙ collect_append (λ c. forget_of c.question) (program_calls first.calls) (program_calls next.calls)
           ∙ ap (λ zs. zs ++ forgets (program_calls next.calls)) first.keeps ∙ next.keeps;
+      succeeds = ap failures programs ∙ collect_append (λ c. failure_of c.question c.answer) (program_calls first.calls) (program_calls next.calls)
+          ∙ ap (λ zs. zs ++ failures (program_calls next.calls)) first.succeeds ∙ next.succeeds;
     }
 
 pub goes_nowhere : (text : ℕ → List ℕ) (place : PlaceValue) (stage : Stage) (cost : ℕ) (f : Option (List FolderCall)) (p : Option (List ProgramCall)) → Goes text place stage (steps.Goes stage cost) f f p p
@@ -161,6 +166,7 @@ goes_from before text place from same to f g p s makes starts_it looks_at gather
   fits = subst (λ n. Fits n goes.calls) (sym holds) goes.fits;
   meets = goes.meets;
   keeps = goes.keeps;
+  succeeds = goes.succeeds;
 }
 
 -- what a step cost is of no matter
@@ -177,6 +183,7 @@ recost text place from s a b f g p q goes = record {
   fits = goes.fits;
   meets = goes.meets;
   keeps = goes.keeps;
+  succeeds = goes.succeeds;
 }
 
 pub goes_exits : (text : ℕ → List ℕ) (place : PlaceValue) (from mid : Stage) (cost : ℕ) (step to : Step) (f g h : Option (List FolderCall)) (p s t : Option (List ProgramCall))

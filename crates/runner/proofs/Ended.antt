@@ -16,6 +16,7 @@ use Rattle.runner.specs.Steps.{Goes, to_make, to_start, to_look, has_gathered, h
 use Rattle.runner.specs.Listed.{walk_at, no_walk}
 use Rattle.runner.specs.Sizes.{most_bytes, held}
 use Rattle.runner.proofs.Collect.{goes_program}
+use Rattle.runner.proofs.Popped.{no_failure}
 use Rattle.runner.proofs.Sizes.{fits_none, fits_still}
 
 -- a code is what it is, written in 32 bits and read back
@@ -31,4 +32,4 @@ ended_goes text place from e step code r f p q adds is range step_is code_is mak
     (goes_program text place from (steps.Goes (stages.Stopping e) 1) f p q (end_asked place.run) (state_of r) adds make start look (sym gathered)
     (ap (λ z. code_item place.run z ∷ []) (code_is ∙ same_code r code is range)
     ∙ sym (ap (λ zs. zs ++ call_told (end_asked place.run) (state_of r)) told ∙ ap (λ x. call_told (end_asked place.run) (state_of x)) is))
-    (fits_still (held from) 0 (subst (λ n. n ≤ most_bytes) (sym nothing) (fits_none 0 refl)) refl) left refl)
+    (fits_still (held from) 0 (subst (λ n. n ≤ most_bytes) (sym nothing) (fits_none 0 refl)) refl) left refl (no_failure (end_asked place.run) state_of r _ is (λ y. refl)))

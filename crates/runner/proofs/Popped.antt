@@ -17,7 +17,7 @@ use Rattle.std.specs.declared.io.ErrorKind.{ErrorKind}
 use Rattle.run_calls.specs.Calls.{ProgramQuestion, ProgramAnswer, kill_asked, read_asked, bytes_asked, killed, killed_of, bytes_of, folder_bytes_of}
 use Rattle.runner.specs.Made.{MadeItem, node_item, kind_made, nodes_made, names_at, above_then}
 use Rattle.runner.specs.Gathered.{ItemValue, numbered, part_items, call_items}
-use Rattle.runner.specs.Told.{ToldItem, code_item, killed_item, stream_bytes, stream_end, whole_stream, part_told, call_told, kill_told, answer_told}
+use Rattle.runner.specs.Told.{ToldItem, code_item, killed_item, stream_bytes, stream_end, whole_stream, part_told, call_told, kill_told, answer_told, failure_of}
 use Rattle.runner.specs.Steps.{above_behind}
 use Rattle.runner.proofs.Items.{behind_is_then, stream_append, numbered_append}
 
@@ -83,6 +83,10 @@ moved f made left made' rest x left_is made_is =
 pub quiet_told : (q : ProgramQuestion) (a : Result ProgramAnswer ErrorKind) → ((x : ProgramAnswer) → answer_told q x ≡ []) → call_told q a ≡ []
 quiet_told q (Err e) h = refl
 quiet_told q (Ok x) h = h x
+
+-- what was answered did not fail
+pub no_failure : {A : Type 0} (q : ProgramQuestion) (answer : Result A Error → Result ProgramAnswer ErrorKind) (r : Result A Error) (x : A) → r ≡ Ok x → ((y : A) → failure_of q (answer (Ok y)) ≡ []) → failure_of q (answer r) ≡ []
+no_failure q answer r x is h = ap (λ z. failure_of q (answer z)) is ∙ h x
 
 pub kill_says : (run : RunKey) (r : Result Bool Error) (b : Bool) → r ≡ Ok b → call_told (kill_asked run) (killed_of r) ≡ kill_told run (killed b)
 kill_says run r b is = ap (λ x. call_told (kill_asked run) (killed_of x)) is

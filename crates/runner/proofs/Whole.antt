@@ -14,7 +14,7 @@ use Rattle.run_calls.specs.Values.{PlaceValue, place_shown, command_shown}
 use Rattle.run_calls.specs.Calls.{FolderCall, ProgramCall, look_asked, start_asked, RunCall, folder_call, program_call, folder_calls, program_calls, Adds}
 use Rattle.runner.specs.Made.{root_item, directory_item, parents_item, nodes_made, made}
 use Rattle.runner.specs.Gathered.{items_answered}
-use Rattle.runner.specs.Told.{items_told, starts, forgets}
+use Rattle.runner.specs.Told.{items_told, starts, forgets, failures}
 use Rattle.runner.specs.Listed.{no_walk, Meets}
 use Rattle.runner.specs.Steps.{Goes, looks}
 use Rattle.runner.specs.Runs.{IsStageOf}
@@ -37,6 +37,7 @@ is_part text place from to f g p q h = record {
     fits = h.fits;
     meets = h.meets;
     keeps = h.keeps;
+    succeeds = h.succeeds;
   };
   folder_asked = h.folder_asked;
   programs_asked = h.programs_asked;
@@ -64,6 +65,7 @@ behind text place from to fs ps calls h = record {
   fits = h.fits;
   meets = h.meets;
   keeps = h.keeps;
+  succeeds = h.succeeds;
 }
 
 -- ---- all of them
@@ -97,6 +99,7 @@ whole text place task (stages.Making (makings.Root n)) calls e h g =
       gathers = ap items_answered (sym fs) ∙ sym g.gathers;
       is_told = ap items_told (sym ps) ∙ sym g.is_told;
       keeps = ap forgets (sym ps) ∙ g.keeps;
+      succeeds = ap failures (sym ps) ∙ g.succeeds;
     }
 whole text place task from calls e h g = absurd h
 

@@ -22,7 +22,7 @@ use Rattle.run_calls.specs.Calls.{FolderCall, FolderQuestion, ProgramCall, Progr
 use Rattle.runner.specs.Made.{MadeItem, root_item, byte_item, directory_item, parents_item, nodes_made, made}
 use Rattle.runner.specs.Gathered.{ItemValue, items_answered, file_item, found_item, numbered, nodes_items, output_items}
 use Rattle.runner.specs.Gathered as Gathered
-use Rattle.runner.specs.Told.{ToldItem, code_item, killed_item, stream_bytes, whole_stream, items_told, starts, forgets}
+use Rattle.runner.specs.Told.{ToldItem, code_item, killed_item, stream_bytes, whole_stream, items_told, starts, forgets, failures}
 use Rattle.runner.specs.Listed.{Walk, walk_at, walk_then, Meets}
 use Rattle.runner.specs.Sizes.{held, Fits}
 
@@ -195,7 +195,8 @@ looks calls = collect (λ c. look_of c.question) calls
 -- What was asked meanwhile, in some order of both kinds of calls, is a front of what was to be
 -- made, to be started and to be looked at, and what was answered is what was gathered and told
 -- since; none of it was too large. Of output directories each entry is met that was left or told
--- of, in order, until nothing is left or so many nodes are met. No program is let go of.
+-- of, in order, until nothing is left or so many nodes are met. No program is let go of, and
+-- nothing that was asked of programs failed, but to end one.
 pub record GoesWith (before : Walk) (text : ℕ → List ℕ) (place : PlaceValue) (from : Stage)
     (to : Step) (f_before f_now : Option (List FolderCall))
     (p_before p_now : Option (List ProgramCall)) : Type 0 where
@@ -211,6 +212,7 @@ pub record GoesWith (before : Walk) (text : ℕ → List ℕ) (place : PlaceValu
   pub fits : Fits (held from) calls
   pub meets : Meets before (folder_calls calls) (walk_then place to)
   pub keeps : forgets (program_calls calls) ≡ []
+  pub succeeds : failures (program_calls calls) ≡ []
 
 abbrev pub Goes : (ℕ → List ℕ) → PlaceValue → Stage → Step → Option (List FolderCall) →
     Option (List FolderCall) → Option (List ProgramCall) → Option (List ProgramCall) → Type 0

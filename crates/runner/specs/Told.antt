@@ -75,3 +75,12 @@ forget_of q = []
 
 abbrev pub forgets : List ProgramCall → List ProgramQuestion
 forgets calls = collect (λ c. forget_of c.question) calls
+
+-- what failed among what was asked, but for what was to end a program: that is asked again
+abbrev pub failure_of : ProgramQuestion → Result ProgramAnswer ErrorKind → List ProgramQuestion
+failure_of (kill_asked run) a = []
+failure_of q (Ok a) = []
+failure_of q (Err e) = q ∷ []
+
+abbrev pub failures : List ProgramCall → List ProgramQuestion
+failures calls = collect (λ c. failure_of c.question c.answer) calls

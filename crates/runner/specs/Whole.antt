@@ -9,7 +9,7 @@ use Rattle.run_calls.specs.Values.{PlaceValue, command_shown}
 use Rattle.run_calls.specs.Calls.{look_asked, start_asked, FolderCall, ProgramCall, RunCall, folder_calls, program_calls, Adds}
 use Rattle.runner.specs.Made.{root_item, directory_item, parents_item, nodes_made, made}
 use Rattle.runner.specs.Gathered.{items_answered, output_items}
-use Rattle.runner.specs.Told.{items_told, starts, forgets}
+use Rattle.runner.specs.Told.{items_told, starts, forgets, failures}
 use Rattle.runner.specs.Listed.{no_walk, Meets}
 use Rattle.runner.specs.Steps.{Goes, exited_told, looks}
 
@@ -43,7 +43,8 @@ all_calls (calls ∷ parts) = calls ++ all_calls parts
 
 -- its folder is made, its task's tree, each node once, in walk order, and what is needed besides;
 -- its command is started once; each output is looked at, and of one that is a directory all is met;
--- what it exits with is what was answered; and its program is not let go of before
+-- what it exits with is what was answered; its program is not let go of before; and nothing that
+-- was asked of programs failed, but to end one
 pub record IsWhole (text : ℕ → List ℕ) (place : PlaceValue) (task : Task) (e : Exited)
     (calls : List RunCall) : Type 0 where
   pub makes : made (folder_calls calls)
@@ -57,3 +58,4 @@ pub record IsWhole (text : ℕ → List ℕ) (place : PlaceValue) (task : Task) 
   pub gathers : items_answered (folder_calls calls) ≡ output_items place e.outputs.items
   pub is_told : items_told (program_calls calls) ≡ exited_told place e
   pub keeps : forgets (program_calls calls) ≡ []
+  pub succeeds : failures (program_calls calls) ≡ []

@@ -4,7 +4,7 @@ use Rattle.run_calls.specs.Values.{place_shown}
 use Rattle.run_calls.specs.Calls.{end_asked, state_of}
 use Rattle.runner.specs.Told.{call_told}
 use Rattle.runner.proofs.Collect.{goes_program}
-use Rattle.runner.proofs.Popped.{programs_ok}
+use Rattle.runner.proofs.Popped.{programs_ok, no_failure}
 use Rattle.runner.proofs.Ended.{ended_goes}
 use Rattle.runner.proofs.Sizes.{fits_none}
 use Rattle.runner.proofs.Stopped.{program_stops, programs_failed}
@@ -16,7 +16,7 @@ returns-in-None-clause-goes g c = λ text f.
     goes_program text (place_shown c.args.place.now) _ _ f _ _ (end_asked c.args.place.now.run) _ c.ask.ensures.adds refl refl refl refl
     (sym (ap (λ r. call_told (end_asked c.args.place.now.run) (state_of r)) is))
     (fits_none _ refl)
-    refl refl
+    refl refl (no_failure (end_asked c.args.place.now.run) state_of _ _ is (λ y. refl))
 
 pub returns-in-Some-clause-goes : goal.returns-in-Some-clause-goes
 returns-in-Some-clause-goes g c = λ text f.

@@ -6,7 +6,7 @@ use Rattle.run_calls.specs.Calls.{bytes_of, look_asked, read_asked}
 use Rattle.runner.specs.Told.{code_item, killed_item, stream_bytes, stream_end, whole_stream}
 use Rattle.runner.specs.Gathered.{output_items}
 use Rattle.runner.proofs.Collect.{goes_program}
-use Rattle.runner.proofs.Popped.{programs_ok, read_says, some_told, more_read}
+use Rattle.runner.proofs.Popped.{programs_ok, read_says, no_failure, some_told, more_read}
 use Rattle.runner.proofs.Sizes.{fits_still}
 use Rattle.runner.proofs.Told.{stream_says, fits_told, more_than, at_most}
 use Rattle.runner.proofs.Lists.{no_piece, some_piece}
@@ -27,7 +27,7 @@ returns-then-is_empty-clause-goes g c = λ text f.
     ∙ ap (λ zs. code_item run c.args.ended.code ∷ killed_item run ∷ zs) (sym (append_assoc (whole_stream run streams.Output c.args.stdout) (stream_bytes run streams.Error 0 c.args.content) (stream_end run streams.Error (length c.args.content) ∷ [])))
     ∙ ap (λ is. (code_item run c.args.ended.code ∷ killed_item run ∷ (whole_stream run streams.Output c.args.stdout ++ stream_bytes run streams.Error 0 c.args.content)) ++ is) (sym items))
     (fits_still _ _ c.requires.counted (stream_says run streams.Error from 65536 c.read.result c.in_ok-piece.piece is ∙ ap length none))
-    refl refl
+    refl refl (no_failure (read_asked run streams.Error from 65536) bytes_of _ _ is (λ y. refl))
 
 pub returns-clause-goes : goal.returns-clause-goes
 returns-clause-goes g c = λ text f.
@@ -43,7 +43,7 @@ returns-clause-goes g c = λ text f.
     ∙ sym (append_assoc (whole_stream run streams.Output c.args.stdout) (stream_bytes run streams.Error 0 c.args.content) _)))
     (fits_told _ _ _ (stream_says run streams.Error from 65536 c.read.result c.in_ok-piece.piece is)
     (at_most _ _ _ _ _ c.is_too_large.ensures c.if-is_too_large.false (omega (arith, c.length.ensures.length, c.length-from.ensures)) (omega (arith, c.len.ensures, c.in_ok-piece.piece.ok))))
-    refl refl
+    refl refl (no_failure (read_asked run streams.Error from 65536) bytes_of _ _ is (λ y. refl))
 
 pub returns-then-is_too_large-clause-stops : goal.returns-then-is_too_large-clause-stops
 returns-then-is_too_large-clause-stops g c = λ text f.

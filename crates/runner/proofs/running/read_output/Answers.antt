@@ -4,7 +4,7 @@ use Rattle.run_calls.specs.Values.{place_shown}
 use Rattle.run_calls.specs.Calls.{bytes_of, read_asked}
 use Rattle.runner.specs.Told.{code_item, killed_item, stream_end}
 use Rattle.runner.proofs.Collect.{goes_program}
-use Rattle.runner.proofs.Popped.{programs_ok, read_says, some_told, more_read, output_whole}
+use Rattle.runner.proofs.Popped.{programs_ok, read_says, no_failure, some_told, more_read, output_whole}
 use Rattle.runner.proofs.Sizes.{fits_still}
 use Rattle.runner.proofs.Told.{stream_says, fits_told, more_than, at_most}
 use Rattle.runner.proofs.Lists.{no_piece, some_piece}
@@ -21,7 +21,7 @@ returns-then-is_empty-clause-goes g c = λ text f.
     goes_program text (place_shown c.args.place.now) _ _ f _ _ (read_asked run streams.Output from 65536) _ c.read.ensures.adds refl refl refl refl
     (output_whole run c.args.ended.code c.args.content c.whole.result c.new.result _ c.whole.ensures c.new.ensures items)
     (fits_still _ _ c.requires.counted (stream_says run streams.Output from 65536 c.read.result c.in_ok-piece.piece is ∙ ap length none))
-    refl refl
+    refl refl (no_failure (read_asked run streams.Output from 65536) bytes_of _ _ is (λ y. refl))
 
 pub returns-clause-goes : goal.returns-clause-goes
 returns-clause-goes g c = λ text f.
@@ -35,7 +35,7 @@ returns-clause-goes g c = λ text f.
     (ap (λ zs. code_item run c.args.ended.code ∷ killed_item run ∷ zs) more)
     (fits_told _ _ _ (stream_says run streams.Output from 65536 c.read.result c.in_ok-piece.piece is)
     (at_most _ _ _ _ _ c.is_too_large.ensures c.if-is_too_large.false c.length-from.ensures (omega (arith, c.len.ensures, c.in_ok-piece.piece.ok))))
-    refl refl
+    refl refl (no_failure (read_asked run streams.Output from 65536) bytes_of _ _ is (λ y. refl))
 
 pub returns-then-is_too_large-clause-stops : goal.returns-then-is_too_large-clause-stops
 returns-then-is_too_large-clause-stops g c = λ text f.

@@ -81,10 +81,16 @@ class Report:
             self.missed(what, found)
 
 
+def as_this_user(report, program):
+    sandbox.reach(report, program, "as this user")
+    sandbox.ended_alone(report, "as this user")
+
+
 def as_plain_user(report, program):
     plain, who = {"user": PLAIN, "group": PLAIN, "extra_groups": []}, "as a plain user"
     sandbox.reach(report, program, who, **plain)
     sandbox.nothing_started(report, program, who, **plain)
+    sandbox.ended_alone(report, who, **plain)
 
 
 def main():
@@ -101,7 +107,7 @@ def main():
     no_cluster = slurm_cluster.lacking()
     ways = {
         "lost": ([], lambda: launchers_lost.lost(report, program)),
-        "sandbox": (no_sandbox, lambda: sandbox.reach(report, program, "as this user")),
+        "sandbox": (no_sandbox, lambda: as_this_user(report, program)),
         "plain": (no_sandbox + no_root, lambda: as_plain_user(report, program)),
         "slurm": (no_cluster, lambda: (slurm.on_nodes(report, program), slurm.next_missing(report, program))),
         "both": (no_cluster + no_sandbox, lambda: slurm.sandboxed(report, program)),

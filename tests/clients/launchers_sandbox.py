@@ -3,6 +3,7 @@
 import os
 import shutil
 import signal
+import subprocess
 import tempfile
 import time
 
@@ -101,7 +102,8 @@ def processes(helpers, server):
         ("calls that are refused", [*python, attacks.CALLS], {}, lambda t: t.stdout == attacks.CALLS_SAY),
         ("the same as a program of 32 bits", [*python, attacks.CALLS_OF_32], {}, lambda t: t.stdout in attacks.SAY_32),
         ("calls that are not", [*python, attacks.OWN_CALLS], {}, lambda t: t.stdout == "as ever\n"),
-        ("what is told of keys", "cat /proc/keys /proc/key-users", {}, nothing),
+        ("what is told of keys and locks", "cat /proc/keys /proc/key-users /proc/locks", {}, nothing),
+        ("the nodes of /dev", attacks.DEVICES, {}, lambda t: t.stdout == "1\n" and t.code == 0),
         ("rights", "grep -c 'Cap.*:.0000000000000000$' /proc/self/status", {}, lambda t: t.stdout == "5\n"),
         ("another namespace", "unshare --user true", {}, lambda t: t.code != 0),
         ("the kernel's settings", settings, {}, nothing),
@@ -127,6 +129,8 @@ def own_matters():
         ("a signal", "kill -KILL $$", {}, lambda t: t.code == 137 and not t.stderr),
         ("another signal", "kill -SEGV $$", {}, lambda t: t.code == 139 and not t.stderr),
         ("a signal to its whole group", "echo x; kill 0", {}, lambda t: t.code == 143 and t.stdout == "x\n"),
+        ("an interrupt to its whole group", "echo x; kill -INT 0", {}, lambda t: t.code == 130 and t.stdout == "x\n"),
+        ("an interrupt to what waits for it", "kill -INT 1; kill -INT $PPID; exit 6", {}, lambda t: t.code == 6),
         ("streams that are opened again", attacks.REOPENING, {}, lambda t: (t.stdout, t.stderr) == attacks.REOPENED),
         ("a daemon, which ends with its program", writing, {"files": ["out"]}, lambda t: t.code == 0),
         ("a timeout", "(setsid sleep 4321 &); sleep 4321", {"seconds": 2}, lambda t: t.status == 4),
@@ -154,6 +158,7 @@ def reach(report, program, who, **more):
             of_blue = lambda: [name for name in server.entries() if name.startswith("1-")]
             programs.settled(lambda: not of_blue(), 20 * report.slow)
             tried_all(report, who, server, red, folder, of_blue()[0])
+            ended_soon(report, who, server, red, folder)
             done = blue.operations(slow)[-1]
             is_right = done.result and blue.stream_text(done.result.stdout) == SOURCE
             report.expect(is_right, f"{who}: the other's action is as it is alone", done.status.code)
@@ -208,6 +213,41 @@ def tried_all(report, who, server, red, folder, other):
             report.missed(f"{who}: {what}: the other's folder is there", "it is not")
     are_there = set(helpers) <= set(programs.helpers(folder, server.process.pid)) and server.is_running()
     report.expect(are_there, f"{who}: the server and its helper are there", "they are not")
+
+
+def ended_soon(report, who, server, red, folder):
+    """Timeouts while the sandbox is being made."""
+    statuses = set()
+    for n in range(40):
+        action = marked(folder, ["/bin/sleep", "4321"], nanos=(5 + 4 * n) * 1_000_000)
+        statuses.add(red.execute(action).status.code)
+    left = programs.settled(lambda: daemons(folder, server), 15 * report.slow)
+    report.expect(statuses == {4} and not left, f"{who}: timeouts while the sandbox is being made", (statuses, left))
+
+
+def ended_alone(report, who, **more):
+    """The launcher by itself, as on a node: a signal to its group while the sandbox is being made."""
+    folder = tempfile.mkdtemp(prefix="launchers-")
+    os.chmod(folder, 0o777)
+    launcher = shutil.copy(SANDBOX, folder)
+    try:
+        for n in range(40):
+            root = os.path.join(folder, str(n))
+            for name in [root, f"{root}.aside"]:
+                os.mkdir(name)
+                os.chmod(name, 0o777)
+            words = ["/usr/bin/setsid", "--", launcher, "red", root, ".", f"MARK={folder}", "/bin/sleep", "4321"]
+            nowhere = {"stdin": subprocess.DEVNULL, "stdout": subprocess.DEVNULL, "stderr": subprocess.DEVNULL}
+            begun = subprocess.Popen(words, env={}, cwd="/", **nowhere, **more)
+            time.sleep((5 + 4 * n) / 1000)
+            os.killpg(begun.pid, signal.SIGTERM)
+            begun.wait()
+        left = programs.settled(lambda: programs.running(folder), 5 * report.slow)
+        report.expect(not left, f"{who}: the launcher alone is ended while the sandbox is being made", left)
+    finally:
+        for number in programs.running(folder):
+            os.kill(number, signal.SIGKILL)
+        shutil.rmtree(folder, ignore_errors=True)
 
 
 def ends_with_server(report, who, server, red, folder):

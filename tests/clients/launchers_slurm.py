@@ -73,6 +73,7 @@ def on_nodes(report, program):
                 many(here, peer, second)
             here.nothing_left(server, "200 actions")
         not_copied(here)
+        srun_killed(here)
         killed(here)
         with here.serve() as (server, peer):
             node_lost(here, server, peer)
@@ -156,6 +157,25 @@ def many(here, *peers):
     took = time.monotonic() - begun
     here.expect(not wrong, f"{count} actions, each with its own answer, in {took:.1f} s", wrong[:3])
     here.expect(set(NODES) <= seen, "both nodes were used", seen)
+
+
+def srun_killed(here):
+    """Of what waits for a job only `srun` is killed, as for memory: the job goes, too."""
+    with here.serve() as (_, peer):
+        number = peer.start(here.action("trap '' TERM; while :; do sleep 4321; done"))
+        here.settled(lambda: not here.cluster.jobs(), 20)
+        count = 0
+        for name in os.listdir("/proc"):
+            with contextlib.suppress(OSError):
+                with open(f"/proc/{name}/cmdline", "rb") as file:
+                    said = file.read()
+                if said.startswith(b"srun\0") and os.fsencode(here.folder) in said:
+                    os.kill(int(name), signal.SIGKILL)
+                    count += 1
+        done = peer.operations(number)[-1]
+        left = here.settled(here.cluster.jobs, 20)
+        is_gone = count and done.status.code == 13 and not left
+        here.expect(is_gone, "the job of an srun that is killed is cancelled", (count, done.status.code, left))
 
 
 def killed(here):

@@ -226,12 +226,12 @@ def ended_soon(report, who, server, red, folder):
 
 
 def ended_alone(report, who, **more):
-    """The launcher by itself, as on a node: a signal to its group while the sandbox is being made."""
+    """The launcher by itself, as on a node: it is ended while the sandbox is being made."""
     folder = tempfile.mkdtemp(prefix="launchers-")
     os.chmod(folder, 0o777)
     launcher = shutil.copy(SANDBOX, folder)
     try:
-        for n in range(40):
+        for n in range(80):
             root = os.path.join(folder, str(n))
             for name in [root, f"{root}.aside"]:
                 os.mkdir(name)
@@ -239,8 +239,11 @@ def ended_alone(report, who, **more):
             words = ["/usr/bin/setsid", "--", launcher, "red", root, ".", f"MARK={folder}", "/bin/sleep", "4321"]
             nowhere = {"stdin": subprocess.DEVNULL, "stdout": subprocess.DEVNULL, "stderr": subprocess.DEVNULL}
             begun = subprocess.Popen(words, env={}, cwd="/", **nowhere, **more)
-            time.sleep((5 + 4 * n) / 1000)
-            os.killpg(begun.pid, signal.SIGTERM)
+            time.sleep((5 + 2 * n) / 1000)
+            if n % 2:
+                os.killpg(begun.pid, signal.SIGTERM)
+            else:
+                begun.kill()
             begun.wait()
         left = programs.settled(lambda: programs.running(folder), 5 * report.slow)
         report.expect(not left, f"{who}: the launcher alone is ended while the sandbox is being made", left)

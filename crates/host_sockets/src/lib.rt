@@ -1,20 +1,24 @@
 //! The sockets of this host, and its clock.
 #![tactic(auto)]
 
-mod counts;
+ghost use Rattle.std.specs.Prelude.{◌≡◌, ◌++◌, [], ◌∷◌, slice_get, IfOk};
+ghost use Rattle.std.specs.Io.{ReadsAtMost, WritesAtMost};
+ghost use Rattle.host_sockets.specs.Ports.{ListensAt, OthersStay, addresses};
 
+mod counts;
+mod port;
+
+use crate::port::Port;
 pub use counts::SocketCounts;
-use libc::net;
-use mio::net::{TcpListener, TcpStream};
+use mio::net::TcpStream;
 use mio::{Events, Interest, Poll, Token};
 use serve::{Socket, Sockets, is_not_ready};
 use std::alloc::Global;
-use std::collections::HashMap;
-use std::io::{self, ErrorKind, Read, Write};
-use std::net::{Ipv4Addr, Shutdown, SocketAddr};
-use std::os::fd::AsRawFd;
+use std::io::{self, ErrorKind, Read};
+use std::net::{IpAddr, SocketAddr};
 use std::thread;
 use std::time::{Duration, Instant};
+use thiserror::Error;
 
 /// For how many milliseconds a closed connection is kept at most, for what its client still sends.
 /// If it went at once while such bytes are unread, the system would reset it, and the client might
@@ -31,73 +35,15 @@ const DROP_LIMIT: usize = 16_384;
 /// time.
 const WAITING_LIMIT: usize = 256;
 
-/// After how many seconds in which nothing came on a connection the system asks whether its client
-/// is still there. One that does not answer for some ten minutes more is gone, and the connection
-/// ends with an error: else a client that vanished would keep its place, where it has left a
-/// request half sent.
-const ASKED_AFTER: i32 = 300;
-
-/// How many bytes an option of a socket has that is a number.
-const NUMBER: u32 = 4;
-
-/// A number as an option of a socket.
-fn option_of(number: i32) -> [u8; 16] {
-    let mut option = [0; 16];
-    option[..4].copy_from_slice(&number.to_ne_bytes());
-    option
-}
-
-/// Has the system ask after clients of connections that come in at a port.
-fn ask_after_clients(listener: &TcpListener) -> io::Result<()> {
-    let descriptor = listener.as_raw_fd();
-    let (asks, after) = (option_of(1), option_of(ASKED_AFTER));
-    // The system reads the numbers alone.
-    let asked = unsafe {
-        net::setsockopt(
-            descriptor,
-            net::SOL_SOCKET,
-            net::SO_KEEPALIVE,
-            &asks,
-            NUMBER,
-        )
-    };
-    let timed = unsafe {
-        net::setsockopt(
-            descriptor,
-            net::IPPROTO_TCP,
-            net::TCP_KEEPIDLE,
-            &after,
-            NUMBER,
-        )
-    };
-    if asked < 0 || timed < 0 {
-        return Err(io::Error::from_raw_os_error(os::errno()));
-    }
-    Ok(())
-}
-
-/// A port.
-#[derive(Drop)]
-struct Port {
-    listener: TcpListener,
-    /// Whether a client may wait at it: one came since the port was found empty.
-    may_wait: bool,
-}
-
-impl Port {
-    /// The next client that waits. The system is only asked where one may wait.
-    fn accept(&mut self) -> io::Result<TcpStream> {
-        if !self.may_wait {
-            return Err(io::Error::from(ErrorKind::WouldBlock));
-        }
-        match self.listener.accept() {
-            Ok((stream, _)) => Ok(stream),
-            Err(error) => {
-                self.may_wait = error.kind() != ErrorKind::WouldBlock;
-                Err(error)
-            }
-        }
-    }
+/// Why there are no sockets.
+#[derive(Debug, Drop, Error)]
+pub enum ListenError {
+    /// There is no listening on this port.
+    #[error("cannot listen on {0}: {1}")]
+    Port(SocketAddr, io::Error),
+    /// The system has no clock, or nothing that finds who waits, or no memory.
+    #[error("{0}")]
+    Host(#[from] io::Error),
 }
 
 /// A closed connection, and when it was closed.
@@ -131,7 +77,6 @@ pub struct HostSockets<'a> {
     poll: Poll,
     /// Those that it found.
     found: Events,
-    streams: HashMap<Socket, TcpStream>,
     lingering: Vec<Lingering>,
     /// Where dropped bytes are read to.
     room: Vec<u8>,
@@ -144,14 +89,36 @@ pub struct HostSockets<'a> {
 }
 
 impl<'a> HostSockets<'a> {
-    /// Sockets that listen on no port yet, and a clock that starts now.
-    pub fn new(rt: &'a HostRuntime, alloc: Global) -> io::Result<HostSockets<'a>> {
+    /// Sockets that listen on these ports of an address of the host, for the instances in order,
+    /// and a clock that starts now. With port 0 the system chooses one. The first port on which
+    /// there is no listening is told, and there is none on any.
+    pub fn listen(
+        rt: &'a HostRuntime,
+        alloc: Global,
+        ip: IpAddr,
+        ports: &[u16],
+    ) -> Result<HostSockets<'a>, ListenError>
+        ensures { IfOk result (ListensAt ip ports.now) }
+    {
+        let mut sockets = HostSockets::new(rt, alloc)?;
+        'ports: for port in ports {
+            let address = SocketAddr::new(ip, *port);
+            if let Err(error) = sockets.add_port(address) {
+                return Err(ListenError::Port(address, error));
+            }
+        }
+        Ok(sockets)
+    }
+
+    /// Sockets that listen on no port.
+    fn new(rt: &'a HostRuntime, alloc: Global) -> io::Result<HostSockets<'a>>
+        ensures { IfOk result (λ sockets. addresses sockets ≡ []) }
+    {
         Ok(HostSockets {
             rt,
             ports: Vec::new(alloc),
             poll: Poll::new(rt)?,
             found: Events::with_capacity(alloc, WAITING_LIMIT)?,
-            streams: HashMap::new(alloc),
             lingering: Vec::with_capacity(alloc, LINGERING_LIMIT)?,
             room: vec![in alloc; 0; DROP_LIMIT]?,
             start: Instant::now(rt)?,
@@ -161,31 +128,34 @@ impl<'a> HostSockets<'a> {
         })
     }
 
-    /// From now on what the system refuses is counted there.
-    pub fn count_in(&mut self, counts: &'a SocketCounts) {
-        self.counts = Some(counts);
-    }
-
-    /// Listens on a port of 127.0.0.1, for the next instance. With port 0 the system chooses one.
-    pub fn listen(&mut self, port: u16) -> io::Result<()> {
-        self.listen_at(SocketAddr::from((Ipv4Addr::LOCALHOST, port)))
-    }
-
-    /// Listens on a port of an address, for the next instance.
-    pub fn listen_at(&mut self, address: SocketAddr) -> io::Result<()> {
-        let mut listener = TcpListener::bind(self.rt, address)?;
-        ask_after_clients(&listener)?;
+    /// Listens on one more port.
+    fn add_port(&mut self, address: SocketAddr) -> io::Result<()>
+        ensures { IfOk result (λ _. addresses self.new ≡ addresses self.old ++ address ∷ []) }
+    {
+        let mut port = Port::open(self.rt, self.rt.alloc(), address)?;
         let token = Token(self.ports.len());
         let registry = self.poll.registry();
-        registry.register(&mut listener, token, Interest::READABLE)?;
-        self.ports.push(Port {
-            listener,
-            may_wait: true,
-        })?;
+        registry.register(&mut port.listener, token, Interest::READABLE)?;
+        self.ports.push(port)?;
         Ok(())
     }
 
-    /// The port on which the instance of this number is served.
+    /// From now on what the system refuses is counted there.
+    pub fn count_in(&mut self, counts: &'a SocketCounts)
+        ensures { addresses self.new ≡ addresses self.old }
+    {
+        self.counts = Some(counts);
+    }
+
+    /// Where it is listened for the instance of this number.
+    pub fn address(&self, instance: u32) -> Option<SocketAddr>
+        ensures { result ≡ slice_get (addresses self.now) instance }
+    {
+        let port = self.ports.get(instance as usize)?;
+        Some(port.address)
+    }
+
+    /// The port on which the instance of this number is served, which the system may have chosen.
     pub fn port(&self, instance: u32) -> io::Result<u16> {
         match self.ports.get(instance as usize) {
             Some(port) => Ok(port.listener.local_addr()?.port()),
@@ -193,36 +163,43 @@ impl<'a> HostSockets<'a> {
         }
     }
 
-    fn accept_now(&mut self, socket: Socket) -> io::Result<()> {
-        let Some(port) = self.ports.get_mut(socket.instance as usize) else {
-            return Err(io::Error::from(ErrorKind::WouldBlock));
-        };
-        // Where memory is refused for it the client waits at the port, and is not reset.
-        if self.streams.reserve(1).is_err() {
-            return Err(io::Error::from(ErrorKind::OutOfMemory));
+    fn accept_now(&mut self, socket: Socket) -> io::Result<()>
+        ensures { OthersStay socket.instance self.old self.new }
+    {
+        match self.ports.get_mut(socket.instance as usize) {
+            Some(port) => port.accept(socket.connection, self.counts),
+            None => Err(io::Error::from(ErrorKind::WouldBlock)),
         }
-        let stream = match port.accept() {
-            Ok(stream) => stream,
-            Err(error) => {
-                self.count_refusal(&error);
-                return Err(error);
-            }
-        };
-        // Otherwise the end of a response waits for the client's acknowledgement of what was before
-        // it.
-        stream.set_nodelay(true)?;
-        match self.streams.insert(socket, stream) {
-            Ok(_) => Ok(()),
-            Err(_) => Err(io::Error::from(ErrorKind::OutOfMemory)),
+    }
+
+    fn read_now(&mut self, socket: Socket, room: &mut [u8]) -> io::Result<usize>
+        ensures bound { ReadsAtMost result room.new }
+        ensures others { OthersStay socket.instance self.old self.new }
+    {
+        match self.ports.get_mut(socket.instance as usize) {
+            Some(port) => port.read(socket.connection, room),
+            None => Err(io::Error::from(ErrorKind::NotConnected)),
+        }
+    }
+
+    fn write_now(&mut self, socket: Socket, bytes: &[u8]) -> io::Result<usize>
+        ensures bound { WritesAtMost result bytes.now }
+        ensures others { OthersStay socket.instance self.old self.new }
+    {
+        match self.ports.get_mut(socket.instance as usize) {
+            Some(port) => port.write(socket.connection, bytes),
+            None => Err(io::Error::from(ErrorKind::NotConnected)),
         }
     }
 
     /// Sends no more on a connection, and keeps it for what its client still sends.
-    fn close_now(&mut self, socket: Socket) -> io::Result<()> {
-        let Some(stream) = self.streams.remove(&socket) else {
+    fn close_now(&mut self, socket: Socket) -> io::Result<()>
+        ensures { OthersStay socket.instance self.old self.new }
+    {
+        let Some(port) = self.ports.get_mut(socket.instance as usize) else {
             return Err(io::Error::from(ErrorKind::NotConnected));
         };
-        stream.shutdown(Shutdown::Write)?;
+        let stream = port.close(socket.connection)?;
         if self.lingering.len() < LINGERING_LIMIT {
             let since = self.moment;
             let kept: Result<(), _> = self.lingering.push(Lingering { stream, since });
@@ -231,17 +208,10 @@ impl<'a> HostSockets<'a> {
         Ok(())
     }
 
-    /// Counts that the system does not give a client that waits: one that went meanwhile is none.
-    fn count_refusal(&self, error: &io::Error) {
-        if let Some(counts) = self.counts {
-            if !is_not_ready(error) && error.kind() != ErrorKind::ConnectionAborted {
-                counts.add(error);
-            }
-        }
-    }
-
     /// Counts a fault.
-    fn count<T: Drop>(&mut self, outcome: &io::Result<T>) {
+    fn count<T: Drop>(&mut self, outcome: &io::Result<T>)
+        ensures { self.new.ports ≡ self.old.ports }
+    {
         if let Err(error) = outcome {
             if !is_not_ready(error) {
                 self.faults = self.faults.saturating_add(1);
@@ -261,23 +231,27 @@ impl<'a> HostSockets<'a> {
     }
 
     /// Finds the ports to which clients came. Where that fails, one may wait at each.
-    fn find_waiting(&mut self) {
+    fn find_waiting(&mut self)
+        ensures { self.new.ports ≡ self.old.ports }
+    {
         let polled = self.poll.poll(&mut self.found, Some(Duration::ZERO));
         self.count(&polled);
         if polled.is_err() {
-            for port in self.ports.iter_mut() {
-                port.may_wait = true;
+            for port in &self.ports {
+                port.may_wait.set(true);
             }
         }
         for event in self.found.iter() {
-            if let Some(port) = self.ports.get_mut(event.token().0) {
-                port.may_wait = true;
+            if let Some(port) = self.ports.get(event.token().0) {
+                port.may_wait.set(true);
             }
         }
     }
 
     /// Drops what closed connections bring, and lets go of those that are over.
-    fn drop_rest(&mut self) {
+    fn drop_rest(&mut self)
+        ensures { self.new.ports ≡ self.old.ports }
+    {
         let mut at = 0;
         while at < self.lingering.len() {
             let lingering = &mut self.lingering[at];
@@ -293,7 +267,9 @@ impl<'a> HostSockets<'a> {
 
 impl<'a> Sockets for HostSockets<'a> {
     /// It also looks at which ports clients wait, once for all of them.
-    fn now(&mut self) -> u64 {
+    fn now(&mut self) -> u64
+        ensures ports { self.new.ports ≡ self.old.ports }
+    {
         self.moment = self.moment.max(self.passed());
         self.drop_rest();
         self.find_waiting();
@@ -304,31 +280,35 @@ impl<'a> Sockets for HostSockets<'a> {
         self.passed() > moment
     }
 
-    fn accept(&mut self, socket: Socket) -> io::Result<()> {
+    fn accept(&mut self, socket: Socket) -> io::Result<()>
+        ensures others { OthersStay socket.instance self.old self.new }
+    {
         let outcome = self.accept_now(socket);
         self.count(&outcome);
         outcome
     }
 
-    fn read(&mut self, socket: Socket, room: &mut [u8]) -> io::Result<usize> {
-        let outcome = match self.streams.get_mut(&socket) {
-            Some(stream) => stream.read(room),
-            None => Err(io::Error::from(ErrorKind::NotConnected)),
-        };
+    fn read(&mut self, socket: Socket, room: &mut [u8]) -> io::Result<usize>
+        ensures bound { ReadsAtMost result room.new }
+        ensures others { OthersStay socket.instance self.old self.new }
+    {
+        let outcome = self.read_now(socket, room);
         self.count(&outcome);
         outcome
     }
 
-    fn write(&mut self, socket: Socket, bytes: &[u8]) -> io::Result<usize> {
-        let outcome = match self.streams.get_mut(&socket) {
-            Some(stream) => stream.write(bytes),
-            None => Err(io::Error::from(ErrorKind::NotConnected)),
-        };
+    fn write(&mut self, socket: Socket, bytes: &[u8]) -> io::Result<usize>
+        ensures bound { WritesAtMost result bytes.now }
+        ensures others { OthersStay socket.instance self.old self.new }
+    {
+        let outcome = self.write_now(socket, bytes);
         self.count(&outcome);
         outcome
     }
 
-    fn close(&mut self, socket: Socket) -> io::Result<()> {
+    fn close(&mut self, socket: Socket) -> io::Result<()>
+        ensures others { OthersStay socket.instance self.old self.new }
+    {
         let outcome = self.close_now(socket);
         self.count(&outcome);
         outcome
@@ -338,7 +318,9 @@ impl<'a> Sockets for HostSockets<'a> {
         self.faults
     }
 
-    fn rest(&mut self, idle_turns: u64) {
+    fn rest(&mut self, idle_turns: u64)
+        ensures ports { self.new.ports ≡ self.old.ports }
+    {
         if idle_turns < 100 {
             thread::yield_now();
         } else if idle_turns < 300 {

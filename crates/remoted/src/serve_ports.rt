@@ -1,5 +1,11 @@
 //! `remoted serve`.
 
+ghost use Rattle.std.specs.Prelude.{◌≡◌, map, IfOk, IfSome, string_bytes};
+ghost use Rattle.std.specs.Net.Socket.{socket_port};
+ghost use Rattle.instance_words.specs.Words.{AreWordsOf};
+ghost use Rattle.host_sockets.specs.Ports.{ListensAt, addresses};
+ghost use Rattle.remoted.specs.Launching.{KnowsInstances};
+
 use crate::beginning::{
     begin, can_open, can_run, guard_against_leases, keep_freed_memory, slots_of,
 };
@@ -11,7 +17,7 @@ use crate::watching::{MetricsFile, StopFile};
 use command_line::Service;
 use host_folders::{FolderCounts, HostFolder, Work};
 use host_programs::{HostPrograms, Launcher, launcher_path};
-use host_sockets::{HostSockets, SocketCounts};
+use host_sockets::{HostSockets, ListenError, SocketCounts};
 use instance_words::{Instances, InstancesFault, instances_of};
 use job_runs::JobRunner;
 use serve::{ErrorLines, Sockets, Tally, serve};
@@ -45,26 +51,24 @@ fn tell_fault<E: Write>(words: &[&str], fault: InstancesFault, errors: &mut E) -
     Ok(Exit::BadWords)
 }
 
-/// Listens on the port of each instance; where it cannot on one, that is told, and the answer is
-/// no.
-fn listen<E: Write>(
-    sockets: &mut HostSockets<'_>,
-    listen: IpAddr,
+/// Sockets that listen on these ports of an address, for the instances in order. Where there is no
+/// listening on one, that is told, and there are none.
+fn listen<'a, E: Write>(
+    rt: &'a HostRuntime,
+    ip: IpAddr,
     ports: &[u16],
     errors: &mut E,
-) -> io::Result<bool> {
-    for port in ports {
-        let address = SocketAddr::new(listen, *port);
-        match sockets.listen_at(address) {
-            Ok(()) => {}
-            Err(error) if is_memory(&error) => return Err(error),
-            Err(error) => {
-                tell_taken(address, &error, errors)?;
-                return Ok(false);
-            }
+) -> io::Result<Option<HostSockets<'a>>>
+    ensures { IfOk result (λ found. IfSome found (ListensAt ip ports.now)) }
+{
+    match HostSockets::listen(rt, rt.alloc(), ip, ports) {
+        Ok(sockets) => Ok(Some(sockets)),
+        Err(ListenError::Port(address, error)) if !is_memory(&error) => {
+            tell_taken(address, &error, errors)?;
+            Ok(None)
         }
+        Err(ListenError::Host(error) | ListenError::Port(_, error)) => Err(error),
     }
-    Ok(true)
 }
 
 /// Tells that there is no listening at an address, which is named where it is not the usual one.
@@ -87,10 +91,16 @@ pub fn told(outcome: io::Result<()>) -> io::Result<()> {
 }
 
 /// Prints which instance is served on which port.
-fn announce<O: Write>(instances: &Instances, output: &mut O) -> io::Result<()> {
-    for (config, port) in instances.configs.instances().iter().zip(&instances.ports) {
-        let name = &config.name;
-        writeln!(output, "listening {name} {port}")?;
+fn announce<O: Write>(
+    configs: &Configs,
+    sockets: &HostSockets<'_>,
+    output: &mut O,
+) -> io::Result<()> {
+    for (number, config) in configs.instances().iter().enumerate() {
+        if let Some(address) = sockets.address(number as u32) {
+            let (name, port) = (&config.name, address.port());
+            writeln!(output, "listening {name} {port}")?;
+        }
     }
     output.flush()
 }
@@ -102,12 +112,15 @@ fn launcher_of<E: Write>(
     service: &Service<'_>,
     instances: &Instances,
     errors: &mut E,
-) -> io::Result<Option<Option<Launcher>>> {
+) -> io::Result<Option<Option<Launcher>>>
+    ensures { IfOk result (λ found. IfSome found (λ launcher.
+        IfSome launcher (KnowsInstances instances.now.configs))) }
+{
     let Some(program) = service.launcher else {
         return Ok(Some(None));
     };
     match launcher_path(rt, program) {
-        Ok(path) => Ok(Some(Some(Launcher::new(path, names_of(rt, instances)?)))),
+        Ok(path) => Ok(Some(Some(Launcher::new(path, names_of(rt, &instances.configs)?)))),
         Err(error) if is_memory(&error) => Err(error),
         Err(_) => {
             writeln!(errors, "remoted: cannot run {program}")?;
@@ -116,9 +129,13 @@ fn launcher_of<E: Write>(
     }
 }
 
-fn names_of(rt: &HostRuntime, instances: &Instances) -> io::Result<Vec<String>> {
+fn names_of(rt: &HostRuntime, configs: &Configs) -> io::Result<Vec<String>>
+    ensures { IfOk result (λ names. map string_bytes names.items
+        ≡ map (λ config. config.name) configs.now) }
+{
     let mut names = Vec::new(rt.alloc());
-    for config in instances.configs.instances() {
+    let instances = configs.instances();
+    'instances: for config in instances {
         names.push(String::from_str(rt.alloc(), config.name.as_str())?)?;
     }
     Ok(names)
@@ -149,7 +166,9 @@ fn job_runner<'a, E: Write>(
     launcher: Option<Launcher>,
     instances: &Instances,
     errors: &mut E,
-) -> io::Result<JobRunner<HostFolder<'a>, HostPrograms<'a>>> {
+) -> io::Result<JobRunner<HostFolder<'a>, HostPrograms<'a>>>
+    requires launcher { IfSome launcher (KnowsInstances instances.now.configs) }
+{
     let path = String::from_str(rt.alloc(), work.path())?;
     let mut folder = HostFolder::new(rt, work, folders);
     if slots_of(instances) > 0 {
@@ -215,9 +234,9 @@ fn remove_start(rt: &HostRuntime, path: &str) {
     }
 }
 
-/// Serves for so many turns, and then ends what runs. Lines about runs go to standard error, of
-/// which none is waited for; so does the last, which says how many events were cut short, if any
-/// were.
+/// Serves for so many turns, each instance at its port, and then ends what runs. Lines about runs
+/// go to standard error, of which none is waited for; so does the last, which says how many events
+/// were cut short, if any were.
 fn serve_turns(
     rt: &HostRuntime,
     instances: &Instances,
@@ -226,7 +245,9 @@ fn serve_turns(
     folders: &FolderCounts,
     refusals: &SocketCounts,
     service: &Service<'_>,
-) -> Result<(), AllocError> {
+) -> Result<(), AllocError>
+    requires ports { map socket_port (addresses sockets) ≡ instances.now.ports.items }
+{
     let (alloc, configs) = (rt.alloc(), &instances.configs);
     let count = configs.instances().len();
     let mut lines = ErrorLines::new(alloc, StandardError::new(rt), count)?;
@@ -289,25 +310,27 @@ fn serve_instances<'a, O: Write, E: Write>(
     refusals: &'a SocketCounts,
     output: &mut O,
     errors: &mut E,
-) -> io::Result<Exit> {
+) -> io::Result<Exit>
+    requires words { AreWordsOf (map (λ word. word.now) service.now.instances.items)
+        instances.now.ports.items instances.now.configs }
+{
     let Some(launcher) = launcher_of(rt, service, instances, errors)? else {
         return Ok(FAILED);
     };
     if !can_open(instances, errors)? || is_stopped(rt, service, errors)? {
         return Ok(FAILED);
     }
-    let mut sockets = HostSockets::new(rt, rt.alloc())?;
-    sockets.count_in(refusals);
-    if !listen(&mut sockets, address, &instances.ports, errors)? {
+    let Some(mut sockets) = listen(rt, address, &instances.ports, errors)? else {
         return Ok(FAILED);
-    }
+    };
+    sockets.count_in(refusals);
     let Some(work) = place_of(rt, service, instances, errors)? else {
         return Ok(FAILED);
     };
     let start = String::from_str(rt.alloc(), work.path())?;
     let folders = FolderCounts::new(rt.alloc(), instances.ports.len())?;
     let mut runs = job_runner(rt, work, &folders, launcher, instances, errors)?;
-    told(announce(instances, output))?;
+    told(announce(&instances.configs, &sockets, output))?;
     let ended = serve_turns(
         rt, instances, sockets, &mut runs, &folders, refusals, service,
     );

@@ -3,14 +3,14 @@
 use crate::sockets::alone::sent_on;
 use crate::sockets::log::{accepted, has_written, records};
 use crate::sockets::no_runs::serve_alone;
-use host_sockets::HostSockets;
+use host_sockets::{HostSockets, ListenError};
 use mio::net::TcpStream;
 use program_status::{Fault, Output};
 use serve::{LoggedSockets, Socket, SocketRecord, Sockets};
 use server_core::{Outputs, run};
 use server_events::{Configs, Event, What};
 use std::io::{self, Read, Write};
-use std::net::{Ipv4Addr, SocketAddr};
+use std::net::{IpAddr, Ipv4Addr, SocketAddr};
 
 /// How many turns are taken over ports: three seconds or so of rests.
 const TURNS: u64 = 3_000;
@@ -126,12 +126,6 @@ fn is_as_alone(configs: &Configs, peer: &Peer<'_>, output: &mut Output) -> bool 
     }
 }
 
-/// Listens on two ports that the system chooses.
-fn listen(sockets: &mut HostSockets<'_>) -> io::Result<()> {
-    sockets.listen(0)?;
-    sockets.listen(0)
-}
-
 /// A client of an instance, connected.
 fn connected<'a>(
     rt: &HostRuntime,
@@ -204,30 +198,29 @@ fn differing(
 /// were not sent what their instance gives alone.
 fn serve_over<'a>(
     rt: &HostRuntime,
-    mut sockets: HostSockets<'a>,
+    sockets: HostSockets<'a>,
     configs: &Configs,
     texts: &'a [Vec<u8>],
     output: &mut Output,
 ) -> u32 {
-    if let Err(error) = listen(&mut sockets) {
-        output.fail(Fault::of(&error));
-    }
     let peers = peers(rt, &sockets, texts, output);
     let mut both = LoggedSockets::new(output.alloc, WithPeers { sockets, peers });
     serve_alone(configs, &mut both, TURNS, output);
     differing(configs, records(&both), &both.sockets.peers, output)
 }
 
-/// Serves a client for each text over sockets of this host, as `serve_over` says.
+/// Serves a client for each text over sockets of this host, as `serve_over` says, on ports that the
+/// system chooses.
 pub fn serve_peers<'a>(
     rt: &'a HostRuntime,
     configs: &Configs,
     texts: &'a [Vec<u8>],
     output: &mut Output,
 ) -> u32 {
-    match HostSockets::new(rt, rt.alloc()) {
+    let ip = IpAddr::V4(Ipv4Addr::LOCALHOST);
+    match HostSockets::listen(rt, rt.alloc(), ip, &[0, 0]) {
         Ok(sockets) => serve_over(rt, sockets, configs, texts, output),
-        Err(error) => {
+        Err(ListenError::Host(error) | ListenError::Port(_, error)) => {
             output.fail(Fault::of(&error));
             0
         }

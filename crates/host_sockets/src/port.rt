@@ -1,0 +1,170 @@
+//! The port of an instance.
+
+ghost use Rattle.std.specs.Prelude.{◌≡◌, IfOk};
+ghost use Rattle.std.specs.Io.{ReadsAtMost, WritesAtMost};
+
+use crate::counts::SocketCounts;
+use libc::net;
+use mio::net::{TcpListener, TcpStream};
+use serve::is_not_ready;
+use std::alloc::Global;
+use std::cell::Cell;
+use std::collections::HashMap;
+use std::io::{self, ErrorKind, Read, Write};
+use std::net::{Shutdown, SocketAddr};
+use std::os::fd::AsRawFd;
+
+/// After how many seconds in which nothing came on a connection the system asks whether its client
+/// is still there. One that does not answer for some ten minutes more is gone, and the connection
+/// ends with an error: else a client that vanished would keep its place, where it has left a
+/// request half sent.
+const ASKED_AFTER: i32 = 300;
+
+/// How many bytes an option of a socket has that is a number.
+const NUMBER: u32 = 4;
+
+/// A number as an option of a socket.
+fn option_of(number: i32) -> [u8; 16] {
+    let mut option = [0; 16];
+    option[..4].copy_from_slice(&number.to_ne_bytes());
+    option
+}
+
+/// Has the system ask after clients of connections that come in at a port.
+fn ask_after_clients(listener: &TcpListener) -> io::Result<()> {
+    let descriptor = listener.as_raw_fd();
+    let (asks, after) = (option_of(1), option_of(ASKED_AFTER));
+    // The system reads the numbers alone.
+    let asked = unsafe {
+        net::setsockopt(
+            descriptor,
+            net::SOL_SOCKET,
+            net::SO_KEEPALIVE,
+            &asks,
+            NUMBER,
+        )
+    };
+    let timed = unsafe {
+        net::setsockopt(
+            descriptor,
+            net::IPPROTO_TCP,
+            net::TCP_KEEPIDLE,
+            &after,
+            NUMBER,
+        )
+    };
+    if asked < 0 || timed < 0 {
+        return Err(io::Error::from_raw_os_error(os::errno()));
+    }
+    Ok(())
+}
+
+/// The port of an instance, and the connections to its clients.
+#[derive(Drop)]
+pub(crate) struct Port {
+    /// Where it was opened.
+    pub(crate) address: SocketAddr,
+    pub(crate) listener: TcpListener,
+    /// Whether a client may wait at it: one came since the port was found empty.
+    pub(crate) may_wait: Cell<bool>,
+    /// By their numbers.
+    streams: HashMap<u32, TcpStream>,
+}
+
+impl Port {
+    /// Opens a port.
+    pub(crate) fn open(rt: &HostRuntime, alloc: Global, address: SocketAddr) -> io::Result<Port>
+        ensures { IfOk result (λ port. port.address ≡ address) }
+    {
+        let listener = TcpListener::bind(rt, address)?;
+        ask_after_clients(&listener)?;
+        Ok(Port {
+            address,
+            listener,
+            may_wait: Cell::new(true),
+            streams: HashMap::new(alloc),
+        })
+    }
+
+    /// The next client that waits. The system is only asked where one may wait.
+    fn next_client(&self) -> io::Result<TcpStream> {
+        if !self.may_wait.get() {
+            return Err(io::Error::from(ErrorKind::WouldBlock));
+        }
+        match self.listener.accept() {
+            Ok((stream, _)) => Ok(stream),
+            Err(error) => {
+                self.may_wait.set(error.kind() != ErrorKind::WouldBlock);
+                Err(error)
+            }
+        }
+    }
+
+    /// Gives the next client that waits this number.
+    pub(crate) fn accept(
+        &mut self,
+        connection: u32,
+        refusals: Option<&SocketCounts>,
+    ) -> io::Result<()>
+        ensures { self.new.address ≡ self.old.address }
+    {
+        // Where memory is refused for it the client waits at the port, and is not reset.
+        if self.streams.reserve(1).is_err() {
+            return Err(io::Error::from(ErrorKind::OutOfMemory));
+        }
+        let stream = match self.next_client() {
+            Ok(stream) => stream,
+            Err(error) => {
+                count_refusal(refusals, &error);
+                return Err(error);
+            }
+        };
+        // Otherwise the end of a response waits for the client's acknowledgement of what was before
+        // it.
+        stream.set_nodelay(true)?;
+        match self.streams.insert(connection, stream) {
+            Ok(_) => Ok(()),
+            Err(_) => Err(io::Error::from(ErrorKind::OutOfMemory)),
+        }
+    }
+
+    pub(crate) fn read(&mut self, connection: u32, room: &mut [u8]) -> io::Result<usize>
+        ensures bound { ReadsAtMost result room.new }
+        ensures address { self.new.address ≡ self.old.address }
+    {
+        match self.streams.get_mut(&connection) {
+            Some(stream) => stream.read(room),
+            None => Err(io::Error::from(ErrorKind::NotConnected)),
+        }
+    }
+
+    pub(crate) fn write(&mut self, connection: u32, bytes: &[u8]) -> io::Result<usize>
+        ensures bound { WritesAtMost result bytes.now }
+        ensures address { self.new.address ≡ self.old.address }
+    {
+        match self.streams.get_mut(&connection) {
+            Some(stream) => stream.write(bytes),
+            None => Err(io::Error::from(ErrorKind::NotConnected)),
+        }
+    }
+
+    /// Takes out a connection, on which no more is sent.
+    pub(crate) fn close(&mut self, connection: u32) -> io::Result<TcpStream>
+        ensures { self.new.address ≡ self.old.address }
+    {
+        let Some(stream) = self.streams.remove(&connection) else {
+            return Err(io::Error::from(ErrorKind::NotConnected));
+        };
+        stream.shutdown(Shutdown::Write)?;
+        Ok(stream)
+    }
+}
+
+/// Counts that the system does not give a client that waits: one that went meanwhile is none.
+fn count_refusal(refusals: Option<&SocketCounts>, error: &io::Error) {
+    if let Some(refusals) = refusals {
+        if !is_not_ready(error) && error.kind() != ErrorKind::ConnectionAborted {
+            refusals.add(error);
+        }
+    }
+}

@@ -184,7 +184,9 @@ impl<'a> Table<'a> {
     }
 
     fn length(&mut self, run: RunKey) -> io::Result<u64> {
-        self.at(run)?.length()
+        let length = self.at(run)?.length()?;
+        started::check_room(self.rt, self.work.as_str(), run)?;
+        Ok(length)
     }
 
     fn read(&mut self, run: RunKey, stream: Stream, from: u64, most: u32) -> io::Result<Vec<u8>>

@@ -13,7 +13,7 @@ use host_shells::{Progress, Session, Sessions};
 use run_calls::{RunKey, Stream};
 use std::alloc::Global;
 use std::fs::{File, OpenOptions};
-use std::io::{self, ErrorKind};
+use std::io::{self, ErrorKind, Write};
 use std::os::unix::fs::OpenOptionsExt;
 use std::os::unix::process::ExitStatusExt;
 use std::process::{Child, Command, ExitStatus, Stdio};
@@ -24,6 +24,12 @@ use std::time::{Duration, Instant};
 const OUTPUT_ENDING: &str = ".aside/out";
 
 const ERROR_ENDING: &str = ".aside/err";
+
+/// The same of the file that shows whether the disk is full.
+const ROOM_ENDING: &str = ".aside/room";
+
+/// For how many bytes there has to be room on the disk when a program has ended.
+const ROOM: usize = 16_384;
 
 /// How those files can be used.
 const STREAM_MODE: u32 = 0o600;
@@ -88,6 +94,13 @@ fn stream_file(rt: &HostRuntime, work: &str, run: RunKey, ending: &str) -> io::R
         .create_new(true)
         .mode(STREAM_MODE)
         .open(rt, path.as_str())
+}
+
+/// Finds an error where the disk is full that a program wrote to, which has ended. What it wrote
+/// last may be lost then, whatever its code says. The file that this makes is removed with the
+/// others.
+pub(crate) fn check_room(rt: &HostRuntime, work: &str, run: RunKey) -> io::Result<()> {
+    stream_file(rt, work, run, ROOM_ENDING)?.write_all(&[0; ROOM])
 }
 
 /// Makes a program write into these files, and read nothing.

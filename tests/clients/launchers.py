@@ -84,6 +84,7 @@ class Report:
 def as_this_user(report, program):
     sandbox.reach(report, program, "as this user")
     sandbox.ended_alone(report, "as this user")
+    sandbox.own_descriptors(report, "as this user")
 
 
 def as_plain_user(report, program):
@@ -91,6 +92,7 @@ def as_plain_user(report, program):
     sandbox.reach(report, program, who, **plain)
     sandbox.nothing_started(report, program, who, **plain)
     sandbox.ended_alone(report, who, **plain)
+    sandbox.own_descriptors(report, who, **plain)
 
 
 def main():

@@ -18,6 +18,13 @@ SECRET, SOURCE = "server-secret", b"the source of blue\n"
 ODD = ["a b", "", "-n", "*", "$HOME", "a\nb", "A=B", "'", '"']
 TOP = "../" * 24
 
+# What a sandbox in which no program can be started has in place of what.
+UNMADE = {
+    "in which no process can be made": ("--nproc=2000", "--nproc=1"),
+    "on a processor that it does not know": ("on 62 ", "on 61 "),
+    "without its words for setpriv": ("/usr/bin/setpriv --pdeathsig", "/usr/bin/setpriv --no-such-word"),
+}
+
 class Told:
     """What came of an action, with its texts."""
 
@@ -102,6 +109,7 @@ def processes(helpers, server):
         ("calls that are refused", [*python, attacks.CALLS], {}, lambda t: t.stdout == attacks.CALLS_SAY),
         ("the same as a program of 32 bits", [*python, attacks.CALLS_OF_32], {}, lambda t: t.stdout in attacks.SAY_32),
         ("calls that are not", [*python, attacks.OWN_CALLS], {}, lambda t: t.stdout == "as ever\n"),
+        ("what ends first where memory runs out", "cat /proc/self/oom_score_adj", {}, lambda t: t.stdout == "1000\n"),
         ("what is told of keys and locks", "cat /proc/keys /proc/key-users /proc/locks", {}, nothing),
         ("the nodes of /dev", attacks.DEVICES, {}, lambda t: t.stdout == "1\n" and t.code == 0),
         ("rights", "grep -c 'Cap.*:.0000000000000000$' /proc/self/status", {}, lambda t: t.stdout == "5\n"),
@@ -173,21 +181,41 @@ def reach(report, program, who, **more):
 
 
 def nothing_started(report, program, who, **more):
-    """A sandbox in which no process can be started: that is the launcher's fault, and no result of the action."""
+    """A sandbox in which no program can be started: that is the launcher's fault, and no result of the action."""
+    with open(SANDBOX) as file:
+        text = file.read()
+    for what, (old, new) in UNMADE.items():
+        folder = tempfile.mkdtemp(prefix="launchers-")
+        os.chmod(folder, 0o777)
+        launcher, work = shutil.copy(SANDBOX, folder), os.path.join(folder, "work")
+        with open(launcher, "w") as file:
+            file.write(text.replace(old, new))
+        try:
+            with Server(program, [("red", 10**8, 1)], 2**62, None, work, True, launcher, **more) as server:
+                with Peer(server.ports[0], 60 * report.slow) as red:
+                    told = Told(red, marked(folder, "true"))
+                programs.settled(lambda: not server.said(), 2 * report.slow)
+                lines = server.said()[-1:]
+                is_told = told.status == 13 and bool(lines) and lines[0].startswith("remoted: run red 1 failed: launcher")
+                report.expect(old in text and is_told, f"{who}: a sandbox {what}", (str(told), lines))
+        finally:
+            shutil.rmtree(folder, ignore_errors=True)
+
+
+def own_descriptors(report, who, **more):
+    """The launcher by itself: what is open where it is started is not open to the program."""
     folder = tempfile.mkdtemp(prefix="launchers-")
     os.chmod(folder, 0o777)
-    launcher, work = shutil.copy(SANDBOX, folder), os.path.join(folder, "work")
-    with open(SANDBOX) as file:
-        text = file.read().replace("--nproc=2000", "--nproc=1")
-    with open(launcher, "w") as file:
-        file.write(text)
+    launcher, root = shutil.copy(SANDBOX, folder), os.path.join(folder, "1")
+    for name in [root, f"{root}.aside"]:
+        os.mkdir(name)
+        os.chmod(name, 0o777)
+    looking = "for n in 3 4 5 6 7 8 9; do [ ! -e /proc/self/fd/$n/etc ] || echo $n; done"
+    listing = [launcher, "red", root, ".", "/bin/sh", "-c", looking]
+    words = ["/bin/sh", "-c", 'exec 3</ 5</ 9</ && exec "$@"', "sh", *listing]
     try:
-        with Server(program, [("red", 10**8, 1)], 2**62, None, work, True, launcher, **more) as server:
-            with Peer(server.ports[0], 60 * report.slow) as red:
-                told = Told(red, marked(folder, "true"))
-            programs.settled(lambda: not server.said(), 2 * report.slow)
-            is_told = told.status == 13 and server.said()[-1:] == ["remoted: run red 1 failed: launcher"]
-            report.expect(is_told, f"{who}: a sandbox in which no program can be started", (str(told), server.said()))
+        done = subprocess.run(words, env={}, cwd="/", stdin=subprocess.DEVNULL, capture_output=True, text=True, **more)
+        report.expect(done.stdout == "" and done.returncode == 0, f"{who}: descriptors of whoever starts the launcher", done)
     finally:
         shutil.rmtree(folder, ignore_errors=True)
 

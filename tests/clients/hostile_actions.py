@@ -77,6 +77,7 @@ CASES = [
     starts.odd_numbers,
     starts.unusable_folder,
     starts.full_disk,
+    starts.full_at_its_end,
     starts.no_slots,
     starts.children_ignored,
     starts.few_descriptors,

@@ -182,6 +182,24 @@ except OSError:
     return "the next start makes room, and actions run"
 
 
+def full_at_its_end(stage):
+    """An action writes more than the disk of the folder has room for, prints something, and ends with 0."""
+    user, group = stage.owner()
+    how = f"size=1m,mode=755,uid={user},gid={group}"
+    if subprocess.run(["mount", "-t", "tmpfs", "-o", how, "none", stage.work], capture_output=True).returncode:
+        raise Skipped("no disk can be mounted here")
+    try:
+        with stage.serve() as (server, red):
+            for given in [{"files": ["out"]}, {}]:
+                stage.fails(server, red, "start", "head -c 3000000 /dev/zero >out; echo abc; exit 0", **given)
+                stage.waits(lambda: not server.entries(), 20, "the folder is gone")
+            stage.runs(red, "printf abc > out", files=["out"])
+            stage.blue_runs(server)
+    finally:
+        subprocess.run(["umount", "--lazy", stage.work], check=True)
+    return "its run fails, and the next actions run"
+
+
 def no_slots(stage):
     """No instance has slots: the folder is not needed."""
     work = os.path.join(stage.folder, "none")

@@ -1,8 +1,9 @@
 //! The sockets of this host, and its clock.
 #![tactic(auto)]
 
-ghost use Rattle.std.specs.Prelude.{◌≡◌, ◌++◌, [], ◌∷◌, slice_get, IfOk};
+ghost use Rattle.std.specs.Prelude.{◌≡◌, ◌++◌, [], ◌∷◌, None, slice_get, IfOk};
 ghost use Rattle.std.specs.Io.{ReadsAtMost, WritesAtMost};
+ghost use Rattle.serve.specs.SocketEvents.{Adds, accept_events, clock, read_events, shutdown_events, write_events};
 ghost use Rattle.host_sockets.specs.Ports.{ListensAt, OthersStay, addresses};
 
 mod counts;
@@ -11,7 +12,7 @@ mod port;
 use crate::port::Port;
 pub use counts::SocketCounts;
 use mio::net::TcpStream;
-use mio::{Events, Interest, Poll, Token};
+use mio::{Events, Poll, Token};
 use serve::{Socket, Sockets, is_not_ready};
 use std::alloc::Global;
 use std::io::{self, ErrorKind, Read};
@@ -134,20 +135,19 @@ impl<'a> HostSockets<'a> {
     {
         let mut port = Port::open(self.rt, self.rt.alloc(), address)?;
         let token = Token(self.ports.len());
-        let registry = self.poll.registry();
-        registry.register(&mut port.listener, token, Interest::READABLE)?;
+        port.register(self.poll.registry(), token)?;
         self.ports.push(port)?;
         Ok(())
     }
 
     /// From now on what the system refuses is counted there.
     pub fn count_in(&mut self, counts: &'a SocketCounts)
-        ensures { addresses self.new ≡ addresses self.old }
+        ensures { self.new.ports ≡ self.old.ports }
     {
         self.counts = Some(counts);
     }
 
-    /// Where it is listened for the instance of this number.
+    /// The address that was asked for the instance of this number.
     pub fn address(&self, instance: u32) -> Option<SocketAddr>
         ensures { result ≡ slice_get (addresses self.now) instance }
     {
@@ -158,13 +158,14 @@ impl<'a> HostSockets<'a> {
     /// The port on which the instance of this number is served, which the system may have chosen.
     pub fn port(&self, instance: u32) -> io::Result<u16> {
         match self.ports.get(instance as usize) {
-            Some(port) => Ok(port.listener.local_addr()?.port()),
+            Some(port) => port.number(),
             None => Err(io::Error::from(ErrorKind::NotFound)),
         }
     }
 
     fn accept_now(&mut self, socket: Socket) -> io::Result<()>
-        ensures { OthersStay socket.instance self.old self.new }
+        ensures others { OthersStay socket.instance self.old self.new }
+        ensures lingering { self.new.lingering ≡ self.old.lingering }
     {
         match self.ports.get_mut(socket.instance as usize) {
             Some(port) => port.accept(socket.connection, self.counts),
@@ -175,6 +176,7 @@ impl<'a> HostSockets<'a> {
     fn read_now(&mut self, socket: Socket, room: &mut [u8]) -> io::Result<usize>
         ensures bound { ReadsAtMost result room.new }
         ensures others { OthersStay socket.instance self.old self.new }
+        ensures lingering { self.new.lingering ≡ self.old.lingering }
     {
         match self.ports.get_mut(socket.instance as usize) {
             Some(port) => port.read(socket.connection, room),
@@ -185,6 +187,7 @@ impl<'a> HostSockets<'a> {
     fn write_now(&mut self, socket: Socket, bytes: &[u8]) -> io::Result<usize>
         ensures bound { WritesAtMost result bytes.now }
         ensures others { OthersStay socket.instance self.old self.new }
+        ensures lingering { self.new.lingering ≡ self.old.lingering }
     {
         match self.ports.get_mut(socket.instance as usize) {
             Some(port) => port.write(socket.connection, bytes),
@@ -210,7 +213,8 @@ impl<'a> HostSockets<'a> {
 
     /// Counts a fault.
     fn count<T: Drop>(&mut self, outcome: &io::Result<T>)
-        ensures { self.new.ports ≡ self.old.ports }
+        ensures ports { self.new.ports ≡ self.old.ports }
+        ensures lingering { self.new.lingering ≡ self.old.lingering }
     {
         if let Err(error) = outcome {
             if !is_not_ready(error) {
@@ -238,12 +242,12 @@ impl<'a> HostSockets<'a> {
         self.count(&polled);
         if polled.is_err() {
             for port in &self.ports {
-                port.may_wait.set(true);
+                port.may_have_come();
             }
         }
         for event in self.found.iter() {
             if let Some(port) = self.ports.get(event.token().0) {
-                port.may_wait.set(true);
+                port.may_have_come();
             }
         }
     }
@@ -269,6 +273,7 @@ impl<'a> Sockets for HostSockets<'a> {
     /// It also looks at which ports clients wait, once for all of them.
     fn now(&mut self) -> u64
         ensures ports { self.new.ports ≡ self.old.ports }
+        ensures adds { Adds None None (clock result ∷ []) }
     {
         self.moment = self.moment.max(self.passed());
         self.drop_rest();
@@ -282,6 +287,8 @@ impl<'a> Sockets for HostSockets<'a> {
 
     fn accept(&mut self, socket: Socket) -> io::Result<()>
         ensures others { OthersStay socket.instance self.old self.new }
+        ensures lingering { self.new.lingering ≡ self.old.lingering }
+        ensures adds { Adds None None (accept_events socket result) }
     {
         let outcome = self.accept_now(socket);
         self.count(&outcome);
@@ -291,6 +298,8 @@ impl<'a> Sockets for HostSockets<'a> {
     fn read(&mut self, socket: Socket, room: &mut [u8]) -> io::Result<usize>
         ensures bound { ReadsAtMost result room.new }
         ensures others { OthersStay socket.instance self.old self.new }
+        ensures lingering { self.new.lingering ≡ self.old.lingering }
+        ensures adds { Adds None None (read_events socket result room.new) }
     {
         let outcome = self.read_now(socket, room);
         self.count(&outcome);
@@ -300,6 +309,8 @@ impl<'a> Sockets for HostSockets<'a> {
     fn write(&mut self, socket: Socket, bytes: &[u8]) -> io::Result<usize>
         ensures bound { WritesAtMost result bytes.now }
         ensures others { OthersStay socket.instance self.old self.new }
+        ensures lingering { self.new.lingering ≡ self.old.lingering }
+        ensures adds { Adds None None (write_events socket result bytes.now) }
     {
         let outcome = self.write_now(socket, bytes);
         self.count(&outcome);
@@ -308,6 +319,7 @@ impl<'a> Sockets for HostSockets<'a> {
 
     fn close(&mut self, socket: Socket) -> io::Result<()>
         ensures others { OthersStay socket.instance self.old self.new }
+        ensures adds { Adds None None (shutdown_events socket) }
     {
         let outcome = self.close_now(socket);
         self.count(&outcome);
@@ -320,6 +332,7 @@ impl<'a> Sockets for HostSockets<'a> {
 
     fn rest(&mut self, idle_turns: u64)
         ensures ports { self.new.ports ≡ self.old.ports }
+        ensures adds { Adds None None [] }
     {
         if idle_turns < 100 {
             thread::yield_now();

@@ -6,6 +6,7 @@ ghost use Rattle.std.specs.Io.{ReadsAtMost, WritesAtMost};
 use crate::counts::SocketCounts;
 use libc::net;
 use mio::net::{TcpListener, TcpStream};
+use mio::{Interest, Registry, Token};
 use serve::is_not_ready;
 use std::alloc::Global;
 use std::cell::Cell;
@@ -64,9 +65,9 @@ fn ask_after_clients(listener: &TcpListener) -> io::Result<()> {
 pub(crate) struct Port {
     /// Where it was opened.
     pub(crate) address: SocketAddr,
-    pub(crate) listener: TcpListener,
+    listener: TcpListener,
     /// Whether a client may wait at it: one came since the port was found empty.
-    pub(crate) may_wait: Cell<bool>,
+    may_wait: Cell<bool>,
     /// By their numbers.
     streams: HashMap<u32, TcpStream>,
 }
@@ -86,6 +87,23 @@ impl Port {
         })
     }
 
+    /// Has the system tell by this token when a client comes.
+    pub(crate) fn register(&mut self, registry: &Registry, token: Token) -> io::Result<()>
+        ensures { self.new.address ≡ self.old.address }
+    {
+        registry.register(&mut self.listener, token, Interest::READABLE)
+    }
+
+    /// The number of the port, which the system may have chosen.
+    pub(crate) fn number(&self) -> io::Result<u16> {
+        Ok(self.listener.local_addr()?.port())
+    }
+
+    /// A client may wait from now on.
+    pub(crate) fn may_have_come(&self) {
+        self.may_wait.set(true);
+    }
+
     /// The next client that waits. The system is only asked where one may wait.
     fn next_client(&self) -> io::Result<TcpStream> {
         if !self.may_wait.get() {
@@ -100,7 +118,8 @@ impl Port {
         }
     }
 
-    /// Gives the next client that waits this number.
+    /// Gives the next client that waits this number. `WouldBlock` says that none waits. Any other
+    /// error is the system's, or want of memory.
     pub(crate) fn accept(
         &mut self,
         connection: u32,
@@ -128,6 +147,7 @@ impl Port {
         }
     }
 
+    /// Takes bytes that came on a connection, and says how many. `WouldBlock` says that none did.
     pub(crate) fn read(&mut self, connection: u32, room: &mut [u8]) -> io::Result<usize>
         ensures bound { ReadsAtMost result room.new }
         ensures address { self.new.address ≡ self.old.address }
@@ -138,6 +158,8 @@ impl Port {
         }
     }
 
+    /// Sends the first of these bytes on a connection, and says how many. `WouldBlock` says that
+    /// none can be sent now.
     pub(crate) fn write(&mut self, connection: u32, bytes: &[u8]) -> io::Result<usize>
         ensures bound { WritesAtMost result bytes.now }
         ensures address { self.new.address ≡ self.old.address }

@@ -1,6 +1,6 @@
 //! `remoted serve`.
 
-ghost use Rattle.std.specs.Prelude.{◌≡◌, map, IfOk, IfSome, string_bytes};
+ghost use Rattle.std.specs.Prelude.{◌≡◌, map, is_some, IfOk, IfSome, string_bytes};
 ghost use Rattle.std.specs.Net.Socket.{socket_port};
 ghost use Rattle.instance_words.specs.Words.{AreWordsOf};
 ghost use Rattle.host_sockets.specs.Ports.{ListensAt, addresses};
@@ -113,7 +113,9 @@ fn launcher_of<E: Write>(
     instances: &Instances,
     errors: &mut E,
 ) -> io::Result<Option<Option<Launcher>>>
-    ensures { IfOk result (λ found. IfSome found (λ launcher.
+    ensures asked { IfOk result (λ found. IfSome found (λ launcher.
+        is_some launcher ≡ is_some service.now.launcher)) }
+    ensures knows { IfOk result (λ found. IfSome found (λ launcher.
         IfSome launcher (KnowsInstances instances.now.configs))) }
 {
     let Some(program) = service.launcher else {

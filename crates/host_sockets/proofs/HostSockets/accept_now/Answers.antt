@@ -2,5 +2,5 @@ use Rattle.std.proofs.Common.{refl}
 use Rattle.host_sockets.proofs.Ports.{one_changes}
 use Rattle.host_sockets.proofs.HostSockets.accept_now.Goals as goal
 
-pub returns-in-Some : goal.returns-in-Some
-returns-in-Some c = one_changes c.args.socket.instance c.in-Some.port.now c.accept.new.self refl c.in-Some.ensures.value c.accept.ensures
+pub returns-in-Some-clause-others : goal.returns-in-Some-clause-others
+returns-in-Some-clause-others c = one_changes c.args.socket.instance c.in-Some.port.now c.accept.new.self refl c.in-Some.ensures.value c.accept.ensures

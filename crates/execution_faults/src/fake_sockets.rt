@@ -99,8 +99,8 @@ impl<'a> Sockets for FakeSockets<'a> {
     }
 
     /// The clock is read in each turn.
-    fn is_later(&self, _moment: u64) -> bool {
-        true
+    fn passed(&self) -> u64 {
+        self.turns.saturating_add(1)
     }
 
     fn accept(&mut self, socket: Socket) -> io::Result<()> {

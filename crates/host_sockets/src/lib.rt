@@ -1,33 +1,26 @@
 //! The sockets of this host, and its clock.
 #![tactic(auto)]
 
-ghost use Rattle.std.specs.Prelude.{◌≡◌, ◌++◌, [], ◌∷◌, None, slice_get, IfOk};
+ghost use Rattle.std.specs.Prelude.{◌≡◌, ◌++◌, [], ◌∷◌, None, Some, slice_get, IfOk, OnOk};
 ghost use Rattle.std.specs.Io.{ReadsAtMost, WritesAtMost};
 ghost use Rattle.serve.specs.SocketEvents.{Adds, accept_events, clock, read_events, shutdown_events, write_events};
-ghost use Rattle.host_sockets.specs.Ports.{ListensAt, OthersStay, addresses};
+ghost use Rattle.host_sockets.specs.Ports.{IsGone, IsOpen, ListensAt, OpenStay, OthersStay, addresses, closed};
 
 mod counts;
+mod lingering;
 mod port;
 
 use crate::port::Port;
 pub use counts::SocketCounts;
-use mio::net::TcpStream;
+pub use lingering::LINGERING_LIMIT;
 use mio::{Events, Poll, Token};
 use serve::{Socket, Sockets, is_not_ready};
 use std::alloc::Global;
-use std::io::{self, ErrorKind, Read};
+use std::io::{self, ErrorKind};
 use std::net::{IpAddr, SocketAddr};
 use std::thread;
 use std::time::{Duration, Instant};
 use thiserror::Error;
-
-/// For how many milliseconds a closed connection is kept at most, for what its client still sends.
-/// If it went at once while such bytes are unread, the system would reset it, and the client might
-/// lose what it was sent last.
-const LINGER: u64 = 2_000;
-
-/// How many closed connections are kept so at a time. Any further one goes at once.
-pub const LINGERING_LIMIT: usize = 256;
 
 /// The most bytes that are dropped of a closed connection at a time.
 const DROP_LIMIT: usize = 16_384;
@@ -47,24 +40,6 @@ pub enum ListenError {
     Host(#[from] io::Error),
 }
 
-/// A closed connection, and when it was closed.
-#[derive(Drop)]
-struct Lingering {
-    stream: TcpStream,
-    since: u64,
-}
-
-impl Lingering {
-    /// Drops what came, and says whether the client may still send more.
-    fn drop_more(&mut self, room: &mut [u8]) -> bool {
-        match self.stream.read(room) {
-            Ok(0) => false,
-            Ok(_) => true,
-            Err(error) => is_not_ready(&error),
-        }
-    }
-}
-
 /// Ports, connections and a clock of this host.
 ///
 /// A connection that is closed sends no more at once. What its client still sends is read and
@@ -78,7 +53,6 @@ pub struct HostSockets<'a> {
     poll: Poll,
     /// Those that it found.
     found: Events,
-    lingering: Vec<Lingering>,
     /// Where dropped bytes are read to.
     room: Vec<u8>,
     start: Instant,
@@ -120,7 +94,6 @@ impl<'a> HostSockets<'a> {
             ports: Vec::new(alloc),
             poll: Poll::new(rt)?,
             found: Events::with_capacity(alloc, WAITING_LIMIT)?,
-            lingering: Vec::with_capacity(alloc, LINGERING_LIMIT)?,
             room: vec![in alloc; 0; DROP_LIMIT]?,
             start: Instant::now(rt)?,
             moment: 0,
@@ -142,12 +115,14 @@ impl<'a> HostSockets<'a> {
 
     /// From now on what the system refuses is counted there.
     pub fn count_in(&mut self, counts: &'a SocketCounts)
-        ensures { self.new.ports ≡ self.old.ports }
+        ensures counts { self.new.counts ≡ Some counts.entry }
+        ensures ports { self.new.ports ≡ self.old.ports }
     {
         self.counts = Some(counts);
     }
 
-    /// The address that was asked for the instance of this number.
+    /// The address that was asked for the instance of this number. Where that has port 0, `port`
+    /// gives the one that the system chose.
     pub fn address(&self, instance: u32) -> Option<SocketAddr>
         ensures { result ≡ slice_get (addresses self.now) instance }
     {
@@ -164,8 +139,9 @@ impl<'a> HostSockets<'a> {
     }
 
     fn accept_now(&mut self, socket: Socket) -> io::Result<()>
+        ensures open { OnOk result (IsOpen socket self.new) }
         ensures others { OthersStay socket.instance self.old self.new }
-        ensures lingering { self.new.lingering ≡ self.old.lingering }
+        ensures lingering { closed self.new ≡ closed self.old }
     {
         match self.ports.get_mut(socket.instance as usize) {
             Some(port) => port.accept(socket.connection, self.counts),
@@ -175,8 +151,9 @@ impl<'a> HostSockets<'a> {
 
     fn read_now(&mut self, socket: Socket, room: &mut [u8]) -> io::Result<usize>
         ensures bound { ReadsAtMost result room.new }
+        ensures open { OnOk result (IsOpen socket self.old) }
         ensures others { OthersStay socket.instance self.old self.new }
-        ensures lingering { self.new.lingering ≡ self.old.lingering }
+        ensures lingering { closed self.new ≡ closed self.old }
     {
         match self.ports.get_mut(socket.instance as usize) {
             Some(port) => port.read(socket.connection, room),
@@ -186,8 +163,9 @@ impl<'a> HostSockets<'a> {
 
     fn write_now(&mut self, socket: Socket, bytes: &[u8]) -> io::Result<usize>
         ensures bound { WritesAtMost result bytes.now }
+        ensures open { OnOk result (IsOpen socket self.old) }
         ensures others { OthersStay socket.instance self.old self.new }
-        ensures lingering { self.new.lingering ≡ self.old.lingering }
+        ensures lingering { closed self.new ≡ closed self.old }
     {
         match self.ports.get_mut(socket.instance as usize) {
             Some(port) => port.write(socket.connection, bytes),
@@ -197,40 +175,25 @@ impl<'a> HostSockets<'a> {
 
     /// Sends no more on a connection, and keeps it for what its client still sends.
     fn close_now(&mut self, socket: Socket) -> io::Result<()>
-        ensures { OthersStay socket.instance self.old self.new }
+        ensures gone { IsGone socket self.new }
+        ensures others { OthersStay socket.instance self.old self.new }
     {
-        let Some(port) = self.ports.get_mut(socket.instance as usize) else {
-            return Err(io::Error::from(ErrorKind::NotConnected));
-        };
-        let stream = port.close(socket.connection)?;
-        if self.lingering.len() < LINGERING_LIMIT {
-            let since = self.moment;
-            let kept: Result<(), _> = self.lingering.push(Lingering { stream, since });
-            drop(kept);
+        // Much time may have gone by in this turn.
+        let now = self.passed();
+        match self.ports.get_mut(socket.instance as usize) {
+            Some(port) => port.close(socket.connection, now),
+            None => Err(io::Error::from(ErrorKind::NotConnected)),
         }
-        Ok(())
     }
 
     /// Counts a fault.
     fn count<T: Drop>(&mut self, outcome: &io::Result<T>)
-        ensures ports { self.new.ports ≡ self.old.ports }
-        ensures lingering { self.new.lingering ≡ self.old.lingering }
+        ensures { self.new.ports ≡ self.old.ports }
     {
         if let Err(error) = outcome {
             if !is_not_ready(error) {
                 self.faults = self.faults.saturating_add(1);
             }
-        }
-    }
-
-    /// The milliseconds since the start, or 0 where the clock cannot be read.
-    fn passed(&self) -> u64 {
-        match self.start.elapsed(self.rt) {
-            Ok(passed) => {
-                let seconds = passed.as_secs().saturating_mul(1000);
-                seconds.saturating_add(passed.subsec_millis() as u64)
-            }
-            Err(_) => 0,
         }
     }
 
@@ -251,43 +214,35 @@ impl<'a> HostSockets<'a> {
             }
         }
     }
-
-    /// Drops what closed connections bring, and lets go of those that are over.
-    fn drop_rest(&mut self)
-        ensures { self.new.ports ≡ self.old.ports }
-    {
-        let mut at = 0;
-        while at < self.lingering.len() {
-            let lingering = &mut self.lingering[at];
-            let is_late = self.moment.saturating_sub(lingering.since) >= LINGER;
-            if lingering.drop_more(&mut self.room) && !is_late {
-                at += 1;
-            } else {
-                self.lingering.swap_remove(at);
-            }
-        }
-    }
 }
 
 impl<'a> Sockets for HostSockets<'a> {
     /// It also looks at which ports clients wait, once for all of them.
     fn now(&mut self) -> u64
-        ensures ports { self.new.ports ≡ self.old.ports }
+        ensures open { OpenStay self.old.ports.items self.new.ports.items }
         ensures adds { Adds None None (clock result ∷ []) }
     {
         self.moment = self.moment.max(self.passed());
-        self.drop_rest();
+        port::drop_rest(&mut self.ports, self.moment, &mut self.room);
         self.find_waiting();
         self.moment
     }
 
-    fn is_later(&self, moment: u64) -> bool {
-        self.passed() > moment
+    /// It is 0 where the clock cannot be read.
+    fn passed(&self) -> u64 {
+        match self.start.elapsed(self.rt) {
+            Ok(passed) => {
+                let seconds = passed.as_secs().saturating_mul(1000);
+                seconds.saturating_add(passed.subsec_millis() as u64)
+            }
+            Err(_) => 0,
+        }
     }
 
     fn accept(&mut self, socket: Socket) -> io::Result<()>
+        ensures open { OnOk result (IsOpen socket self.new) }
         ensures others { OthersStay socket.instance self.old self.new }
-        ensures lingering { self.new.lingering ≡ self.old.lingering }
+        ensures lingering { closed self.new ≡ closed self.old }
         ensures adds { Adds None None (accept_events socket result) }
     {
         let outcome = self.accept_now(socket);
@@ -297,8 +252,9 @@ impl<'a> Sockets for HostSockets<'a> {
 
     fn read(&mut self, socket: Socket, room: &mut [u8]) -> io::Result<usize>
         ensures bound { ReadsAtMost result room.new }
+        ensures open { OnOk result (IsOpen socket self.old) }
         ensures others { OthersStay socket.instance self.old self.new }
-        ensures lingering { self.new.lingering ≡ self.old.lingering }
+        ensures lingering { closed self.new ≡ closed self.old }
         ensures adds { Adds None None (read_events socket result room.new) }
     {
         let outcome = self.read_now(socket, room);
@@ -308,8 +264,9 @@ impl<'a> Sockets for HostSockets<'a> {
 
     fn write(&mut self, socket: Socket, bytes: &[u8]) -> io::Result<usize>
         ensures bound { WritesAtMost result bytes.now }
+        ensures open { OnOk result (IsOpen socket self.old) }
         ensures others { OthersStay socket.instance self.old self.new }
-        ensures lingering { self.new.lingering ≡ self.old.lingering }
+        ensures lingering { closed self.new ≡ closed self.old }
         ensures adds { Adds None None (write_events socket result bytes.now) }
     {
         let outcome = self.write_now(socket, bytes);
@@ -318,6 +275,7 @@ impl<'a> Sockets for HostSockets<'a> {
     }
 
     fn close(&mut self, socket: Socket) -> io::Result<()>
+        ensures gone { IsGone socket self.new }
         ensures others { OthersStay socket.instance self.old self.new }
         ensures adds { Adds None None (shutdown_events socket) }
     {

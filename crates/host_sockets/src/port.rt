@@ -1,9 +1,11 @@
 //! The port of an instance.
 
-ghost use Rattle.std.specs.Prelude.{◌≡◌, IfOk};
+ghost use Rattle.std.specs.Prelude.{◌≡◌, IfOk, OnOk, true, false};
 ghost use Rattle.std.specs.Io.{ReadsAtMost, WritesAtMost};
+ghost use Rattle.host_sockets.specs.Ports.{OnlyClosedGo, OpenStay, has_open};
 
 use crate::counts::SocketCounts;
+use crate::lingering::{LINGERING_LIMIT, Lingering};
 use libc::net;
 use mio::net::{TcpListener, TcpStream};
 use mio::{Interest, Registry, Token};
@@ -20,6 +22,10 @@ use std::os::fd::AsRawFd;
 /// ends with an error: else a client that vanished would keep its place, where it has left a
 /// request half sent.
 const ASKED_AFTER: i32 = 300;
+
+/// For how many milliseconds the system goes on sending what a closed connection's client does not
+/// take. It would keep that in its own memory for minutes else, of which all instances have one.
+const SENT_FOR: i32 = 10_000;
 
 /// How many bytes an option of a socket has that is a number.
 const NUMBER: u32 = 4;
@@ -60,6 +66,22 @@ fn ask_after_clients(listener: &TcpListener) -> io::Result<()> {
     Ok(())
 }
 
+/// Has the system give up what a closed connection's client does not take for long. Where it does
+/// not do so, it gives up later.
+fn give_up_later(stream: &TcpStream) {
+    let descriptor = stream.as_raw_fd();
+    // The system reads the number alone.
+    unsafe {
+        net::setsockopt(
+            descriptor,
+            net::IPPROTO_TCP,
+            net::TCP_USER_TIMEOUT,
+            &option_of(SENT_FOR),
+            NUMBER,
+        )
+    };
+}
+
 /// The port of an instance, and the connections to its clients.
 #[derive(Drop)]
 pub(crate) struct Port {
@@ -70,6 +92,8 @@ pub(crate) struct Port {
     may_wait: Cell<bool>,
     /// By their numbers.
     streams: HashMap<u32, TcpStream>,
+    /// Those that were closed.
+    lingering: Vec<Lingering>,
 }
 
 impl Port {
@@ -84,6 +108,7 @@ impl Port {
             listener,
             may_wait: Cell::new(true),
             streams: HashMap::new(alloc),
+            lingering: Vec::with_capacity(alloc, LINGERING_LIMIT)?,
         })
     }
 
@@ -125,7 +150,9 @@ impl Port {
         connection: u32,
         refusals: Option<&SocketCounts>,
     ) -> io::Result<()>
-        ensures { self.new.address ≡ self.old.address }
+        ensures open { OnOk result (has_open connection self.new ≡ true) }
+        ensures address { self.new.address ≡ self.old.address }
+        ensures lingering { self.new.lingering ≡ self.old.lingering }
     {
         // Where memory is refused for it the client waits at the port, and is not reset.
         if self.streams.reserve(1).is_err() {
@@ -150,7 +177,9 @@ impl Port {
     /// Takes bytes that came on a connection, and says how many. `WouldBlock` says that none did.
     pub(crate) fn read(&mut self, connection: u32, room: &mut [u8]) -> io::Result<usize>
         ensures bound { ReadsAtMost result room.new }
+        ensures open { OnOk result (has_open connection self.old ≡ true) }
         ensures address { self.new.address ≡ self.old.address }
+        ensures lingering { self.new.lingering ≡ self.old.lingering }
     {
         match self.streams.get_mut(&connection) {
             Some(stream) => stream.read(room),
@@ -162,7 +191,9 @@ impl Port {
     /// none can be sent now.
     pub(crate) fn write(&mut self, connection: u32, bytes: &[u8]) -> io::Result<usize>
         ensures bound { WritesAtMost result bytes.now }
+        ensures open { OnOk result (has_open connection self.old ≡ true) }
         ensures address { self.new.address ≡ self.old.address }
+        ensures lingering { self.new.lingering ≡ self.old.lingering }
     {
         match self.streams.get_mut(&connection) {
             Some(stream) => stream.write(bytes),
@@ -170,15 +201,40 @@ impl Port {
         }
     }
 
-    /// Takes out a connection, on which no more is sent.
-    pub(crate) fn close(&mut self, connection: u32) -> io::Result<TcpStream>
-        ensures { self.new.address ≡ self.old.address }
+    /// Sends no more on a connection, and keeps it from this moment on for what its client still
+    /// sends.
+    pub(crate) fn close(&mut self, connection: u32, now: u64) -> io::Result<()>
+        ensures gone { has_open connection self.new ≡ false }
+        ensures address { self.new.address ≡ self.old.address }
     {
         let Some(stream) = self.streams.remove(&connection) else {
             return Err(io::Error::from(ErrorKind::NotConnected));
         };
+        give_up_later(&stream);
         stream.shutdown(Shutdown::Write)?;
-        Ok(stream)
+        if self.lingering.len() < LINGERING_LIMIT {
+            let kept: Result<(), _> = self.lingering.push(Lingering::new(stream, now));
+            drop(kept);
+        }
+        Ok(())
+    }
+
+    /// Drops what closed connections bring, and lets go of those that are over at this moment.
+    pub(crate) fn drop_rest(&mut self, now: u64, room: &mut [u8])
+        ensures { OnlyClosedGo self.old self.new }
+    {
+        self.lingering
+            .retain_mut(|closed| closed.drop_more(now, room));
+    }
+}
+
+/// Drops what closed connections of these ports bring, and lets go of those that are over at this
+/// moment.
+pub(crate) fn drop_rest(ports: &mut [Port], now: u64, room: &mut [u8])
+    ensures { OpenStay ports.old ports.new }
+{
+    for port in ports.iter_mut() {
+        port.drop_rest(now, room);
     }
 }
 

@@ -17,8 +17,7 @@ const FILES_OF_RUN: u64 = 2;
 /// How many are open for an instance that runs actions: the pipes of what removes their folders.
 const FILES_OF_REMOVAL: u64 = 2;
 
-/// How many more a server has open beside these and closed connections that linger, at most and at
-/// least.
+/// How many more a server has open beside these and connections, at most and at least.
 const OTHER_FILES: u64 = 64;
 
 const FEWEST_OTHER_FILES: u64 = 32;
@@ -63,9 +62,8 @@ pub fn can_open<E: Write>(instances: &Instances, errors: &mut E) -> io::Result<b
     let most = most_open()?;
     let count = instances.ports.len() as u64;
     let needed = count
-        .saturating_mul(MOST_CONNECTIONS + 1)
+        .saturating_mul(1 + MOST_CONNECTIONS + LINGERING_LIMIT as u64)
         .saturating_add(most_of_runs(instances))
-        .saturating_add(LINGERING_LIMIT as u64)
         .saturating_add(OTHER_FILES);
     let fewest = count.saturating_mul(2).saturating_add(FEWEST_OTHER_FILES);
     if most < needed {

@@ -1,14 +1,13 @@
 -- A run of an instance and its parent by themselves, beside what the two came to.
 use Rattle.std.proofs.Common.{◌≡◌, ◌≢◌, ℕ, ◌+◌, List, [], ◌∷◌, ◌++◌, map, length, refl, ap, ◌∙◌, sym, subst, arith, inl, inr, append-nil, append_assoc}
-use Rattle.std.specs.Prelude.{◌⊎◌, ◌==◌, Bool, true, false, cond, fold, Option, Some, None, IfSome, IsSomeAnd}
+use Rattle.std.specs.Prelude.{◌==◌, Bool, true, false, cond, fold, Option, Some, None, IfSome, IsSomeAnd}
 use Rattle.std.specs.Option.{option_map, option_map_or, option_and_then}
-use Rattle.std.specs.List.{AllByRecursion, flat_map, slice_get}
+use Rattle.std.specs.List.{AllByRecursion, slice_get}
 use Rattle.std.specs.Io.{StartsWith}
-use Rattle.std.proofs.lemmas.Bool.{cases_eq, eq-eqb, ne_eqb, true≢false}
+use Rattle.std.proofs.lemmas.Bool.{cases_eq, eq-eqb, ne_eqb}
 use Rattle.std.proofs.lemmas.List.{map-append}
 use Rattle.std.proofs.lemmas.Grind.{flat_map-append}
-use Rattle.std.proofs.lemmas.Option.{none-some, same_Some, slice_get-map}
-use Rattle.execution.specs.Job.{TaskValue}
+use Rattle.std.proofs.lemmas.Option.{none-some, slice_get-map}
 use Rattle.execution.specs.Orders.{OrderValue}
 use Rattle.instance_core.specs.Visible.{Blob}
 use Rattle.run_outcomes.specs.Outcomes.{OutcomeValue}
@@ -20,19 +19,18 @@ use Rattle.served_instance.specs.declared.refusal.EventRefusal.TheVariants.{NoMe
 use Rattle.served_instance.specs.Bytes.{pending_bytes}
 use Rattle.served_instance.specs.Past.{Past}
 use Rattle.served_instance.specs.Connections.{LoneConnection, open_at, with_closed, all_closed}
-use Rattle.served_instance.specs.Lone.{LoneInstance, lone_at_moment, after_event, sent_bytes_on}
-use Rattle.served_instance.specs.Refusals.{refusal_of, lone_orders, lone_step, after_event_unless}
-use Rattle.served_instance.specs.Short.{Short, IsCutEffect}
+use Rattle.served_instance.specs.Lone.{LoneInstance, after_event}
+use Rattle.served_instance.specs.Refusals.{refusal_of, lone_orders, after_event_unless}
 use Rattle.served_instance.proofs.Growth.{connections_after, accepted_more}
 use Rattle.server_core.specs.Families.{Family, FamilyEvent, own_event as of_own, parent_event as of_parent, family_in, family_event, family_events}
 use Rattle.server_core.specs.LoneOutput.{config_at, lone_output}
-use Rattle.server_core.specs.Marked.{MarkedEvent, event_of, IsShortStep, IsRunStep, IsParentStep, IsFamilyStep, IsRun, MarkedRun}
+use Rattle.server_core.specs.Marked.{MarkedEvent, event_of, IsRunStep, IsParentStep, IsFamilyStep, IsRun}
 use Rattle.server_core.specs.Runs.{Run, FamilyRun, new_run, orders_at, run_step, new_family_run, texts_of_parent, family_step, run_of_family, output_of_run}
-use Rattle.serve.specs.SocketEvents.{SocketEvent, PortEvent, clock, port, accepted, read, written, shut, what_of}
-use Rattle.serve.specs.RunEvents.{RunEvent, ordered, lent, gave}
+use Rattle.serve.specs.SocketEvents.{PortEvent, clock, port, accepted, read, written, shut, what_of}
+use Rattle.serve.specs.RunEvents.{ordered, lent, gave}
 use Rattle.serve.specs.Happenings.{Happening, MarkedHappening, at_sockets, told, at_runs, cut_on, cuts, moment_on, own_event, event_for}
-use Rattle.serve.specs.Served.{AtWork, FamilyAtWork, with_orders, MayStep, MayTake, IsFaithful, Comes, IsCarriedOut, MayHappen, MayHappenTo, ParentMayHappen, MayServe, Serves, IsServed, texts_of, at_rest, begun}
-use Rattle.serve.specs.Did.{event_then, events_from, with_mark, marked_from, with_written, written_on, written_by, orders_on, carried_by, AreFronts, Did}
+use Rattle.serve.specs.Served.{AtWork, FamilyAtWork, with_orders, MayStep, MayTake, IsFaithful, Comes, MayHappen, MayHappenTo, ParentMayHappen, MayServe, Serves, IsServed, texts_of, at_rest, begun}
+use Rattle.serve.specs.Did.{event_then, events_from, with_mark, marked_from, with_written, written_on, written_by, orders_on, carried_by, Did}
 use Rattle.serve.proofs.Happenings.{IsNot, both}
 use Rattle.serve.proofs.Written.{Fits, fits_grown, fits_closed, fits_all_closed, fits_refused, fits_opened, fits_taken, fits_fronts}
 

@@ -1,6 +1,6 @@
 -- What happens that is an event of no instance: the clock is read, or a task is lent.
 use Rattle.std.proofs.Common.{◌≡◌, ℕ, ◌<◌, ◌≤◌, List, [], ◌∷◌, ◌++◌, length, refl, ap, ◌∙◌, sym, subst, arith, inl, inr, append-nil, append_assoc}
-use Rattle.std.specs.Prelude.{Bool, true, false, Option, Some, None}
+use Rattle.std.specs.Prelude.{false, Option, Some, None}
 use Rattle.std.specs.List.{AllByRecursion}
 use Rattle.std.specs.Option.{option_map}
 use Rattle.execution.specs.Job.{TaskValue}
@@ -13,7 +13,7 @@ use Rattle.server_events.specs.Events.{EventValue, ended}
 use Rattle.served_instance.specs.Lone.{LoneInstance}
 use Rattle.served_instance.specs.StandsFor.{ServedState}
 use Rattle.server_core.specs.Families.{Family, family_in}
-use Rattle.server_core.specs.StandsFor.{ServerState, instance_at}
+use Rattle.server_core.specs.StandsFor.{instance_at}
 use Rattle.serve.specs.SocketEvents.{SocketEvent, clock}
 use Rattle.serve.specs.RunEvents.{RunEvent, ordered, lent, gave, AddsRuns, AddsAllRuns, WasBegun}
 use Rattle.serve.specs.declared.carrying.Counting.{Counting}

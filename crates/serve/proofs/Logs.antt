@@ -1,5 +1,5 @@
 -- What a log says of the clock.
-use Rattle.std.proofs.Common.{◌≡◌, ℕ, ◌-◌, ◌<◌, ◌≤◌, List, [], ◌∷◌, length, take, drop, get_or, refl, ap, ◌∙◌, sym, subst, arith}
+use Rattle.std.proofs.Common.{◌≡◌, ℕ, ◌-◌, ◌<◌, ◌≤◌, List, length, take, drop, get_or, ap, ◌∙◌, sym}
 use Rattle.std.specs.Prelude.{fold}
 use Rattle.runner.proofs.Lists.{first_and_rest, no_rest}
 use Rattle.serve.specs.declared.logged.SocketRecord.{SocketRecord}

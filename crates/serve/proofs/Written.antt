@@ -1,7 +1,7 @@
 -- What was written on connections is a front of what an instance put.
-use Rattle.std.proofs.Common.{◌≡◌, ◌≢◌, ℕ, ◌+◌, List, [], ◌∷◌, ◌++◌, map, length, take, drop, refl, ap, ◌∙◌, sym, subst, arith, inl, inr, append-nil, append_assoc, length-append}
-use Rattle.std.specs.Prelude.{◌⊎◌, ◌==◌, ◌&&◌, ◌||◌, not, Bool, true, false, cond, sum_by, Option, Some, None}
-use Rattle.std.specs.List.{flat_map, list_any}
+use Rattle.std.proofs.Common.{◌≡◌, ℕ, ◌+◌, List, [], ◌∷◌, ◌++◌, map, length, take, drop, refl, ap, ◌∙◌, sym, subst, arith, inl, inr, append-nil, append_assoc, length-append}
+use Rattle.std.specs.Prelude.{◌⊎◌, ◌==◌, ◌&&◌, ◌||◌, not, Bool, true, false, cond, sum_by, Some, None}
+use Rattle.std.specs.List.{flat_map}
 use Rattle.std.specs.Io.{StartsWith}
 use Rattle.std.proofs.lemmas.Bool.{cases_Bool, true≢false, eqb-true, eq-eqb, ne_eqb}
 use Rattle.std.proofs.lemmas.Option.{none-some, same_Some}
@@ -18,7 +18,7 @@ use Rattle.served_instance.specs.Past.{Past, new_past, with_taken}
 use Rattle.served_instance.specs.Connections.{LoneConnection, is_open_at, open_at, at_open, with_closed, all_closed}
 use Rattle.served_instance.specs.Lone.{sent_bytes_on}
 use Rattle.served_instance.proofs.Growth.{HasGrown, AreGrown, at_is_open}
-use Rattle.serve.specs.Did.{is_among, with_written, IsFrontOf, AreFronts}
+use Rattle.serve.specs.Did.{is_among, with_written, AreFronts}
 
 -- ---- tests
 

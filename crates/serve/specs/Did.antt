@@ -1,15 +1,15 @@
 -- What a server did, instance by instance: for each there is a run of it and of its parent by
 -- themselves (Marked.antt of server_core), over the events of these two among all that happened. To
 -- be read from `Did` up.
-use Rattle.std.specs.Prelude.{◌≡◌, ◌⊎◌, ℕ, ◌==◌, ◌&&◌, not, if◌then◌else◌, Bool, List, [], ◌∷◌, ◌++◌, map, fold, length, Option}
-use Rattle.std.specs.List.{flat_map, list_any}
+use Rattle.std.specs.Prelude.{◌≡◌, ◌⊎◌, ℕ, ◌==◌, ◌&&◌, not, if◌then◌else◌, Bool, List, [], ◌∷◌, ◌++◌, map, fold, Option}
+use Rattle.std.specs.List.{list_any}
 use Rattle.execution.specs.Orders.{OrderValue}
 use Rattle.server_events.specs.Events.{EventValue, tick, ended}
 use Rattle.server_core.specs.Families.{Family, FamilyEvent, family_events}
 use Rattle.server_core.specs.Marked.{MarkedEvent, MarkedRun}
 use Rattle.server_core.specs.Runs.{output_of_run}
-use Rattle.serve.specs.SocketEvents.{SocketEvent, clock, port, accepted, read, written, shut, what_of}
-use Rattle.serve.specs.RunEvents.{RunEvent, ordered, lent, gave}
+use Rattle.serve.specs.SocketEvents.{clock, port, accepted, read, written, shut, what_of}
+use Rattle.serve.specs.RunEvents.{ordered, lent, gave}
 use Rattle.serve.specs.Happenings.{Happening, MarkedHappening, at_sockets, told, at_runs, moment_on}
 
 -- ---- events

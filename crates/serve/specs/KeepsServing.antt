@@ -1,5 +1,5 @@
 -- What a server keeps while it serves. For the code alone: `Served.antt` says what comes of it.
-use Rattle.std.specs.Prelude.{◌≡◌, ◌≢◌, ◌+◌, ◌-◌, ◌≤◌, ◌<◌, ℕ, min, fold, Bool, true, false, List, map, length, Option, Some, None, IfSome}
+use Rattle.std.specs.Prelude.{◌≡◌, ◌≢◌, ◌+◌, ◌≤◌, ◌<◌, ℕ, min, fold, Bool, true, false, List, map, length, Option, Some, None, IfSome}
 use Rattle.execution.specs.declared.orders.Order.{Order}
 use Rattle.execution.specs.Orders.{OrderValue}
 use Rattle.instance_core.specs.Turns.{orders_meant}
@@ -20,7 +20,7 @@ use Rattle.served_instance.specs.declared.refusal.EventRefusal.{EventRefusal}
 use Rattle.served_instance.specs.declared.refusal.EventRefusal.TheVariants.{NoMemory}
 use Rattle.serve.specs.Happenings.{Happening, MarkedHappening, at_runs, cuts, moment_on}
 use Rattle.serve.specs.declared.carrying.Counting.{Counting}
-use Rattle.serve.specs.Served.{with_orders, MayStep, begun, Serves, HappenedTogether, most_counted, IsCount}
+use Rattle.serve.specs.Served.{with_orders, MayStep, Serves, HappenedTogether, most_counted, IsCount}
 
 -- what happened and is not marked
 abbrev pub unmarked : Happening → MarkedHappening

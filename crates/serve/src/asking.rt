@@ -131,7 +131,7 @@ pub(crate) fn ask_all<S: Sockets, R: Runs, E: Write>(
             break;
         };
         ask(counting, configs, runs, errors, moment, run);
-        if sockets.is_later(moment) {
+        if sockets.passed() > moment {
             break;
         }
     }

@@ -6,6 +6,7 @@ ghost use Rattle.serve.specs.KeepsServing.{KeepsServingAt};
 
 use crate::carrying::{Counting, tell};
 use crate::counts::Occurrence;
+use crate::frame_course::{FRONT_LIMIT, READ_LIMIT};
 use crate::open_socket::OpenSocket;
 use crate::runs::Runs;
 use crate::sockets::{Socket, Sockets, is_not_ready};
@@ -14,8 +15,11 @@ use server_events::What;
 use std::alloc::{AllocError, Global};
 use std::mem::replace;
 
-/// The most bytes that are read from a connection in a turn.
-pub(crate) const READ_LIMIT: usize = 16_384;
+/// How many pieces are read of a connection in a turn at most.
+const MOST_PIECES: usize = 32;
+
+/// How many milliseconds after the time was told no further piece is read.
+const QUICK: u64 = 5;
 
 /// What a try to move bytes came to.
 #[derive(Clone, Copy, PartialEq, Eq)]
@@ -26,24 +30,24 @@ pub(crate) enum Tried {
     Over,
 }
 
-/// A piece that was read, with room behind it for as many bytes again: where it ends within a
-/// frame, the rest of that is put there when it comes.
-fn with_room(alloc: Global, bytes: &[u8]) -> Result<Vec<u8>, AllocError>
+/// A piece that was read, with room behind it for so many bytes: where it ends within a frame, the
+/// rest of that is put there when it comes.
+fn with_room(alloc: Global, bytes: &[u8], more: usize) -> Result<Vec<u8>, AllocError>
     ensures { IfOk result (λ piece. piece.items ≡ bytes.now) }
 {
     // Pieces are short; of any length, room is only asked for, and nothing said of it.
-    let mut piece = Vec::with_capacity(alloc, bytes.len().saturating_mul(2))?;
+    let mut piece = Vec::with_capacity(alloc, bytes.len().saturating_add(more))?;
     piece.extend_from_slice(bytes)?;
     Ok(piece)
 }
 
-/// The piece that was read into the room. Where memory is refused for a new one the room itself is
+/// The piece that was read into the room, behind which so many bytes are awaited. Where memory is refused for a new one the room itself is
 /// handed over, and is empty then: what was read is never lost.
-fn piece_of(alloc: Global, room: &mut Vec<u8>, count: usize) -> Vec<u8>
+fn piece_of(alloc: Global, room: &mut Vec<u8>, count: usize, more: usize) -> Vec<u8>
     requires { count ≤ length room.old.items }
     ensures { result.items ≡ take count room.old.items }
 {
-    match with_room(alloc, &room[..count]) {
+    match with_room(alloc, &room[..count], more) {
         Ok(piece) => piece,
         Err(_) => {
             let mut piece = replace(room, Vec::new(alloc));
@@ -53,15 +57,33 @@ fn piece_of(alloc: Global, room: &mut Vec<u8>, count: usize) -> Vec<u8>
     }
 }
 
-/// Makes the room anew where it was handed over, and says whether it is there.
-fn has_room(alloc: Global, room: &mut Vec<u8>) -> bool {
-    if room.is_empty() {
-        match vec![in alloc; 0; READ_LIMIT] {
-            Ok(new) => *room = new,
-            Err(_) => return false,
-        }
+/// Where bytes are read to: two rooms, as one would be made longer and shorter with each frame.
+#[derive(Drop)]
+pub(crate) struct Rooms {
+    /// For a piece that begins with a frame.
+    front: Vec<u8>,
+    /// For the rest of a payload.
+    payload: Vec<u8>,
+}
+
+impl Rooms {
+    pub(crate) fn new(alloc: Global) -> Result<Rooms, AllocError> {
+        Ok(Rooms {
+            front: Vec::with_capacity(alloc, FRONT_LIMIT)?,
+            payload: Vec::with_capacity(alloc, READ_LIMIT)?,
+        })
     }
-    true
+}
+
+/// What is read over.
+static BLANK: [u8; READ_LIMIT] = [0; READ_LIMIT];
+
+/// Makes room for so many bytes, and says whether it is there.
+fn has_room(room: &mut Vec<u8>, size: usize) -> bool
+    requires { size ≤ 16384 }
+{
+    room.truncate(size);
+    room.extend_from_slice(&BLANK[room.len()..size]).is_ok()
 }
 
 /// Tells the server the bytes that came, as many as there is room for. The room is made before
@@ -81,16 +103,16 @@ fn receive<S: Sockets, R: Runs>(
     ensures stays { StayOpen (S.happened sockets.old) (S.happened sockets.new) }
     ensures socket { opened.new.socket ≡ opened.old.socket }
 {
-    if !has_room(alloc, room) {
+    if !has_room(room, opened.read_limit()) {
         return Tried::NotReady;
     }
     let socket = opened.socket;
     match sockets.read(socket, room) {
         Ok(count) => {
-            let bytes = piece_of(alloc, room, count);
+            opened.hear(moment, &room[..count]);
+            let bytes = piece_of(alloc, room, count, opened.read_limit());
             let came = What::Bytes(socket.connection, bytes);
             let _ = tell(counting, runs, moment, socket.instance, came);
-            opened.hear(moment, count);
             if count == 0 {
                 Tried::Over
             } else {
@@ -100,6 +122,45 @@ fn receive<S: Sockets, R: Runs>(
         Err(error) if is_not_ready(&error) => Tried::NotReady,
         Err(_) => Tried::Over,
     }
+}
+
+/// The same piece by piece, as long as they take little time: some frames are short, and each piece
+/// that is told has few.
+fn receive_all<S: Sockets, R: Runs>(
+    alloc: Global,
+    counting: &mut Counting,
+    sockets: &mut S,
+    runs: &mut R,
+    moment: u64,
+    opened: &mut OpenSocket,
+    rooms: &mut Rooms,
+) -> Tried
+    ensures serving { KeepsServingAt opened.old.socket.instance
+        (S.happened sockets.old) (R.happened runs.old) counting.old moment
+        (S.happened sockets.new) (R.happened runs.new) counting.new moment }
+    ensures stays { StayOpen (S.happened sockets.old) (S.happened sockets.new) }
+    ensures socket { opened.new.socket ≡ opened.old.socket }
+{
+    let mut tried = Tried::NotReady;
+    let end = opened.received().saturating_add(READ_LIMIT as u64);
+    for _ in 0..MOST_PIECES {
+        let before = opened.received();
+        let room = if opened.is_in_frame() {
+            &mut rooms.payload
+        } else {
+            &mut rooms.front
+        };
+        match receive(alloc, counting, sockets, runs, moment, opened, room) {
+            Tried::Moved => tried = Tried::Moved,
+            Tried::NotReady => break,
+            Tried::Over => return Tried::Over,
+        }
+        let is_all = opened.received().saturating_sub(before) < room.len() as u64;
+        if is_all || opened.received() >= end || sockets.passed() > moment.saturating_add(QUICK) {
+            break;
+        }
+    }
+    tried
 }
 
 /// Sends the bytes that wait for the client, as far as the socket takes them, and tells the server
@@ -174,7 +235,7 @@ pub(crate) fn exchange<S: Sockets, R: Runs>(
     runs: &mut R,
     moment: u64,
     opened: &mut OpenSocket,
-    room: &mut Vec<u8>,
+    rooms: &mut Rooms,
 ) -> Tried
     ensures serving { KeepsServingAt opened.old.socket.instance
         (S.happened sockets.old) (R.happened runs.old) counting.old moment
@@ -183,7 +244,7 @@ pub(crate) fn exchange<S: Sockets, R: Runs>(
         (S.happened sockets.old) (S.happened sockets.new) }
     ensures socket { opened.new.socket ≡ opened.old.socket }
 {
-    let received = receive(alloc, counting, sockets, runs, moment, opened, room);
+    let received = receive_all(alloc, counting, sockets, runs, moment, opened, rooms);
     let socket = opened.socket;
     let sent = send(counting, sockets, runs, moment, socket);
     let ending = if received == Tried::Over || sent == Tried::Over {

@@ -5,6 +5,7 @@ ghost use Rattle.served_instance.specs.Lone.{LoneInstance};
 ghost use Rattle.server_core.specs.StandsFor.{StandsAt};
 ghost use Rattle.serve.specs.Silence.{silence_limit, MayMakeRoom, IsLongestSilent};
 
+use crate::frame_course::FrameCourse;
 use crate::sockets::Socket;
 use server_core::Server;
 
@@ -32,6 +33,8 @@ pub(crate) struct OpenSocket {
     heard: u64,
     /// How many bytes came, or 2^64 - 1 where more came.
     received: u64,
+    /// Where in a frame they end.
+    course: FrameCourse,
 }
 
 impl OpenSocket {
@@ -45,6 +48,7 @@ impl OpenSocket {
             tried: moment,
             heard: moment,
             received: 0,
+            course: FrameCourse::new(),
         }
     }
 
@@ -53,12 +57,30 @@ impl OpenSocket {
         moment.saturating_sub(self.moved) <= BUSY_TIME || moment != self.tried
     }
 
-    /// So many bytes came, which are not none.
-    pub(crate) fn hear(&mut self, moment: u64, count: usize)
+    /// How many bytes came, or 2^64 - 1 where more came.
+    pub(crate) fn received(&self) -> u64 {
+        self.received
+    }
+
+    /// Whether the payload of a frame is not whole.
+    pub(crate) fn is_in_frame(&self) -> bool {
+        self.course.is_in_frame()
+    }
+
+    /// How many bytes are read from it now at most.
+    pub(crate) fn read_limit(&self) -> usize
+        ensures { result ≤ 16384 }
+    {
+        self.course.read_limit()
+    }
+
+    /// These bytes came.
+    pub(crate) fn hear(&mut self, moment: u64, bytes: &[u8])
         ensures { self.new.socket ≡ self.old.socket }
     {
         self.heard = moment;
-        self.received = self.received.saturating_add(count as u64);
+        self.received = self.received.saturating_add(bytes.len() as u64);
+        self.course.pass(bytes);
     }
 
     /// For how many milliseconds no byte must have come from its client, where it may make room.

@@ -13,8 +13,9 @@ use crate::asking::ask_all;
 use crate::carrying::{Counting, tell};
 use crate::counts::{Occurrence, ServeCounts};
 use crate::error_lines::ErrorLines;
-use crate::exchange::{READ_LIMIT, Tried, close, exchange};
+use crate::exchange::{Rooms, Tried, close, exchange};
 use crate::open_socket::{OpenSocket, longest_silent};
+use crate::pace::Pace;
 use crate::runs::Runs;
 use crate::sockets::{Socket, Sockets};
 use crate::watch::{Sight, Watch};
@@ -66,7 +67,8 @@ struct Serving {
     connections: Vec<OpenSocket>,
     /// The number for the next connection, which no open socket has.
     next: Option<u32>,
-    room: Vec<u8>,
+    rooms: Rooms,
+    pace: Pace,
 }
 
 impl Serving {
@@ -90,7 +92,8 @@ impl Serving {
             tried: None,
             connections: Vec::new(alloc),
             next: Some(0),
-            room: vec![in alloc; 0; READ_LIMIT]?,
+            rooms: Rooms::new(alloc)?,
+            pace: Pace::new(alloc, configs.instances().len())?,
         })
     }
 
@@ -165,7 +168,7 @@ impl Serving {
         ensures numbers { KeepsOpen self.old (S.happened sockets.old)
             self.new (S.happened sockets.new) }
     {
-        if sockets.is_later(self.moment) {
+        if sockets.passed() > self.moment {
             self.tick(sockets, runs);
         }
     }
@@ -252,6 +255,7 @@ impl Serving {
         let Ok(()) = sockets.accept(socket) else {
             return false;
         };
+        self.pace.note_active(instance);
         self.next = number_after(&self.connections, connection);
         let what = What::Open(connection);
         match tell(&mut self.counting, runs, self.moment, instance, what) {
@@ -321,17 +325,64 @@ impl Serving {
         ensures numbers { KeepsOpen self.old (S.happened sockets.old)
             self.new (S.happened sockets.new) }
     {
+        self.pace.begin(sockets.passed());
+        let (from, end) = (self.pace.from, self.connections.len());
+        let behind = self.exchange_part(sockets, runs, from, end);
+        let before = self.exchange_part(sockets, runs, 0, from);
+        behind || before
+    }
+
+    /// Whether the connection at this place is tried now.
+    fn is_tried(&self, at: usize) -> bool {
+        match self.connections.get(at) {
+            Some(open) => open.is_due(self.moment) && !self.pace.rests(open.socket.instance),
+            None => false,
+        }
+    }
+
+    /// The same of those that stand from one place on, and before another.
+    fn exchange_part<S: Sockets, R: Runs>(
+        &mut self,
+        sockets: &mut S,
+        runs: &mut R,
+        first: usize,
+        end: usize,
+    ) -> bool
+        requires within { AreWithin self.old.instances
+            (sockets_of self.old.connections.items) }
+        ensures serving { KeepsServing self.old.instances
+            (S.happened sockets.old) (R.happened runs.old)
+            self.old.counting self.old.moment
+            (S.happened sockets.new) (R.happened runs.new)
+            self.new.counting self.new.moment }
+        ensures instances { self.new.instances ≡ self.old.instances }
+        ensures within { AreWithin self.new.instances
+            (sockets_of self.new.connections.items) }
+        ensures numbers { KeepsOpen self.old (S.happened sockets.old)
+            self.new (S.happened sockets.new) }
+    {
         let alloc = *self.connections.allocator();
         let mut moved = false;
-        let mut at = 0;
-        while at < self.connections.len() {
-            if !self.connections[at].is_due(self.moment) {
+        let mut at = first;
+        while at < end && at < self.connections.len() {
+            if !self.is_tried(at) {
                 at += 1;
                 continue;
             }
             let mut open = self.connections[at];
-            let (counting, room) = (&mut self.counting, &mut self.room);
-            match exchange(alloc, counting, sockets, runs, self.moment, &mut open, room) {
+            let (counting, rooms) = (&mut self.counting, &mut self.rooms);
+            let tried = exchange(
+                alloc,
+                counting,
+                sockets,
+                runs,
+                self.moment,
+                &mut open,
+                rooms,
+            );
+            let instance = open.socket.instance;
+            self.pace.note(sockets, instance, at, tried);
+            match tried {
                 Tried::Over => {
                     self.connections.remove(at);
                     moved = true;
@@ -379,8 +430,11 @@ pub struct Tally {
 /// happened yet, and over runs of which there are none.
 ///
 /// Once a millisecond the time is told to each instance, and at each port one connection is
-/// accepted. In each turn at most 16,384 bytes of each connection are read, and what waits on it is
-/// written. A connection on which nothing moved for 20 milliseconds is tried once a millisecond,
+/// accepted. In each turn pieces are read of each connection, as long as that takes little time:
+/// the rest of a frame's payload, or where a frame begins 512 bytes, until it were 16,384 or more.
+/// Then what waits on it is written. An instance for which that took ten milliseconds or more waits
+/// for the rest of the turn. Where another one was active within a second it rests then for as long
+/// as that took, or until nothing moved for a quarter of that. A connection on which nothing moved for 20 milliseconds is tried once a millisecond,
 /// until something moves on it again. A connection is closed where its client is gone or its socket
 /// failed, where an error of it was met and the client was sent all that waited, and where memory
 /// was refused for what it sent, or as the time was told. Where an instance has as many as it may

@@ -60,8 +60,8 @@ impl<'a> Sockets for WithPeers<'a> {
     }
 
     /// The clients have a part of each turn.
-    fn is_later(&self, _moment: u64) -> bool {
-        true
+    fn passed(&self) -> u64 {
+        self.sockets.passed().saturating_add(1)
     }
 
     fn accept(&mut self, socket: Socket) -> io::Result<()> {

@@ -1,6 +1,6 @@
 use Rattle.serve.proofs.FaultLines.{lines_on}
 use Rattle.serve.proofs.Keeps.{after_no_run}
-use Rattle.serve.proofs.asking.ask_all.Goals.{else-loop-test, then-loop-test+in_default, then-loop-test+in-Some+then-is_later}
+use Rattle.serve.proofs.asking.ask_all.Goals.{else-loop-test, then-loop-test+in_default, then-loop-test+in-Some+then-passed-moment}
 use Rattle.serve.proofs.asking.ask_all.Goals as goal
 
 pub loop-preserved : goal.loop-preserved
@@ -14,11 +14,11 @@ returns g c = record {
   serving = λ count known configs same at. elim c.loop-test.branch [
     | else-loop-test w ↦ rw (w.counting-is, w.runs-is) (c.loop.invariant.serving count known configs same at)
     | then-loop-test+in_default w ↦ rw (w.counting-is, w.runs-is) (after_no_run configs known _ _ _ _ w.next.ensures.adds (c.loop.invariant.serving count known configs same at))
-    | then-loop-test+in-Some+then-is_later w ↦ rw (w.counting-is, w.runs-is) (w.ask.ensures.serving known configs w.in-Some.ensures.begun (after_no_run configs known _ _ _ _ w.next.ensures.adds (c.loop.invariant.serving count known configs same at)))
+    | then-loop-test+in-Some+then-passed-moment w ↦ rw (w.counting-is, w.runs-is) (w.ask.ensures.serving known configs w.in-Some.ensures.begun (after_no_run configs known _ _ _ _ w.next.ensures.adds (c.loop.invariant.serving count known configs same at)))
   ];
   lines = elim c.loop-test.branch [
     | else-loop-test w ↦ rw w.errors-is c.loop.invariant.lines
     | then-loop-test+in_default w ↦ rw w.errors-is c.loop.invariant.lines
-    | then-loop-test+in-Some+then-is_later w ↦ rw w.errors-is (lines_on c.args.configs.now _ _ _ c.args.errors.now.backlog c.loop.errors.backlog w.ask.new.errors.backlog c.loop.invariant.lines w.ask.ensures.lines)
+    | then-loop-test+in-Some+then-passed-moment w ↦ rw w.errors-is (lines_on c.args.configs.now _ _ _ c.args.errors.now.backlog c.loop.errors.backlog w.ask.new.errors.backlog c.loop.invariant.lines w.ask.ensures.lines)
   ];
 }

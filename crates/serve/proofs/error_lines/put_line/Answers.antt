@@ -1,6 +1,5 @@
-use Rattle.std.proofs.Common.{◌≡◌, List, ℕ, [], ◌++◌, refl, sym, subst, arith}
+use Rattle.std.proofs.Common.{◌≡◌, [], refl, arith}
 use Rattle.std.proofs.lemmas.Grind.{common_steps}
-use Rattle.serve.specs.FaultLines.{WritesFront}
 use Rattle.serve.proofs.FaultLines.{front_behind, front_then}
 use Rattle.serve.proofs.error_lines.put_line.Goals as goal
 

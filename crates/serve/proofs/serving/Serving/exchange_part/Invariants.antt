@@ -2,7 +2,7 @@ use Rattle.std.proofs.Common.{◌≡◌, ◌-◌, List, length}
 use Rattle.server_events.specs.Configs.{ConfigValue}
 use Rattle.serve.specs.KeepsOpen.{AreWithin, KeepsOpen, sockets_of}
 use Rattle.serve.specs.KeepsServing.{IsServing}
-use Rattle.serve.proofs.serving.Serving.exchange_all.Given as goal
+use Rattle.serve.proofs.serving.Serving.exchange_part.Given as goal
 
 abbrev pub invariant-loop-at : goal.invariant-loop-at
 invariant-loop-at g l = record {

@@ -18,6 +18,7 @@ with `N passed, M failed`, and with status 1 where one failed. --slow stretches 
 """
 
 import argparse
+import importlib.util
 import os
 import shutil
 import sys
@@ -47,8 +48,9 @@ def seconds_each(program, launcher, count):
 
 
 def cost(report, program, count):
-    for name, launcher in (("no launcher", None), ("sandbox", sandbox.SANDBOX)):
-        tell_cost(report, name, *seconds_each(program, launcher, count))
+    tell_cost(report, "no launcher", *seconds_each(program, None, count))
+    with tempfile.TemporaryDirectory(prefix="launchers-cost-") as folder:
+        tell_cost(report, "sandbox", *seconds_each(program, sandbox.sandbox(folder), count))
     if slurm_cluster.lacking():
         return
     with tempfile.TemporaryDirectory(prefix="launchers-cost-") as folder, slurm_cluster.Cluster(folder) as cluster:
@@ -105,6 +107,7 @@ def main():
     options = parser.parse_args()
     report, program = Report(options.slow), options.program
     no_sandbox = [] if shutil.which("bwrap") else ["bubblewrap (bwrap)"]
+    no_sandbox += [] if importlib.util.find_spec("seccomp") else ["python3-seccomp"]
     no_root = [] if os.geteuid() == 0 else ["root"]
     no_cluster = slurm_cluster.lacking()
     ways = {

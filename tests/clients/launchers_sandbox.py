@@ -1,6 +1,7 @@
 """What `launchers.py` looks at of `launchers/sandbox`: what an action of one team cannot reach of another's."""
 
 import os
+import platform
 import shutil
 import signal
 import subprocess
@@ -13,17 +14,36 @@ from executing import PATH, Action, Link, Peer
 from server import Server
 
 HERE = os.path.dirname(os.path.abspath(__file__))
-SANDBOX = os.path.realpath(os.path.join(HERE, "..", "..", "launchers", "sandbox"))
+LAUNCHERS = os.path.realpath(os.path.join(HERE, "..", "..", "launchers"))
 SECRET, SOURCE = "server-secret", b"the source of blue\n"
 ODD = ["a b", "", "-n", "*", "$HOME", "a\nb", "A=B", "'", '"']
 TOP = "../" * 24
 
 # What a sandbox in which no program can be started has in place of what.
 UNMADE = {
-    "in which no process can be made": ("--nproc=2000", "--nproc=1"),
-    "on a processor that it does not know": ("on 62 ", "on 61 "),
-    "without its words for setpriv": ("/usr/bin/setpriv --pdeathsig", "/usr/bin/setpriv --no-such-word"),
+    "in which no process can be made": ("most_processes=2000", "most_processes=1"),
+    "on a processor that it is not for": ("/sandbox.allowed", "/of_another/sandbox.allowed"),
+    "without its words for setpriv": ("setpriv --pdeathsig", "setpriv --no-such-word"),
+    "without the calls that are refused": ("/sandbox.refused", "/of_nobody/sandbox.refused"),
 }
+
+
+def sandbox(folder, old="", new=""):
+    """`launchers/sandbox` with its filters, in this folder, which has filters of another processor, too."""
+    path, made = os.path.join(folder, "sandbox"), os.path.join(LAUNCHERS, "sandbox-filters")
+    another = os.path.join(folder, "of_another")
+    os.makedirs(another)
+    subprocess.run(["/usr/bin/python3", made, folder], check=True)
+    machine = "aarch64" if platform.machine() == "x86_64" else "x86_64"
+    subprocess.run(["/usr/bin/python3", made, another, "--for", machine], check=True)
+    with open(os.path.join(LAUNCHERS, "sandbox")) as file, open(path, "w") as copy:
+        text = file.read()
+        if old not in text:
+            raise SystemExit(f"launchers/sandbox has no {old}")
+        copy.write(text.replace(old, new) if old else text)
+    os.chmod(path, 0o755)
+    return path
+
 
 class Told:
     """What came of an action, with its texts."""
@@ -54,7 +74,7 @@ def folders_and_files(other, server):
         ("the other's folder, by its path", f"cat {start}/{other}/src; ls {start} {server.folder}", {}, nothing),
         ("the other's folder, by ..", f"cat ../{other}/src ../../{other}/src {up}/{other}/src", {}, nothing),
         ("the other's folder, by a link", f"ln -s {start}/{other} l; cat l/src", {}, nothing),
-        ("the host's files", "cat /etc/passwd /etc/hostname; ls /root /home /var /run /sys", {}, nothing),
+        ("the host's files", "cat /etc/shadow /etc/hostname; ls /root /home /run /sys /etc/ssl/private", {}, nothing),
         ("other places to write", elsewhere, {}, lambda t: t.stdout == "" and t.code == 0),
         ("/tmp, which is its own", "ls -A /tmp; echo x >/tmp/x; cat /tmp/x", {}, lambda t: t.stdout == "x\n"),
         (
@@ -156,7 +176,7 @@ def reach(report, program, who, **more):
     """All tries of one team's, while an action of the other team's runs."""
     folder = tempfile.mkdtemp(prefix="launchers-")
     os.chmod(folder, 0o777)
-    launcher, work = shutil.copy(SANDBOX, folder), os.path.join(folder, "work")
+    launcher, work = sandbox(folder), os.path.join(folder, "work")
     instances = [("red", 10**8, 2), ("blue", 10**8, 2)]
     try:
         with Server(program, instances, 2**62, {"SECRET": SECRET}, work, True, launcher, **more) as server:
@@ -182,14 +202,10 @@ def reach(report, program, who, **more):
 
 def nothing_started(report, program, who, **more):
     """A sandbox in which no program can be started: that is the launcher's fault, and no result of the action."""
-    with open(SANDBOX) as file:
-        text = file.read()
     for what, (old, new) in UNMADE.items():
         folder = tempfile.mkdtemp(prefix="launchers-")
         os.chmod(folder, 0o777)
-        launcher, work = shutil.copy(SANDBOX, folder), os.path.join(folder, "work")
-        with open(launcher, "w") as file:
-            file.write(text.replace(old, new))
+        launcher, work = sandbox(folder, old, new), os.path.join(folder, "work")
         try:
             with Server(program, [("red", 10**8, 1)], 2**62, None, work, True, launcher, **more) as server:
                 with Peer(server.ports[0], 60 * report.slow) as red:
@@ -197,7 +213,7 @@ def nothing_started(report, program, who, **more):
                 programs.settled(lambda: not server.said(), 2 * report.slow)
                 lines = server.said()[-1:]
                 is_told = told.status == 13 and bool(lines) and lines[0].startswith("remoted: run red 1 failed: launcher")
-                report.expect(old in text and is_told, f"{who}: a sandbox {what}", (str(told), lines))
+                report.expect(is_told, f"{who}: a sandbox {what}", (str(told), lines))
         finally:
             shutil.rmtree(folder, ignore_errors=True)
 
@@ -206,7 +222,7 @@ def own_descriptors(report, who, **more):
     """The launcher by itself: what is open where it is started is not open to the program."""
     folder = tempfile.mkdtemp(prefix="launchers-")
     os.chmod(folder, 0o777)
-    launcher, root = shutil.copy(SANDBOX, folder), os.path.join(folder, "1")
+    launcher, root = sandbox(folder), os.path.join(folder, "1")
     for name in [root, f"{root}.aside"]:
         os.mkdir(name)
         os.chmod(name, 0o777)
@@ -257,7 +273,7 @@ def ended_alone(report, who, **more):
     """The launcher by itself, as on a node: it is ended while the sandbox is being made."""
     folder = tempfile.mkdtemp(prefix="launchers-")
     os.chmod(folder, 0o777)
-    launcher = shutil.copy(SANDBOX, folder)
+    launcher = sandbox(folder)
     try:
         for n in range(80):
             root = os.path.join(folder, str(n))

@@ -13,7 +13,7 @@ import time
 import messages as m
 import programs
 from executing import PATH, Action, Peer
-from launchers_sandbox import ODD, SANDBOX, Told
+from launchers_sandbox import ODD, Told, sandbox
 from sandbox_attacks import REOPENED, REOPENING
 from server import Server
 from slurm_cluster import LOST_AFTER, NODES, Cluster, launcher
@@ -83,8 +83,11 @@ def not_copied(here):
     """The launcher alone, where what the program wrote cannot be written once more."""
     root = os.path.join(here.folder, "start-1", "0-1")
     os.makedirs(root)
+    os.makedirs(f"{root}.aside")
     words, aside = [here.launcher, "red", root, ".", "/bin/echo", "x"], {"stdin": subprocess.DEVNULL, "env": {}}
     ended = [subprocess.run(words, stdout=subprocess.DEVNULL, **aside).returncode]
+    shutil.rmtree(f"{root}.aside")
+    os.makedirs(f"{root}.aside")
     with open("/dev/full", "wb") as full:
         ended.append(subprocess.run(words, stdout=full, stderr=subprocess.DEVNULL, **aside).returncode)
     here.expect(ended == [0, -signal.SIGKILL], "what cannot be copied is no result", ended)
@@ -112,6 +115,10 @@ def results(here, peer):
     here.expect(told.stdout == "B= x\ty'\"$(z)\nA=1\n", "variables, which are its own alone", told)
     told = here.told(peer, ["/usr/bin/printf", "%s|", *ODD])
     here.expect(told.stdout == "|".join(ODD) + "|", "odd words", told)
+    told = here.told(peer, ["/usr/bin/printf", "%s|", ":", "--prolog=/bin/sh", "--", "a", ":"])
+    here.expect(told.stdout == ":|--prolog=/bin/sh|--|a|:|", "words that mean something to srun", told)
+    told = here.told(peer, "pwd", folder=":")
+    here.expect(told.stdout.endswith("/:\n"), "a working directory of such a name", told)
     told = here.told(peer, "pwd -P; echo 1 > out", folder="a/b", files=["out"])
     here.expect(told.stdout.endswith("/a/b\n") and told.files == {"out": b"1\n"}, "an inner working directory", told)
     done = peer.execute(here.action("head -c 5000000 /dev/zero; head -c 3000000 /dev/zero >&2"))
@@ -251,7 +258,9 @@ def next_missing(report, program):
 
 def sandboxed(report, program):
     """The sandbox on the node, which is told the same words."""
-    with site(report, program, SANDBOX) as here, here.serve() as (server, peer):
+    with tempfile.TemporaryDirectory(prefix="launchers-sandbox-") as folder, contextlib.ExitStack() as stack:
+        here = stack.enter_context(site(report, program, sandbox(folder)))
+        server, peer = stack.enter_context(here.serve())
         told = here.told(peer, "cat in; printf err >&2; printf abc > out", tree={"in": b"given\n"}, files=["out"])
         wanted = (0, "given\n", "err", {"out": b"abc"})
         found = (told.code, told.stdout, told.stderr, told.files)

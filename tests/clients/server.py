@@ -103,9 +103,9 @@ class Server:
         return max(folders, key=lambda path: int(path.rpartition("-")[2]), default=None)
 
     def entries(self):
-        """What stands in that folder."""
+        """What stands in that folder, but for what a launcher keeps there for all runs."""
         start = self.start()
-        return sorted(os.listdir(start)) if start else []
+        return sorted(name for name in os.listdir(start) if not name.startswith("sandbox-")) if start else []
 
     def descriptors(self):
         return len(os.listdir(self._proc("fd")))

@@ -164,12 +164,12 @@ def what_is_lacking(checks):
     checks.ends(checks.serve("lacking", f"red:{port}:100:0"), 0, "", listening, preexec_fn=ignoring)
     few = lambda count: lambda: resource.setrlimit(resource.RLIMIT_NOFILE, (count, count))
     told = (
-        "remoted: {} files may be open, and up to 199 are needed: raise the limit (ulimit -n 199, or LimitNOFILE=199)\n"
+        "remoted: {} files may be open, and up to 201 are needed: raise the limit (ulimit -n 201, or LimitNOFILE=201)\n"
     )
     words = checks.serve("lacking", f"red:{port}:100:2")
     checks.ends(words, 0, told.format(60), listening, preexec_fn=few(60))
     checks.ends(words, 1, told.format(33), preexec_fn=few(33))
-    checks.ends(words, 0, "", listening, preexec_fn=few(199))
+    checks.ends(words, 0, "", listening, preexec_fn=few(201))
 
 
 def scripts(checks):

@@ -2,13 +2,31 @@
 
 import os
 import shutil
+import sys
 import tempfile
+import time
 
 from executing import Action, Peer
 from server import Server
 
 WELL = 'shift 3; exec /usr/bin/env -i -- "$@"'
 BEGUN = "remoted: run red {} failed: "
+END = "kill -KILL $$"
+
+# Asks for leases on a file, and says in it whether it got one.
+LEASE = """
+import fcntl, sys
+word = "refused"
+for kind, mode in ((fcntl.F_RDLCK, "r"), (fcntl.F_WRLCK, "a")):
+    with open(sys.argv[1], mode) as file:
+        try:
+            fcntl.fcntl(file, fcntl.F_SETLEASE, kind)
+            word = "leased"
+        except OSError:
+            pass
+with open(sys.argv[1], "w") as file:
+    file.write(word)
+"""
 
 
 def script(folder, name, text):
@@ -41,29 +59,65 @@ def lost(report, program):
     os.chmod(folder, 0o755)
     try:
         lost_by_itself(report, program, folder)
+        last_words(report, program, folder)
+        words_of_others(report, program, folder)
         not_started(report, program, folder)
     finally:
         shutil.rmtree(folder)
 
 
 def lost_by_itself(report, program, folder):
-    end = "kill -KILL $$"
     made = lambda text: script(folder, "launcher", text)
     expect(report, "a launcher that does its work", told(program, made(WELL)), (0, 0, []))
-    silent = told(program, made(end))
+    silent = told(program, made(END))
     expect(report, "one that kills itself: the fault is its own", silent, failed("launcher"))
     for signal in ["TERM", "SEGV"]:
         expect(report, f"by SIG{signal}", told(program, made(f"kill -{signal} $$")), failed("launcher"))
-    says = told(program, made(f"echo not this; echo no node is up >&2; {end}"))
-    expect(report, "what it said is in the line", says, failed("launcher: no node is up\\n"))
-    odd = told(program, made(f"""printf 'a\\tb\\r\\n"c"\\\\\\033[0m\\303\\251\\0' >&2; {end}"""))
-    expect(report, "on one line", odd, failed('launcher: a\\tb\\r\\n\\"c\\"\\\\\\x1b[0m\\xc3\\xa9\\x00'))
-    much = told(program, made(f"printf '%0300dend' 7 >&2; {end}"))
-    expect(report, "the last 200 bytes of it", much, failed("launcher: " + "0" * 196 + "7end"))
-    forged = told(program, made(f"printf 'x\\nremoted: run blue 1 failed: start' >&2; {end}"))
-    expect(report, "it forges no line", forged, failed("launcher: x\\nremoted: run blue 1 failed: start"))
     ran = told(program, made("exit 77"))
     expect(report, "one that ends with a code has run the program", ran, (0, 77, []))
+
+
+def last_words(report, program, folder):
+    """What a launcher writes into its own file before it kills itself."""
+    says = lambda text: told(program, script(folder, "launcher", f"said=$2.aside/said; {text}; {END}"))
+    plain = says("echo no node is up >$said")
+    expect(report, "what it said is in the line", plain, failed("launcher: no node is up\\n"))
+    more = says("echo no node is up >>$said; printf again >>$said")
+    expect(report, "and what it added", more, failed("launcher: no node is up\\nagain"))
+    odd = says("""printf 'a\\tb\\r\\n"c"\\\\\\033[0m\\303\\251\\0' >$said""")
+    expect(report, "on one line", odd, failed('launcher: a\\tb\\r\\n\\"c\\"\\\\\\x1b[0m\\xc3\\xa9\\x00'))
+    much = says("printf '%0300dend' 7 >$said")
+    expect(report, "the last 200 bytes of it", much, failed("launcher: " + "0" * 196 + "7end"))
+    huge = says("{ head -c 1000000 /dev/zero | tr '\\0' 0; printf 7end; } >$said")
+    expect(report, "of a megabyte, too", huge, failed("launcher: " + "0" * 196 + "7end"))
+    forged = says("printf 'x\\nremoted: run blue 1 failed: start' >$said")
+    expect(report, "it forges no line", forged, failed("launcher: x\\nremoted: run blue 1 failed: start"))
+
+
+def words_of_others(report, program, folder):
+    """What stands elsewhere, or comes into the place of that file, is not told, and waited for by nobody."""
+    secret = os.path.join(folder, "secret")
+    with open(secret, "w") as file:
+        file.write("the secret")
+    without = failed("launcher")
+    for what, text in (
+        ("what goes to the streams", "echo not this; echo nor this >&2"),
+        ("no file", "rm $said"),
+        ("a FIFO", "rm $said; mkfifo $said"),
+        ("a link", f"rm $said; ln -s {secret} $said"),
+        ("another name of a file", f"ln -f {secret} $said"),
+        ("a directory", "rm $said; mkdir $said"),
+        ("another file", f"cp {secret} $said.new; mv $said.new $said"),
+    ):
+        begun = time.monotonic()
+        found = told(program, script(folder, "launcher", f"said=$2.aside/said; {text}; {END}"))
+        expect(report, f"not told: {what}", found, without)
+        took = time.monotonic() - begun
+        report.expect(took < 5 * report.slow, f"nor waited for: {what}", f"{took:.1f} s")
+    leased = script(folder, "launcher", f"{sys.executable} -c '{LEASE}' $2.aside/said; {END}")
+    expect(report, "nor can a lease be taken on it", told(program, leased), failed("launcher: refused"))
+    its_own = told(program, script(folder, "launcher", WELL), ("/bin/sh", "-c", "echo a program >&2; kill -KILL $$"))
+    expect(report, "a program that a signal ends, by a launcher that becomes it", its_own, without)
 
 
 def not_started(report, program, folder):

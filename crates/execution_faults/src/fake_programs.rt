@@ -11,7 +11,7 @@ use run_calls::{Command, Place, Programs, RunKey, Stream};
 use std::alloc::{AllocError, Global};
 use std::io;
 
-/// What was written last to standard error, whichever program is asked for.
+/// What a launcher said last, whichever program is asked for.
 const LAST_WORDS: &[u8] = b"it is \"lost\"\n\xff";
 
 #[derive(Drop)]

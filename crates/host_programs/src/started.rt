@@ -1,6 +1,6 @@
 //! Programs that were started, and what they write.
 
-ghost use Rattle.std.specs.Prelude.{◌≡◌, ◌≤◌, None, Ok, IfOk, IfSome, IsErrAnd, length};
+ghost use Rattle.std.specs.Prelude.{◌≡◌, ◌≤◌, [], None, Ok, IfOk, IfSome, IsErrAnd, length};
 ghost use Rattle.std.specs.IoError.{error_kind};
 ghost use Rattle.std.specs.Process.{exit_code};
 ghost use Rattle.std.specs.declared.io.ErrorKind.TheVariants.{ConnectionAborted};
@@ -24,6 +24,9 @@ use std::time::{Duration, Instant};
 const OUTPUT_ENDING: &str = ".aside/out";
 
 const ERROR_ENDING: &str = ".aside/err";
+
+/// The same of the file into which its launcher writes its last words.
+const SAID_ENDING: &str = ".aside/said";
 
 /// The same of the file that shows whether the disk is full.
 const ROOM_ENDING: &str = ".aside/room";
@@ -57,7 +60,10 @@ pub(crate) struct Started {
     child: Child,
     stdout: File,
     stderr: File,
-    /// How much of each counts, once that was measured: who writes there still adds nothing.
+    /// What its launcher says goes into this one, where a launcher was started. It is open from
+    /// before that on: whatever comes into its place then, no reader waits for it, or sees it.
+    said: Option<File>,
+    /// How much of the streams counts, once that was measured: who writes there still adds nothing.
     measured: Option<Lengths>,
     /// How far its session is ended.
     progress: Progress,
@@ -122,6 +128,10 @@ pub(crate) fn start(
 ) -> io::Result<Started> {
     let stdout = stream_file(rt, work, run, OUTPUT_ENDING)?;
     let stderr = stream_file(rt, work, run, ERROR_ENDING)?;
+    let said = match started_as {
+        StartedAs::Itself => None,
+        StartedAs::Launcher => Some(stream_file(rt, work, run, SAID_ENDING)?),
+    };
     set_streams(command, &stdout, &stderr)?;
     Ok(Started {
         run,
@@ -129,6 +139,7 @@ pub(crate) fn start(
         child: command.spawn(rt)?,
         stdout,
         stderr,
+        said,
         measured: None,
         progress: Progress::Alive,
         is_reaped: false,
@@ -265,17 +276,19 @@ impl Started {
         read_part(alloc, file, from, most_from(end, from, most))
     }
 
-    /// The last bytes of its standard error, at most so many.
+    /// The last bytes of what its launcher says, at most so many. Without a launcher nothing is said,
+    /// whatever the program writes.
     pub(crate) fn last_words(&self, alloc: Global, most: u32) -> io::Result<Vec<u8>>
-        ensures { IfOk result (λ bytes. length bytes.items ≤ most) }
+        ensures within { IfOk result (λ bytes. length bytes.items ≤ most) }
+        ensures own { self.now.said ≡ None → IfOk result (λ bytes. bytes.items ≡ []) }
     {
-        let length = self.stderr.metadata()?.len();
-        read_part(
-            alloc,
-            &self.stderr,
-            length.saturating_sub(u64::from(most)),
-            most,
-        )
+        match &self.said {
+            Some(file) => {
+                let length = file.metadata()?.len();
+                read_part(alloc, file, length.saturating_sub(u64::from(most)), most)
+            }
+            None => Ok(Vec::new(alloc)),
+        }
     }
 
     /// What is to be waited for.

@@ -11,8 +11,9 @@ use std::io::{self, Write};
 /// How many connections an instance has at most.
 const MOST_CONNECTIONS: u64 = 64;
 
-/// How many files are open for each action that runs: what it writes goes to two.
-const FILES_OF_RUN: u64 = 2;
+/// How many files are open for each action that runs, at most: what it writes goes to two, and what
+/// its launcher says to one.
+const FILES_OF_RUN: u64 = 3;
 
 /// How many are open for an instance that runs actions: the pipes of what removes their folders.
 const FILES_OF_REMOVAL: u64 = 2;

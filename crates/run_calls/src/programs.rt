@@ -68,8 +68,8 @@ pub trait Programs {
             (called (forget_asked run) (Ok program_done)) }
         ensures counts { failures self.new ≡ failures self.old };
 
-    /// The last bytes that were written to the standard error of a program that was not forgotten,
-    /// at most so many.
+    /// The last bytes of what the launcher of a program that was not forgotten says, at most so
+    /// many; none where nothing is said. What the program writes is not among them.
     fn last_words(&self, run: RunKey, most: u32) -> io::Result<Vec<u8>>
         ensures within { IfOk result (λ bytes. length bytes.items ≤ most) };
 

@@ -42,8 +42,8 @@ pub trait Runs {
         ensures adds { AddsRuns (happened self.old) (happened self.new)
             (asked_events run task.entry result) };
 
-    /// The last bytes that were written to the standard error of a run that has just come to a
-    /// fault, at most so many.
+    /// The last bytes of what the launcher of a run says that has just come to a fault, at most so
+    /// many.
     fn last_words(&self, run: RunKey, most: u32) -> io::Result<Vec<u8>>
         ensures within { IfOk result (λ bytes. length bytes.items ≤ most) };
 

@@ -268,7 +268,7 @@ def sandboxed(report, program):
         for code in [1, 7, 255]:
             told = here.told(peer, f"exit {code}")
             here.expect((told.code, told.stderr) == (code, ""), f"in a sandbox: exit code {code}", told)
-        told = here.told(peer, f"cat /etc/passwd /etc/hostname; ls {here.folder} /root /home; true")
+        told = here.told(peer, f"cat /etc/shadow /etc/hostname; ls {here.folder} /root /home; true")
         here.expect((told.code, told.stdout) == (0, ""), "in a sandbox: the host's files", told)
         told = here.told(peer, "(setsid sleep 4321 &); sleep 0.2; printf abc")
         here.expect(told.stdout == "abc", "in a sandbox: a daemon is left", told)

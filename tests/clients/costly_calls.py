@@ -155,9 +155,9 @@ def beside(port, call):
     return answer, longest.value
 
 
-def try_kind(program, name, kind):
-    """Whether a kind of call keeps its limits."""
-    with Server(program, [("costly", 2 * 10**8), ("other", 10**6)]) as server:
+def try_kind(program, name, kind, slots=0):
+    """Whether a kind of call keeps its limits. The instance that it is made to has so many slots."""
+    with Server(program, [("costly", 2 * 10**8, slots), ("other", 10**6)]) as server:
         team = Team(server.ports[0])
         call, named, wanted = kind(team)
         with open(f"/proc/{server.process.pid}/clear_refs", "w") as reset:

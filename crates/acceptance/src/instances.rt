@@ -1,5 +1,6 @@
 //! The servers of cases, and the instances that cases configure themselves.
 
+use keyed_maps::MapKey;
 use program_status::{Fault, Output};
 use server_core::Server;
 use server_events::{Configs, InstanceConfig};
@@ -28,7 +29,7 @@ pub fn configs(names: &[&str], quota: u64, output: &mut Output) -> Option<Config
 
 /// A server of these instances. It stands apart, so that whoever holds it is small.
 pub fn server(configs: &Configs, output: &mut Output) -> Option<Box<Server>> {
-    if let Ok(server) = Server::new(output.alloc, configs) {
+    if let Ok(server) = Server::new(output.alloc, MapKey::known(), configs) {
         if let Ok(server) = Box::new(output.alloc, server) {
             return Some(server);
         }

@@ -8,8 +8,8 @@ use Rattle.std.proofs.lemmas.List.{length-map, length-take-le, take-map}
 use Rattle.std.proofs.lemmas.Map.Made.{lookup-map_values}
 use Rattle.std.proofs.lemmas.Option.{slice_get-map}
 use Rattle.std.proofs.lemmas.Bool.Decides.{nat_tests}
-use Rattle.lru.specs.LruCache.{LruCache, put_entries}
-use Rattle.lru.proofs.CallerLemmas.{Contains-lookup_entry}
+use Rattle.keyed_maps.specs.LruCache.{LruCache, put_entries}
+use Rattle.keyed_maps.proofs.CacheLemmas.{Contains-lookup_entry}
 use Rattle.digest.specs.declared.Digest.{Digest}
 use Rattle.digest.specs.Naming.{same_digest}
 use Rattle.digest.proofs.Same.{same_equal}

@@ -1,5 +1,5 @@
 -- A tree that is named again further on can be left out.
-use Rattle.std.proofs.Common.{◌≡◌, ℕ, Bool, true, false, List, [], ◌∷◌, ◌++◌, ◌||◌, subst, Option, Some, None, Result, Ok, Err, is_some, refl, sym, ap, ◌∙◌, append_assoc, append-nil, if◌then◌else◌}
+use Rattle.std.proofs.Common.{◌≡◌, ℕ, Bool, true, false, List, [], ◌∷◌, ◌++◌, ◌||◌, ◌&&◌, subst, Option, Some, None, Result, Ok, Err, is_some, refl, sym, ap, ◌∙◌, append_assoc, append-nil, if◌then◌else◌}
 use Rattle.std.specs.Prelude.{option_map, reverse}
 use Rattle.std.proofs.lemmas.List.{reverse-append}
 use Rattle.std.specs.List.{list_any}
@@ -18,7 +18,7 @@ use Rattle.input_tree.specs.Uses.{AreAmong, visible_after_uses}
 use Rattle.input_tree.proofs.LastUses.{covered_uses_do}
 use Rattle.action_cache.specs.Complete.{and_then, with_digest, with_each, with_file, with_directory, with_root, with_set, with_streams, with_tree, with_tree_of, with_output_directory, with_output_file, with_outputs, blobs_of}
 use Rattle.action_cache.specs.Answering.{HaveSameUses}
-use Rattle.action_cache.specs.LastTrees.{are_of_one_tree, blobs_once, is_among, is_met, kept_from, last_trees, met_from, same_tree, unless_met, with_met, with_outputs_once, with_tree_met}
+use Rattle.action_cache.specs.LastTrees.{is_there, is_tree_there, are_trees_there, are_of_one_tree, blobs_once, is_among, is_met, kept_from, last_trees, met_from, same_tree, unless_met, with_met, with_outputs_once, with_tree_met}
 
 -- ---- what a part names comes behind what was named before
 
@@ -185,6 +185,30 @@ trees_are_one look o p h = go (written_digest o.tree_digest) (written_digest p.t
 
 pub last_trees_have_same_uses : (look : Lookup) (ds : List Digest) (os : List OutputDirectoryValue) → HaveSameUses (with_each (with_output_directory look) ds (last_trees os)) (with_each (with_output_directory look) ds os)
 last_trees_have_same_uses look ds os = last_have_same_uses (with_output_directory look) (output_behind look) are_of_one_tree (trees_are_one look) ds os
+
+-- ---- where a tree is not there, nothing is named
+
+absent_tree : (look : Lookup) (ds : List Digest) (d : Option Digest) → is_there look d ≡ false → with_tree_of look ds d ≡ None
+absent_tree look ds None h = refl
+absent_tree look ds (Some d) h = rw h refl
+
+absent_among : (look : Lookup) (ds : List Digest) (os : List OutputDirectoryValue) → are_trees_there look os ≡ false → with_each (with_output_directory look) ds os ≡ None
+absent_among look ds [] h = cc
+absent_among look ds (o ∷ os) h = go (is_tree_there look o) refl h (λ more later. absent_among look more os later) where
+  next : (p : Option (List Digest)) → ((more : List Digest) → are_trees_there look os ≡ false → with_each (with_output_directory look) more os ≡ None) → are_trees_there look os ≡ false → and_then p (λ more. with_each (with_output_directory look) more os) ≡ None
+  next None f later = refl
+  next (Some more) f later = f more later
+
+  go : (b : Bool) → is_tree_there look o ≡ b → (b && are_trees_there look os) ≡ false → ((more : List Digest) → are_trees_there look os ≡ false → with_each (with_output_directory look) more os ≡ None) → with_each (with_output_directory look) ds (o ∷ os) ≡ None
+  go true is later f = next (with_output_directory look ds o) f later
+  go false is later f = ap (λ (p : Option (List Digest)). and_then p (λ more. with_each (with_output_directory look) more os)) (absent_tree look ds (written_digest o.tree_digest) is)
+
+none_too : (p q : Option (List Digest)) → q ≡ None → HaveSameUses p q → p ≡ None
+none_too None q h same = refl
+none_too (Some ds) q h same = absurd (subst (λ (o : Option (List Digest)). HaveSameUses (Some ds) o) h same)
+
+pub none_of_the_last : (look : Lookup) (ds : List Digest) (os : List OutputDirectoryValue) → are_trees_there look os ≡ false → with_each (with_output_directory look) ds (last_trees os) ≡ None
+none_of_the_last look ds os h = none_too (with_each (with_output_directory look) ds (last_trees os)) (with_each (with_output_directory look) ds os) (absent_among look ds os h) (last_trees_have_same_uses look ds os)
 
 -- ---- going along the outputs from the last to the first
 

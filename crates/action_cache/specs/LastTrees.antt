@@ -1,5 +1,5 @@
 -- Trees that a result names many times: the last time is enough.
-use Rattle.std.specs.Prelude.{ℕ, Bool, false, List, [], ◌∷◌, ◌++◌, Option, Some, None, Result, Ok, Err, if◌then◌else◌}
+use Rattle.std.specs.Prelude.{ℕ, Bool, true, false, ◌&&◌, is_some, List, [], ◌∷◌, ◌++◌, Option, Some, None, Result, Ok, Err, if◌then◌else◌}
 use Rattle.std.specs.List.{list_any}
 use Rattle.digest.specs.declared.Digest.{Digest}
 use Rattle.digest.specs.Naming.{same_digest}
@@ -36,6 +36,18 @@ with_outputs_once look (Ok v) =
 
 abbrev pub blobs_once : Lookup → List ℕ → Option (List Digest)
 blobs_once look text = with_outputs_once look (value_of_text action_result_of text)
+
+-- whether the tree of an output directory is there
+abbrev pub is_there : Lookup → Option Digest → Bool
+is_there look None = false
+is_there look (Some d) = is_some (look d)
+
+abbrev pub is_tree_there : Lookup → OutputDirectoryValue → Bool
+is_tree_there look o = is_there look (written_digest o.tree_digest)
+
+abbrev pub are_trees_there : Lookup → List OutputDirectoryValue → Bool
+are_trees_there look [] = true
+are_trees_there look (o ∷ os) = is_tree_there look o && are_trees_there look os
 
 -- ---- by going along the outputs from the last to the first, with the trees that were met
 

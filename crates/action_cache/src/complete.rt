@@ -7,7 +7,7 @@ ghost use Rattle.input_tree.specs.Listing.{Lookup};
 ghost use Rattle.input_tree.specs.Texts.{texts_of};
 ghost use Rattle.tree_messages.specs.Results.{action_result_shown, output_directory_shown};
 ghost use Rattle.action_cache.specs.Complete.{with_each, with_output_directory};
-ghost use Rattle.action_cache.specs.LastTrees.{last_trees, blobs_once, with_outputs_once};
+ghost use Rattle.action_cache.specs.LastTrees.{are_trees_there, is_tree_there, last_trees, blobs_once, with_outputs_once};
 ghost use Rattle.action_cache.specs.Naming.{Names};
 
 use crate::last_trees::last_trees;
@@ -94,6 +94,32 @@ impl<'a> NamesBlobs for OutputDirectory<'a> {
     }
 }
 
+/// Whether the tree of an output directory is there.
+fn is_tree_there(blobs: &Blobs<'_>, output: &OutputDirectory<'_>) -> bool
+    ensures { result ≡ is_tree_there (texts_of blobs.now.pool.now blobs.now.view.now)
+        (output_directory_shown output.now) }
+{
+    match digest_written(&output.tree_digest) {
+        None => false,
+        Some(digest) => is_there(blobs, &digest),
+    }
+}
+
+/// Whether the tree of each output directory is there.
+fn are_there(blobs: &Blobs<'_>, outputs: &[OutputDirectory<'_>]) -> bool
+    ensures { result ≡ are_trees_there (texts_of blobs.now.pool.now blobs.now.view.now)
+        (map output_directory_shown outputs.now) }
+{
+    let mut left = outputs;
+    'outputs: while let [first, rest @ ..] = left {
+        if !is_tree_there(blobs, first) {
+            return false;
+        }
+        left = rest;
+    }
+    true
+}
+
 /// Names the blobs of output directories, the last of which comes first.
 fn name_from_last(
     blobs: &Blobs<'_>,
@@ -113,6 +139,20 @@ fn name_from_last(
 
 /// Names each tree that output directories name and its files, where it is named last.
 #[tactic(auto, using(crate::proofs::Trees::kept_are_last))]
+fn name_last_trees(
+    blobs: &Blobs<'_>,
+    named: &mut Vec<Digest>,
+    outputs: &[OutputDirectory<'_>],
+) -> Result<(), Unnamed>
+    ensures { Names (λ _. named.new.items) result
+        (with_each (with_output_directory (texts_of blobs.now.pool.now blobs.now.view.now))
+        named.old.items (last_trees (map output_directory_shown outputs.now))) }
+{
+    let last = last_trees(blobs.alloc, blobs.pool.key(), outputs)?;
+    name_from_last(blobs, named, last)
+}
+
+/// The same. Nothing is remembered of trees before all are known to be there.
 fn name_trees(
     blobs: &Blobs<'_>,
     named: &mut Vec<Digest>,
@@ -122,8 +162,10 @@ fn name_trees(
         (with_each (with_output_directory (texts_of blobs.now.pool.now blobs.now.view.now))
         named.old.items (last_trees (map output_directory_shown outputs.now))) }
 {
-    let last = last_trees(blobs.alloc, outputs)?;
-    name_from_last(blobs, named, last)
+    if !are_there(blobs, outputs) {
+        return Err(Unnamed::Incomplete);
+    }
+    name_last_trees(blobs, named, outputs)
 }
 
 /// The digests of the blobs that the parts of a result name: its files, its trees, each followed by

@@ -10,7 +10,7 @@ ghost use Rattle.action_cache.specs.Results.{result_shown, front_within, results
 ghost use Rattle.action_cache.specs.Lengths.{length_or_zero};
 
 use digest::Digest;
-use lru::LruCache;
+use keyed_maps::{KeyedCache, MapKey, new_cache};
 use std::alloc::{AllocError, Global};
 use std::marker::Model;
 use std::num::NonZeroUsize;
@@ -24,7 +24,7 @@ pub const MOST_RESULT_BYTES: u64 = 67_108_864;
 /// One more than there are at most, since the oldest goes after the newest has come.
 const CAPACITY: usize = MOST_RESULTS + 1;
 
-type Cache = LruCache<Digest, Vec<u8>>;
+type Cache = KeyedCache<Digest, Vec<u8>>;
 
 /// Makes the pair of the digest the most recently used.
 fn promote(cache: &mut Cache, digest: &Digest)
@@ -183,12 +183,12 @@ impl Model for Results {
 }
 
 impl Results {
-    /// No results.
-    pub fn new(alloc: Global) -> Result<Results, AllocError>
+    /// No results. No promise speaks of the key.
+    pub fn new(alloc: Global, key: MapKey) -> Result<Results, AllocError>
         ensures { IfOk result (λ results. results ≡ []) }
     {
         let most = NonZeroUsize::new(CAPACITY).unwrap();
-        let cache = LruCache::sparse(alloc, most)?;
+        let cache = new_cache(alloc, key, most)?;
         Ok(Results { cache, bytes: 0 })
     }
 

@@ -12,11 +12,11 @@ use crate::node::PlanNode;
 use crate::reading::directory_nodes;
 use blob_pool::Pool;
 use digest::Digest;
-use indexmap::IndexMap;
+use keyed_maps::KeyedMap;
 use std::alloc::{AllocError, Global};
 
 /// The nodes of the directories that a walk has read.
-pub type ReadDirectories = IndexMap<Digest, Vec<PlanNode>>;
+pub type ReadDirectories = KeyedMap<Digest, Vec<PlanNode>>;
 
 /// The same nodes in a directory of a level.
 fn copy_nodes(alloc: Global, level: usize, nodes: &[PlanNode]) -> Result<Vec<PlanNode>, AllocError>

@@ -13,7 +13,7 @@ use crate::read_once::{ReadDirectories, nodes_once};
 use crate::reading::directory_nodes;
 use blob_pool::Pool;
 use digest::Digest;
-use indexmap::IndexMap;
+use keyed_maps::KeyedMap;
 use std::alloc::{AllocError, Global};
 use tree_nodes::NodeKind;
 
@@ -103,7 +103,7 @@ fn nodes_met<F: Finds>(
     let nodes = directory_nodes(alloc, view, pool, 1, root)?;
     let mut todo = Vec::new(alloc);
     stack(&mut todo, nodes)?;
-    let mut read = IndexMap::new(alloc);
+    let mut read = KeyedMap::with_hasher(alloc, pool.key());
     walk_along(alloc, view, pool, &mut read, todo)
 }
 

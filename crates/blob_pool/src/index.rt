@@ -7,11 +7,11 @@ ghost use Rattle.digest.specs.Naming.{same_digest};
 ghost use Rattle.blob_pool.specs.Listed.{Listing, IsInListing};
 
 use digest::Digest;
+use keyed_maps::{KeyedTable, MapKey};
 use std::alloc::{AllocError, Global};
-use std::collections::HashMap;
 use std::marker::Model;
 
-type Firsts = HashMap<Digest, usize>;
+type Firsts = KeyedTable<Digest, usize>;
 
 /// Lists a slot under its digest.
 fn list(
@@ -83,14 +83,19 @@ impl Model for Index {
 
 impl Index {
     /// No slots yet.
-    pub fn new(alloc: Global) -> Index
+    pub fn new(alloc: Global, key: MapKey) -> Index
         ensures firsts { result.firsts ≡ [] }
         ensures others { result.others ≡ [] }
     {
         Index {
-            firsts: HashMap::new(alloc),
+            firsts: KeyedTable::with_hasher(alloc, key),
             others: Vec::new(alloc),
         }
+    }
+
+    /// The key of its table.
+    pub fn key(&self) -> MapKey {
+        *self.firsts.hasher()
     }
 
     /// The first slot of a digest.

@@ -13,6 +13,7 @@ use crate::index::Index;
 use crate::slot::Slot;
 use crate::slots::{hold_again, put_text, take_text, text, totals};
 use digest::{Digest, HashFunction};
+use keyed_maps::MapKey;
 use slab::Slab;
 use std::alloc::{AllocError, Global};
 use std::marker::Model;
@@ -49,15 +50,20 @@ impl Model for Pool {
 }
 
 impl Pool {
-    /// No texts.
-    pub fn new(alloc: Global) -> Pool
+    /// No texts. The key decides where the pool looks for a text, and no promise speaks of it.
+    pub fn new(alloc: Global, key: MapKey) -> Pool
         ensures { result ≡ [] }
     {
         Pool {
             alloc,
             slots: Slab::new(alloc),
-            index: Index::new(alloc),
+            index: Index::new(alloc, key),
         }
+    }
+
+    /// The key of its maps, for those that are made beside it.
+    pub fn key(&self) -> MapKey {
+        self.index.key()
     }
 
     /// How many texts are held, and how many bytes they have together. It takes no memory.

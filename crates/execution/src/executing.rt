@@ -33,6 +33,7 @@ use execution_messages::{End, ExecutionStage, Fault, completed, unfinished};
 use input_tree::use_all;
 use instance_view::{Sight, View};
 use job_queue::{LAST_NUMBER, Queue};
+use keyed_maps::MapKey;
 use rpc::Refusal;
 use std::alloc::{AllocError, Global};
 
@@ -60,6 +61,7 @@ fn look_up(
 /// An execution is done at once: a number is used up, and its Operation is kept and handed out.
 fn tell_done(
     alloc: Global,
+    key: MapKey,
     queue: &mut Queue<Job>,
     action: &Digest,
     end: End,
@@ -72,7 +74,7 @@ fn tell_done(
         (completed_text queue.old.next action.now (end_shown end)) queue.old) }
     ensures err { OnErr result (queue.new ≡ queue.old) }
 {
-    let operation = completed(alloc, queue.next(), action, end)?;
+    let operation = completed(alloc, key, queue.next(), action, end)?;
     let told = Vec::from_slice(alloc, &operation)?;
     queue.push_done(operation);
     Ok(told)
@@ -104,7 +106,7 @@ fn answer_found(
     ensures limit { view.new.limit ≡ view.old.limit }
     ensures jobs { (k : ℕ) → jobs_holders queue.new k ≡ jobs_holders queue.old k }
 {
-    let told = tell_done(alloc, queue, action, End::Finds(found.text))?;
+    let told = tell_done(alloc, view.key(), queue, action, End::Finds(found.text))?;
     results.touch(action);
     use_all(view, &found.blobs);
     Ok(ExecuteAnswer::Done(told))
@@ -113,6 +115,7 @@ fn answer_found(
 /// Answers by a fault.
 fn answer_fault(
     alloc: Global,
+    key: MapKey,
     queue: &mut Queue<Job>,
     action: &Digest,
     fault: Fault,
@@ -131,7 +134,7 @@ fn answer_fault(
     ensures err { OnErr result (queue.new ≡ queue.old) }
     ensures jobs { (k : ℕ) → jobs_holders queue.new k ≡ jobs_holders queue.old k }
 {
-    let told = tell_done(alloc, queue, action, End::Fails(fault, missing))?;
+    let told = tell_done(alloc, key, queue, action, End::Fails(fault, missing))?;
     Ok(ExecuteAnswer::Done(told))
 }
 
@@ -213,7 +216,7 @@ fn answer_prepared(
     match prepare(alloc, &Sight::new(view, parent), pool, action) {
         Ok(prepared) => answer_job(alloc, view, parent, pool, queue, action, prepared),
         Err(Unprepared::Faulty(fault, missing)) => {
-            answer_fault(alloc, queue, action, fault, missing)
+            answer_fault(alloc, pool.key(), queue, action, fault, missing)
         }
         Err(Unprepared::NoMemory) => Err(CallError::NoMemory),
     }

@@ -94,7 +94,7 @@ pub(crate) fn make_job(
         ≡ job_of (texts_of pool.old view.now) action.now (prepared_shown prepared.now)) }
     ensures moves { Moves pool.old pool.new no_holders (made_holders result) }
 {
-    let once = distinct(alloc, digests)?;
+    let once = distinct(alloc, pool.key(), digests)?;
     let texts = keep_texts(alloc, view, pool, &once)?;
     Ok(Job {
         timeout: prepared.action.timeout,

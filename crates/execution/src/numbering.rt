@@ -5,12 +5,12 @@ ghost use Rattle.execution.specs.Numbers.{AreNumbers, GivesNumber, digest_number
 
 use crate::keeping::KeptText;
 use digest::Digest;
-use indexmap::IndexMap;
+use keyed_maps::{KeyedMap, MapKey};
 use std::alloc::{AllocError, Global};
 
 /// Gives a digest a number, unless it has one.
 fn give_number(
-    numbers: &mut IndexMap<Digest, usize>,
+    numbers: &mut KeyedMap<Digest, usize>,
     digest: Digest,
     number: usize,
 ) -> Result<(), AllocError>
@@ -26,11 +26,12 @@ fn give_number(
 /// The numbers of texts by their digests: of each digest that of the first.
 pub(crate) fn text_numbers(
     alloc: Global,
+    key: MapKey,
     texts: &[KeptText],
-) -> Result<IndexMap<Digest, usize>, AllocError>
+) -> Result<KeyedMap<Digest, usize>, AllocError>
     ensures { IfOk result (λ numbers. AreNumbers (kept_digests texts.now) numbers.entries) }
 {
-    let mut numbers = IndexMap::with_capacity(alloc, texts.len())?;
+    let mut numbers = KeyedMap::with_capacity_and_hasher(alloc, texts.len(), key)?;
     let mut number = 0;
     let mut left = texts;
     'texts: while let [first, rest @ ..] = left {
@@ -42,7 +43,7 @@ pub(crate) fn text_numbers(
 }
 
 /// The number of a digest's text, or how many texts there are.
-pub fn number_of(texts: &[KeptText], numbers: &IndexMap<Digest, usize>, digest: &Digest) -> usize
+pub fn number_of(texts: &[KeptText], numbers: &KeyedMap<Digest, usize>, digest: &Digest) -> usize
     requires { AreNumbers (kept_digests texts.now) numbers.now.entries }
     ensures { result ≡ digest_number (kept_digests texts.now) digest.now }
 {

@@ -18,8 +18,8 @@ use crate::numbering::{number_of, text_numbers};
 use actions::{ActionTaken, Finds, Plan, TreeFault, read_action, walk};
 use blob_pool::Pool;
 use digest::Digest;
-use indexmap::IndexMap;
 use instance_view::{Seen, copy_of};
+use keyed_maps::KeyedMap;
 use std::alloc::{AllocError, Global};
 use std::marker::Model;
 
@@ -28,7 +28,7 @@ use std::marker::Model;
 pub struct FoundTexts<'a> {
     texts: &'a [KeptText],
     /// Of each digest the number of its first text.
-    numbers: &'a IndexMap<Digest, usize>,
+    numbers: &'a KeyedMap<Digest, usize>,
 }
 
 impl<'a> Model for FoundTexts<'a> {
@@ -47,7 +47,7 @@ impl<'a> Model for FoundTexts<'a> {
 
 impl<'a> FoundTexts<'a> {
     /// Texts that a job keeps, with their numbers (`text_numbers`).
-    fn new(texts: &'a [KeptText], numbers: &'a IndexMap<Digest, usize>) -> FoundTexts<'a>
+    fn new(texts: &'a [KeptText], numbers: &'a KeyedMap<Digest, usize>) -> FoundTexts<'a>
         requires { AreNumbers (kept_digests texts.now) numbers.now.entries }
         ensures { result ≡ kept_entries texts.now }
     {
@@ -73,7 +73,7 @@ impl<'a> Finds for FoundTexts<'a> {
 }
 
 /// The text of a digest among texts.
-fn seen_at(texts: &[KeptText], numbers: &IndexMap<Digest, usize>, digest: &Digest) -> Option<Seen>
+fn seen_at(texts: &[KeptText], numbers: &KeyedMap<Digest, usize>, digest: &Digest) -> Option<Seen>
     requires { AreNumbers (kept_digests texts.now) numbers.now.entries }
     ensures { (p : Slots) → option_map (text_seen p) result
         ≡ lookup (same_digest digest.now) (blobs_in p (kept_entries texts.now)) }
@@ -157,7 +157,7 @@ pub struct TaskRead {
     /// What stands in its input root.
     pub plan: Plan,
     /// The numbers of its texts by their digests (`text_numbers`).
-    pub numbers: IndexMap<Digest, usize>,
+    pub numbers: KeyedMap<Digest, usize>,
 }
 
 /// What a task says, read off its texts in the pool.
@@ -169,7 +169,7 @@ pub fn read_task(alloc: Global, pool: &Pool, task: &Task) -> Result<TaskRead, Al
     ensures numbers { IfOk result (λ read.
         AreNumbers (kept_digests task.now.texts.items) read.numbers.entries) }
 {
-    let numbers = text_numbers(alloc, &task.texts)?;
+    let numbers = text_numbers(alloc, pool.key(), &task.texts)?;
     let texts = FoundTexts::new(&task.texts, &numbers);
     let action = action_among(alloc, pool, &texts, &task.action)?;
     let command = command_among(alloc, pool, &texts, &action)?;
@@ -187,7 +187,7 @@ pub fn read_task(alloc: Global, pool: &Pool, task: &Task) -> Result<TaskRead, Al
 pub fn read_task_command(alloc: Global, pool: &Pool, task: &Task) -> Result<Vec<u8>, AllocError>
     ensures { IfOk result (λ command. command.items ≡ (task_in pool.now task.now).command) }
 {
-    let numbers = text_numbers(alloc, &task.texts)?;
+    let numbers = text_numbers(alloc, pool.key(), &task.texts)?;
     let texts = FoundTexts::new(&task.texts, &numbers);
     let action = action_among(alloc, pool, &texts, &task.action)?;
     let command = command_among(alloc, pool, &texts, &action)?;

@@ -12,6 +12,7 @@ ghost use Rattle.execution.specs.Taking.{EndJobs, step_shown, steps_shown};
 use crate::job::{Executions, Job};
 use execution_messages::{End, ExecutionStage, Fault, completed, unfinished};
 use job_queue::{Queue, Running};
+use keyed_maps::MapKey;
 use std::alloc::{AllocError, Global};
 
 /// What happens to a job at an event.
@@ -39,6 +40,7 @@ pub enum Step {
 /// Adds the step of a running job, where a moment has reached its deadline.
 fn add_due(
     alloc: Global,
+    key: MapKey,
     steps: &mut Vec<Step>,
     moment: u64,
     running: &(u64, Running<Job>),
@@ -51,7 +53,7 @@ fn add_due(
         return Ok(());
     }
     let end = End::Fails(Fault::TimedOut, Vec::new(alloc));
-    let operation = completed(alloc, *number, &running.job.task.action, end)?;
+    let operation = completed(alloc, key, *number, &running.job.task.action, end)?;
     steps.push(Step::TimesOut {
         number: *number,
         operation,
@@ -62,6 +64,7 @@ fn add_due(
 /// The steps of all running jobs whose deadline a moment has reached.
 fn steps_due(
     alloc: Global,
+    key: MapKey,
     moment: u64,
     running: &[(u64, Running<Job>)],
 ) -> Result<Vec<Step>, AllocError>
@@ -71,7 +74,7 @@ fn steps_due(
     let mut steps = Vec::new(alloc);
     let mut left = running;
     while let [first, rest @ ..] = left {
-        add_due(alloc, &mut steps, moment, first)?;
+        add_due(alloc, key, &mut steps, moment, first)?;
         left = rest;
     }
     Ok(steps)
@@ -118,6 +121,7 @@ fn add_starts(
 #[tactic(auto, using(crate::proofs::Taken::ended_some, crate::proofs::Taken::ended_none))]
 fn step_ended(
     alloc: Global,
+    key: MapKey,
     number: u64,
     end: End,
     queue: &Queue<Job>,
@@ -129,7 +133,7 @@ fn step_ended(
     let Some(job) = queue.running_job(number) else {
         return Ok(steps);
     };
-    let operation = completed(alloc, number, &job.task.action, end)?;
+    let operation = completed(alloc, key, number, &job.task.action, end)?;
     steps.push(Step::Ends { number, operation })?;
     Ok(steps)
 }
@@ -158,6 +162,7 @@ fn add_starts_behind(
 /// slots for. Nothing is changed: [`crate::take_steps`] takes them.
 pub fn tick_steps(
     alloc: Global,
+    key: MapKey,
     executions: &Executions,
     moment: u64,
 ) -> Result<Vec<Step>, AllocError>
@@ -165,7 +170,7 @@ pub fn tick_steps(
     ensures { (p : Slots) → IfOk result (λ steps. steps_shown steps.items
         ≡ tick_steps executions.now.slots moment (jobs_in p executions.now.queue)) }
 {
-    let mut steps = steps_due(alloc, moment, executions.queue.running())?;
+    let mut steps = steps_due(alloc, key, moment, executions.queue.running())?;
     add_starts_behind(alloc, executions, moment, &mut steps)?;
     Ok(steps)
 }
@@ -175,6 +180,7 @@ pub fn tick_steps(
 /// changed.
 pub fn end_steps(
     alloc: Global,
+    key: MapKey,
     executions: &Executions,
     moment: u64,
     number: u64,
@@ -185,7 +191,7 @@ pub fn end_steps(
         ≡ end_steps executions.now.slots moment number (end_shown end)
         (jobs_in p executions.now.queue)) }
 {
-    let mut steps = step_ended(alloc, number, end, &executions.queue)?;
+    let mut steps = step_ended(alloc, key, number, end, &executions.queue)?;
     add_starts_behind(alloc, executions, moment, &mut steps)?;
     Ok(steps)
 }

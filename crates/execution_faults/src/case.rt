@@ -8,6 +8,7 @@ use crate::fake_folder::FakeFolder;
 use crate::fake_programs::FakePrograms;
 use crate::fake_sockets::{Client, FakeSockets, Habits};
 use job_runs::JobRunner;
+use keyed_maps::MapKey;
 use program_status::Output;
 use run_calls::RunKey;
 use run_logs::{LoggedFolder, LoggedPrograms};
@@ -157,6 +158,7 @@ pub fn carry_out<'a>(
     let mut errors = ErrorLines::new(alloc, Vec::new(alloc), NAMES.len())?;
     serve(
         alloc,
+        MapKey::known(),
         configs,
         &mut sockets,
         &mut runs,
@@ -207,6 +209,7 @@ fn cut_short(
     let mut errors = ErrorLines::new(alloc, Vec::new(alloc), NAMES.len())?;
     serve(
         alloc,
+        MapKey::known(),
         configs,
         &mut sockets,
         &mut runs,

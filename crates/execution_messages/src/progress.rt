@@ -11,6 +11,7 @@ use crate::status::fault_response;
 use crate::written::{WrittenDigest, write_digest};
 use crate::{ExecuteOperationMetadata, ExecuteResponse, Operation};
 use digest::Digest;
+use keyed_maps::MapKey;
 use message_fields::Message;
 use reapi_messages::Any;
 use std::alloc::{AllocError, Global};
@@ -129,7 +130,7 @@ pub fn unfinished(
 }
 
 /// The response of an execution.
-fn response(alloc: Global, end: End) -> Result<Vec<u8>, AllocError>
+fn response(alloc: Global, key: MapKey, end: End) -> Result<Vec<u8>, AllocError>
     ensures { IfOk result (λ text. text.items ≡ response_text (end_shown end)) }
 {
     match end {
@@ -149,13 +150,14 @@ fn response(alloc: Global, end: End) -> Result<Vec<u8>, AllocError>
             };
             response.encode(alloc)
         }
-        End::Fails(fault, missing) => fault_response(alloc, fault, &missing),
+        End::Fails(fault, missing) => fault_response(alloc, key, fault, &missing),
     }
 }
 
 /// The Operation of an execution that has ended.
 pub fn completed(
     alloc: Global,
+    key: MapKey,
     number: u64,
     action: &Digest,
     end: End,
@@ -164,7 +166,7 @@ pub fn completed(
     ensures { IfOk result (λ text. text.items
         ≡ completed_text number action.now (end_shown end)) }
 {
-    let response = response(alloc, end)?;
+    let response = response(alloc, key, end)?;
     let action = write_digest(alloc, action)?;
     operation(alloc, number, 4, &action, true, Some(&response))
 }

@@ -11,7 +11,7 @@ ghost use Rattle.reapi_messages.specs.Statuses.{any_shown};
 use crate::fault::Fault;
 use crate::{ExecuteResponse, PreconditionFailure, Violation};
 use digest::Digest;
-use indexmap::IndexSet;
+use keyed_maps::{KeyedSet, MapKey};
 use message_fields::Message;
 use reapi_messages::{Any, Status};
 use std::alloc::{AllocError, Global};
@@ -22,7 +22,7 @@ const MISSING: &str = "MISSING";
 
 /// A digest that was not met goes last.
 fn add(
-    seen: &mut IndexSet<Digest>,
+    seen: &mut KeyedSet<Digest>,
     found: &mut Vec<Digest>,
     digest: &Digest,
 ) -> Result<(), AllocError>
@@ -39,10 +39,10 @@ fn add(
 }
 
 /// Each digest once, in the order met.
-pub fn distinct(alloc: Global, digests: &[Digest]) -> Result<Vec<Digest>, AllocError>
+pub fn distinct(alloc: Global, key: MapKey, digests: &[Digest]) -> Result<Vec<Digest>, AllocError>
     ensures { IfOk result (λ found. found.items ≡ distinct digests.now) }
 {
-    let mut seen = IndexSet::new(alloc);
+    let mut seen = KeyedSet::with_hasher(alloc, key);
     let mut found = Vec::new(alloc);
     let mut left = digests;
     while let [first, rest @ ..] = left {
@@ -104,10 +104,10 @@ fn violations<'a>(alloc: Global, subjects: &'a [String]) -> Result<Vec<Violation
 }
 
 /// The failure that names blobs that are missing, each once.
-fn failure_text(alloc: Global, missing: &[Digest]) -> Result<Vec<u8>, AllocError>
+fn failure_text(alloc: Global, key: MapKey, missing: &[Digest]) -> Result<Vec<u8>, AllocError>
     ensures { IfOk result (λ text. text.items ≡ failure_text missing.now) }
 {
-    let digests = distinct(alloc, missing)?;
+    let digests = distinct(alloc, key, missing)?;
     let subjects = subjects(alloc, &digests)?;
     let violations = violations(alloc, &subjects)?;
     let failure = PreconditionFailure { violations };
@@ -156,13 +156,14 @@ fn details<'a>(
 /// missing.
 pub fn fault_response(
     alloc: Global,
+    key: MapKey,
     fault: Fault,
     missing: &[Digest],
 ) -> Result<Vec<u8>, AllocError>
     ensures { IfOk result (λ text. text.items ≡ text_for execute_response_records
         (failed_with (status_of fault missing.now))) }
 {
-    let failure = failure_text(alloc, missing)?;
+    let failure = failure_text(alloc, key, missing)?;
     let details = details(alloc, missing, &failure)?;
     response_with(alloc, fault, details)
 }

@@ -6,13 +6,13 @@ ghost use Rattle.host_sockets.specs.Ports.{OnlyClosedGo, OpenStay, has_open};
 
 use crate::counts::SocketCounts;
 use crate::lingering::{LINGERING_LIMIT, Lingering};
+use keyed_maps::{KeyedTable, MapKey};
 use libc::net;
 use mio::net::{TcpListener, TcpStream};
 use mio::{Interest, Registry, Token};
 use serve::is_not_ready;
 use std::alloc::Global;
 use std::cell::Cell;
-use std::collections::HashMap;
 use std::io::{self, ErrorKind, Read, Write};
 use std::net::{Shutdown, SocketAddr};
 use std::os::fd::AsRawFd;
@@ -91,7 +91,7 @@ pub(crate) struct Port {
     /// Whether a client may wait at it: one came since the port was found empty.
     may_wait: Cell<bool>,
     /// By their numbers.
-    streams: HashMap<u32, TcpStream>,
+    streams: KeyedTable<u32, TcpStream>,
     /// Those that were closed.
     lingering: Vec<Lingering>,
 }
@@ -107,7 +107,7 @@ impl Port {
             address,
             listener,
             may_wait: Cell::new(true),
-            streams: HashMap::new(alloc),
+            streams: KeyedTable::with_hasher(alloc, MapKey::known()),
             lingering: Vec::with_capacity(alloc, LINGERING_LIMIT)?,
         })
     }

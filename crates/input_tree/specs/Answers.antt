@@ -1,6 +1,6 @@
 -- A call's answer beside its meaning, where running out of memory is no meaning.
 use Rattle.std.specs.Prelude.{◌≡◌, List, Result, Ok, Err}
-use Rattle.indexmap.specs.IndexSet.{IndexSet}
+use Rattle.keyed_maps.specs.IndexSet.{IndexSet}
 use Rattle.digest.specs.declared.Digest.{Digest}
 use Rattle.input_tree.specs.declared.error.TreeRefusal.{TreeRefusal}
 use Rattle.input_tree.specs.declared.error.GetTreeError.{GetTreeError}

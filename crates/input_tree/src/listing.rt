@@ -10,8 +10,8 @@ use crate::directory::children;
 use crate::error::{GetTreeError, TreeRefusal};
 use blob_pool::Pool;
 use digest::Digest;
-use indexmap::IndexSet;
 use instance_view::Sight;
+use keyed_maps::KeyedSet;
 use std::alloc::{AllocError, Global};
 use std::collections::VecDeque;
 
@@ -21,11 +21,12 @@ pub const MOST_DIRECTORIES: usize = 10_000;
 /// The directories that are listed, and what is known of them and of others.
 #[derive(Drop)]
 pub struct Listing {
-    pub listed: IndexSet<Digest>,
+    pub listed: KeyedSet<Digest>,
     /// The digests of the directories in each listed directory from a place on.
     pub due: VecDeque<Vec<Digest>>,
-    /// Digests of which it is known that they have no directory.
-    pub others: IndexSet<Digest>,
+    /// Digests of texts of which it is known that they spell no directory. One of which there is no
+    /// text is looked for each time it is named, and not remembered.
+    pub others: KeyedSet<Digest>,
 }
 
 /// Lists a directory that is not listed yet.
@@ -46,6 +47,9 @@ fn list_one(
         listing.new.listed.keys listing.new.due.items) }
 {
     if listing.listed.contains(digest) || listing.others.contains(digest) {
+        return Ok(());
+    }
+    if !view.contains(digest) {
         return Ok(());
     }
     match children(alloc, view, pool, digest)? {
@@ -121,7 +125,7 @@ pub fn list_tree(
     view: &Sight<'_>,
     pool: &Pool,
     root: &Digest,
-) -> Result<IndexSet<Digest>, GetTreeError>
+) -> Result<KeyedSet<Digest>, GetTreeError>
     ensures { Lists result (tree_list (texts_of pool.now view.now) root.now) }
 {
     if !view.contains(root) {
@@ -131,9 +135,9 @@ pub fn list_tree(
         return Err(GetTreeError::Refused(TreeRefusal::BadDirectory));
     };
     let mut listing = Listing {
-        listed: IndexSet::new(alloc),
+        listed: KeyedSet::with_hasher(alloc, pool.key()),
         due: VecDeque::new(alloc),
-        others: IndexSet::new(alloc),
+        others: KeyedSet::with_hasher(alloc, pool.key()),
     };
     listing.listed.insert(*root)?;
     listing.due.push_back(inside)?;

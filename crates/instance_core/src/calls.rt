@@ -15,7 +15,7 @@ use crate::event::{CallId, Reply, ReplyItem};
 use bytestream::OpenWrite;
 use call_counts::CallCounts;
 use execution::{Step, Told};
-use indexmap::IndexMap;
+use keyed_maps::{KeyedMap, MapKey};
 use rpc::Method;
 use std::alloc::{AllocError, Global};
 use std::marker::Model;
@@ -145,7 +145,7 @@ fn length_of(item: &ReplyItem) -> u64 {
 }
 
 /// Puts a call in the place of the one of that name, which is there.
-fn replace(by_id: &mut IndexMap<CallId, Call>, id: CallId, call: Call)
+fn replace(by_id: &mut KeyedMap<CallId, Call>, id: CallId, call: Call)
     requires there { IsSome (call_at id by_id.old.entries) }
     ensures entries { by_id.new.entries ≡ with_call id call by_id.old.entries }
     ensures once { IsDistinct same_call (keys_of by_id.new.entries) }
@@ -160,7 +160,7 @@ fn replace(by_id: &mut IndexMap<CallId, Call>, id: CallId, call: Call)
 /// but the calls in course is of any consequence to what is answered.
 #[derive(Drop)]
 pub struct Calls {
-    by_id: IndexMap<CallId, Call>,
+    by_id: KeyedMap<CallId, Call>,
     counts: Box<CallCounts>,
 }
 
@@ -176,13 +176,13 @@ impl Model for Calls {
 
 impl Calls {
     /// No calls yet.
-    pub fn new(alloc: Global) -> Result<Calls, AllocError>
+    pub fn new(alloc: Global, key: MapKey) -> Result<Calls, AllocError>
         ensures none { IfOk result (λ calls. calls ≡ []) }
         ensures calls { IfOk result AreInCourse }
     {
         let counts = Box::new(alloc, CallCounts::new())?;
         Ok(Calls {
-            by_id: IndexMap::new(alloc),
+            by_id: KeyedMap::with_hasher(alloc, key),
             counts,
         })
     }

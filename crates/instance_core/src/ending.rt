@@ -36,6 +36,7 @@ use blob_pool::Pool;
 use digest::Digest;
 use execution::{Executions, end_steps};
 use execution_messages::End;
+use keyed_maps::MapKey;
 use outcomes::{Ending, OutputBlob, admit_blobs, end_of_run};
 use run_outcomes::Outcome;
 use std::alloc::{AllocError, Global};
@@ -43,6 +44,7 @@ use std::alloc::{AllocError, Global};
 /// Makes ready that the job that runs under a number ends so.
 fn ready_to_end(
     alloc: Global,
+    key: MapKey,
     settings: &Settings,
     executions: &Executions,
     calls: &Calls,
@@ -59,7 +61,7 @@ fn ready_to_end(
         (λ turn. turn.orders.items ≡ orders_by (steps_shown turn.steps.items)) }
     ensures given { (k : ℕ) → IfOk result (λ turn. replies_holders turn.replies.items k ≡ 0) }
 {
-    let steps = end_steps(alloc, executions, settings.moment, job, end)?;
+    let steps = end_steps(alloc, key, executions, settings.moment, job, end)?;
     make_ready(alloc, calls, steps, None)
 }
 
@@ -160,7 +162,15 @@ pub fn on_outcome(
         outcome,
     )?;
     let Ending { end, blobs, stored } = ending;
-    let turn = ready_to_end(alloc, settings, executions, calls, job, end)?;
+    let turn = ready_to_end(
+        alloc,
+        contents.view.key(),
+        settings,
+        executions,
+        calls,
+        job,
+        end,
+    )?;
     keep_outputs(settings, contents, pool, &action, blobs, stored)?;
     Ok(turn)
 }

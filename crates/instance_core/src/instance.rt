@@ -36,6 +36,7 @@ use call_counts::CallCounts;
 use execution::{Executions, Step, Task, forget_job, start_steps, take_steps, task_of, tick_steps};
 use instance_view::View;
 use job_queue::Queue;
+use keyed_maps::MapKey;
 use quota_evict::MOST_BLOBS;
 use run_outcomes::Outcome;
 use std::alloc::{AllocError, Global};
@@ -83,7 +84,13 @@ impl Model for Instance {
 impl Instance {
     /// An instance of at most 2^40 bytes that has no texts, no uploads, no results, no jobs and no
     /// calls yet.
-    pub fn new(alloc: Global, name: &str, quota: u64, slots: u32) -> Result<Instance, AllocError>
+    pub fn new(
+        alloc: Global,
+        key: MapKey,
+        name: &str,
+        quota: u64,
+        slots: u32,
+    ) -> Result<Instance, AllocError>
         requires quota { quota ≤ most_stored_bytes }
         requires slots { slots ≤ MOST_RUNNING }
         ensures opened { (p : Slots) →
@@ -93,13 +100,13 @@ impl Instance {
         ensures holders { (k : ℕ) → IfOk result (λ instance. holders_of_instance instance k ≡ 0) }
     {
         let name = String::from_str(alloc, name)?;
-        let view = View::new(alloc, MOST_BLOBS)?;
-        let results = Results::new(alloc)?;
+        let view = View::new(alloc, key, MOST_BLOBS)?;
+        let results = Results::new(alloc, key)?;
         let executions = Executions {
             slots: slots as usize,
             queue: Queue::new(alloc)?,
         };
-        let calls = Calls::new(alloc)?;
+        let calls = Calls::new(alloc, key)?;
         Ok(Instance {
             settings: Settings {
                 name,
@@ -109,7 +116,7 @@ impl Instance {
             },
             contents: Contents {
                 view,
-                uploads: Uploads::new(alloc),
+                uploads: Uploads::new(alloc, key),
                 results,
                 executions,
             },
@@ -334,7 +341,12 @@ impl Instance {
             (λ turn. AllByRecursion IsShortReply (map (reply_shown p) turn.replies.items)) }
     {
         let executions = &self.contents.executions;
-        let steps = tick_steps(alloc, executions, self.settings.moment)?;
+        let steps = tick_steps(
+            alloc,
+            self.contents.view.key(),
+            executions,
+            self.settings.moment,
+        )?;
         make_ready(alloc, &self.calls, steps, None)
     }
 

@@ -13,7 +13,7 @@ ghost use Rattle.instance_view.specs.Shown.{ViewEntry, ViewValue, blobs_in, entr
 use crate::dropped::{Dropped, Drops};
 use blob_pool::{Draft, Kept, Pool, keep, release_kept};
 use digest::Digest;
-use lru::LruCache;
+use keyed_maps::{KeyedCache, MapKey, new_cache};
 use std::alloc::{AllocError, Global};
 use std::marker::Model;
 use std::num::NonZeroUsize;
@@ -21,7 +21,7 @@ use std::num::NonZeroUsize;
 /// The largest limit of a view, so that the holders of a text are always counted.
 pub const MOST_LIMIT: usize = 1 << 31;
 
-type Cache = LruCache<Digest, Used>;
+type Cache = KeyedCache<Digest, Used>;
 
 /// Where a text lies in the pool, and the moment of its last use, which is for an operator alone.
 #[derive(Drop)]
@@ -134,6 +134,7 @@ fn pop(cache: &mut Cache) -> Option<(Digest, Used)>
 /// two digests has two entries, each with its own place and its own share of the quota.
 pub struct View {
     cache: Cache,
+    key: MapKey,
     limit: usize,
     bytes: u64,
     /// The moment of what happens, in milliseconds. It and what was dropped are for an operator
@@ -147,6 +148,7 @@ impl Drop for View {
     fn drop(self) {
         let View {
             cache,
+            key: _,
             limit: _,
             bytes: _,
             moment: _,
@@ -170,17 +172,18 @@ impl Model for View {
 }
 
 impl View {
-    /// No texts, and room for as many as the limit.
-    pub fn new(alloc: Global, limit: usize) -> Result<View, AllocError>
+    /// No texts, and room for as many as the limit. No promise speaks of the key.
+    pub fn new(alloc: Global, key: MapKey, limit: usize) -> Result<View, AllocError>
         requires some { 0 < limit }
         requires most { limit ≤ MOST_LIMIT }
         ensures { IfOk result (λ view. view ≡ record { entries = []; limit = limit }) }
     {
         // One more than the limit, since the oldest goes after the newest has come.
         let most = NonZeroUsize::new(limit + 1).unwrap();
-        let cache = LruCache::sparse(alloc, most)?;
+        let cache = new_cache(alloc, key, most)?;
         Ok(View {
             cache,
+            key,
             limit,
             bytes: 0,
             moment: 0,
@@ -193,6 +196,11 @@ impl View {
         ensures same { self.new ≡ self.old }
     {
         self.moment = moment;
+    }
+
+    /// The key of its maps, for those that are made beside it.
+    pub fn key(&self) -> MapKey {
+        self.key
     }
 
     /// What was dropped to make room.

@@ -8,7 +8,7 @@ ghost use Rattle.execution.specs.Numbers.{AreNumbers, digest_number, kept_digest
 use actions::PlanNode;
 use digest::Digest;
 use execution::{KeptText, number_of};
-use indexmap::IndexMap;
+use keyed_maps::KeyedMap;
 use run_calls::TaskNode;
 use std::alloc::{AllocError, Global};
 use std::collections::VecDeque;
@@ -17,7 +17,7 @@ use tree_nodes::{Node, NodeKind};
 /// What is to be made at a node. It shares the target of a link.
 fn kind_of(
     texts: &[KeptText],
-    numbers: &IndexMap<Digest, usize>,
+    numbers: &KeyedMap<Digest, usize>,
     kind: &NodeKind<Digest>,
 ) -> Result<NodeKind<usize>, AllocError>
     requires { AreNumbers (kept_digests texts.now) numbers.now.entries }
@@ -49,7 +49,7 @@ fn kind_of(
 /// A node as a run makes it. It shares the name.
 fn node_of(
     texts: &[KeptText],
-    numbers: &IndexMap<Digest, usize>,
+    numbers: &KeyedMap<Digest, usize>,
     node: &PlanNode,
 ) -> Result<TaskNode, AllocError>
     requires { AreNumbers (kept_digests texts.now) numbers.now.entries }
@@ -70,7 +70,7 @@ fn node_of(
 pub(crate) fn nodes_of(
     alloc: Global,
     texts: &[KeptText],
-    numbers: &IndexMap<Digest, usize>,
+    numbers: &KeyedMap<Digest, usize>,
     nodes: &[PlanNode],
 ) -> Result<VecDeque<TaskNode>, AllocError>
     requires { AreNumbers (kept_digests texts.now) numbers.now.entries }

@@ -20,6 +20,7 @@ use actions::AskedOutput;
 use blob_pool::Draft;
 use digest::Digest;
 use execution_messages::WrittenDigest;
+use keyed_maps::MapKey;
 use message_fields::Message;
 use reapi_messages as messages;
 use run_outcomes::{Content, Exited, NodeKind, Output, OutputKind, OutputNode, Streams};
@@ -235,6 +236,7 @@ fn collect_tree(
 /// Collects an output, and says whether it is taken.
 fn collect_output(
     alloc: Global,
+    key: MapKey,
     like: &Digest,
     collection: &mut Collection,
     output: Output,
@@ -253,7 +255,7 @@ fn collect_output(
             Ok(true)
         }
         OutputKind::Tree { nodes } => {
-            let Some(text) = tree_of(alloc, like, &nodes)? else {
+            let Some(text) = tree_of(alloc, key, like, &nodes)? else {
                 return Ok(false);
             };
             collect_tree(alloc, like, collection, path, nodes, text)?;
@@ -265,6 +267,7 @@ fn collect_output(
 /// Collects outputs, where all are taken.
 fn collect(
     alloc: Global,
+    key: MapKey,
     like: &Digest,
     outputs: Vec<Output>,
 ) -> Result<Option<Collection>, AllocError>
@@ -278,7 +281,7 @@ fn collect(
     };
     let mut left = VecDeque::from_vec(outputs);
     while let Some(output) = left.pop_front() {
-        if !collect_output(alloc, like, &mut collection, output)? {
+        if !collect_output(alloc, key, like, &mut collection, output)? {
             return Ok(None);
         }
     }
@@ -421,6 +424,7 @@ fn join_blobs(
 #[tactic(auto, using(crate::proofs::Completed::not_asked, crate::proofs::Completed::not_taken))]
 pub fn complete(
     alloc: Global,
+    key: MapKey,
     action: &Digest,
     asked: &[AskedOutput<'_>],
     exited: Exited,
@@ -432,7 +436,7 @@ pub fn complete(
         return Ok(None);
     }
     let (code, streams, outputs) = exited.into_parts();
-    let Some(collection) = collect(alloc, action, outputs)? else {
+    let Some(collection) = collect(alloc, key, action, outputs)? else {
         return Ok(None);
     };
     let result = result_text(alloc, action, code, &streams, &collection)?;

@@ -123,7 +123,7 @@ fn end_of_exit(
     let code = run.code;
     let command = read_task_command(alloc, pool, &job.task)?;
     let asked = outputs_of(alloc, &command)?;
-    match complete(alloc, &job.task.action, &asked, run)? {
+    match complete(alloc, pool.key(), &job.task.action, &asked, run)? {
         Some(completion) => completed(alloc, quota, view, job, code, completion),
         None => Ok(failure(alloc, Fault::RunFailed)),
     }

@@ -69,6 +69,6 @@ pub fn is_over_quota(
         (fresh_bytes (visible_in p view.now) (map blob_shown blobs.now))) }
 {
     let digests = digests_of(alloc, blobs)?;
-    let once = distinct(alloc, &digests)?;
+    let once = distinct(alloc, view.key(), &digests)?;
     Ok(are_over(view, quota, &once))
 }

@@ -13,7 +13,7 @@ use crate::folder::{Folder, directory_message, folder_text, is_taken};
 use crate::gathering::{gather_nodes, take_open};
 use actions::{MOST_LEVELS, MOST_NODES};
 use digest::Digest;
-use indexmap::IndexSet;
+use keyed_maps::{KeyedSet, MapKey};
 use message_fields::Message;
 use run_outcomes::{NodeKind, OutputNode};
 use std::alloc::{AllocError, Global};
@@ -83,7 +83,7 @@ fn keeps_walk(nodes: &[OutputNode]) -> bool
 #[tactic(auto, using(crate::proofs::Children::texts_more))]
 fn add_child<'a>(
     alloc: Global,
-    texts: &mut IndexSet<Vec<u8>>,
+    texts: &mut KeyedSet<Vec<u8>>,
     children: &mut Vec<Folder<'a>>,
     folder: Folder<'a>,
 ) -> Result<(), AllocError>
@@ -105,13 +105,14 @@ fn add_child<'a>(
 /// Directories, each text once, in their order.
 fn distinct_folders<'a>(
     alloc: Global,
+    key: MapKey,
     folders: VecDeque<Folder<'a>>,
 ) -> Result<Vec<Folder<'a>>, AllocError>
     ensures { IfOk result (λ children. map folder_shown children.items
         ≡ with_children [] (map folder_shown folders.entry.items)) }
 {
     let mut left = folders;
-    let mut texts = IndexSet::new(alloc);
+    let mut texts = KeyedSet::with_hasher(alloc, key);
     let mut children = Vec::new(alloc);
     while let Some(folder) = left.pop_front() {
         add_child(alloc, &mut texts, &mut children, folder)?;
@@ -159,6 +160,7 @@ fn write_tree(
 /// The text of the Tree of a root and the directories below it, each text once, in their order.
 fn whole_tree(
     alloc: Global,
+    key: MapKey,
     root: &Folder<'_>,
     below: VecDeque<Folder<'_>>,
 ) -> Result<Vec<u8>, AllocError>
@@ -167,7 +169,7 @@ fn whole_tree(
       children = with_children [] (map folder_shown below.entry.items);
     })) }
 {
-    let children = distinct_folders(alloc, below)?;
+    let children = distinct_folders(alloc, key, below)?;
     write_tree(alloc, root, &children)
 }
 
@@ -175,6 +177,7 @@ fn whole_tree(
 /// directories are taken.
 fn gathered_tree(
     alloc: Global,
+    key: MapKey,
     like: &Digest,
     nodes: &[OutputNode],
 ) -> Result<Option<Vec<u8>>, AllocError>
@@ -190,7 +193,7 @@ fn gathered_tree(
     if !gathering.are_taken {
         return Ok(None);
     }
-    let text = whole_tree(alloc, &root, gathering.into_closed())?;
+    let text = whole_tree(alloc, key, &root, gathering.into_closed())?;
     Ok(Some(text))
 }
 
@@ -198,6 +201,7 @@ fn gathered_tree(
 #[tactic(auto, using(crate::proofs::Completed::no_walk))]
 pub(crate) fn tree_of(
     alloc: Global,
+    key: MapKey,
     like: &Digest,
     nodes: &[OutputNode],
 ) -> Result<Option<Vec<u8>>, AllocError>
@@ -207,5 +211,5 @@ pub(crate) fn tree_of(
     if !keeps_walk(nodes) {
         return Ok(None);
     }
-    gathered_tree(alloc, like, nodes)
+    gathered_tree(alloc, key, like, nodes)
 }

@@ -20,11 +20,13 @@ use host_programs::{HostPrograms, Launcher, launcher_path};
 use host_sockets::{HostSockets, ListenError, SocketCounts};
 use instance_words::{Instances, InstancesFault, instances_of};
 use job_runs::JobRunner;
+use keyed_maps::MapKey;
 use serve::{ErrorLines, Sockets, Tally, serve};
 use server_events::Configs;
 use std::alloc::{AllocError, Global};
 use std::io::{self, ErrorKind, Write};
 use std::net::{IpAddr, Ipv4Addr, SocketAddr};
+use std::random::RandomSource;
 use std::time::{Duration, Instant};
 use std::{fs, thread};
 
@@ -236,11 +238,19 @@ fn remove_start(rt: &HostRuntime, path: &str) {
     }
 }
 
+/// A key that nobody knows, drawn once.
+fn map_key(rt: &HostRuntime) -> io::Result<MapKey> {
+    let mut bytes = [0; 16];
+    rt.fill_bytes(&mut bytes)?;
+    Ok(MapKey::new(bytes))
+}
+
 /// Serves for so many turns, each instance at its port, and then ends what runs. Lines about runs
 /// go to standard error, of which none is waited for; so does the last, which says how many events
 /// were cut short, if any were.
 fn serve_turns(
     rt: &HostRuntime,
+    key: MapKey,
     instances: &Instances,
     mut sockets: HostSockets<'_>,
     runs: &mut JobRunner<HostFolder<'_>, HostPrograms<'_>>,
@@ -257,6 +267,7 @@ fn serve_turns(
     operator.tell_start();
     let served = serve(
         alloc,
+        key,
         configs,
         &mut sockets,
         runs,
@@ -329,12 +340,13 @@ fn serve_instances<'a, O: Write, E: Write>(
     let Some(work) = place_of(rt, service, instances, errors)? else {
         return Ok(FAILED);
     };
+    let key = map_key(rt)?;
     let start = String::from_str(rt.alloc(), work.path())?;
     let folders = FolderCounts::new(rt.alloc(), instances.ports.len())?;
     let mut runs = job_runner(rt, work, &folders, launcher, instances, errors)?;
     told(announce(&instances.configs, &sockets, output))?;
     let ended = serve_turns(
-        rt, instances, sockets, &mut runs, &folders, refusals, service,
+        rt, key, instances, sockets, &mut runs, &folders, refusals, service,
     );
     remove_start(rt, start.as_str());
     ended?;

@@ -9,7 +9,7 @@ use Rattle.std.specs.Map.{keys_of}
 use Rattle.std.specs.Str.{bytes_eq, IsUtf8}
 use Rattle.std.specs.String.{string_bytes, string_eq}
 use Rattle.std.specs.declared.string.String.{String}
-use Rattle.indexmap.specs.IndexMap.{insert_entry}
+use Rattle.keyed_maps.specs.IndexMap.{insert_entry}
 use Rattle.script.specs.UnaryScript.{InstanceValue, instance_index}
 use Rattle.script.specs.UnaryShown.{entry_value}
 use Rattle.script.proofs.PlaceLemmas.{position-map}

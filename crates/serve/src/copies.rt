@@ -11,6 +11,7 @@ ghost use Rattle.run_outcomes.specs.Shown.{exited_shown, kind_shown, node_shown,
 use blob_pool::{Draft, Pool, keep};
 use digest::{Digest, HashFunction};
 use execution::KeptText;
+use keyed_maps::MapKey;
 use run_outcomes::{Content, Exited, NodeKind, Outcome, Output, OutputKind, OutputNode, Streams};
 use server_core::LentTask;
 use std::alloc::{AllocError, Global};
@@ -74,7 +75,7 @@ fn bytes_of(alloc: Global, draft: Draft) -> Result<Vec<u8>, AllocError>
     ensures most { IfOk result (λ bytes. length bytes.items ≤ MOST_BYTES) }
 {
     let mut bytes = Vec::with_capacity(alloc, draft.length() as usize)?;
-    let mut pool = Pool::new(alloc);
+    let mut pool = Pool::new(alloc, MapKey::known());
     match pool.seal(draft) {
         Ok(hold) => {
             pool.copy_into(keep(hold), &mut bytes)?;

@@ -19,6 +19,7 @@ use crate::pace::Pace;
 use crate::runs::Runs;
 use crate::sockets::{Socket, Sockets};
 use crate::watch::{Sight, Watch};
+use keyed_maps::MapKey;
 use served_instance::EventRefusal;
 use server_core::Server;
 use server_events::{Configs, What};
@@ -73,13 +74,13 @@ struct Serving {
 
 impl Serving {
     /// A server of instances with these configurations, and no connections.
-    fn new(alloc: Global, configs: &Configs) -> Result<Serving, AllocError>
+    fn new(alloc: Global, key: MapKey, configs: &Configs) -> Result<Serving, AllocError>
         ensures serving { IfOk result (λ s. IsServing configs.now
             (Some []) (Some []) s.counting s.moment) }
         ensures instances { IfOk result (λ s. s.instances ≡ length configs.now) }
         ensures none { IfOk result (λ s. s.connections.items ≡ []) }
     {
-        let server = Server::new(alloc, configs)?;
+        let server = Server::new(alloc, key, configs)?;
         let counts = ServeCounts::new(alloc, configs.instances().len())?;
         Ok(Serving {
             counting: Counting {
@@ -465,6 +466,7 @@ pub struct Tally {
 /// before the first.
 pub fn serve<S: Sockets, R: Runs, E: Write, W: Watch>(
     alloc: Global,
+    key: MapKey,
     configs: &Configs,
     sockets: &mut S,
     runs: &mut R,
@@ -483,7 +485,7 @@ pub fn serve<S: Sockets, R: Runs, E: Write, W: Watch>(
     ensures unbegun { IfErr result (λ error. (S.happened sockets.new ≡ S.happened sockets.old)
         × (R.happened runs.new ≡ R.happened runs.old)) }
 {
-    let mut serving = Serving::new(alloc, configs)?;
+    let mut serving = Serving::new(alloc, key, configs)?;
     let mut idle_turns: u64 = 0;
     for _ in 0..turns {
         let has_moved = serving.turn(configs, sockets, runs, errors);

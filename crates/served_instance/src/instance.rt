@@ -42,6 +42,7 @@ use conn_core::Connection;
 use http2_frames::ErrorCode;
 use instance_core::{Instance, Order, Task};
 use instance_view::View;
+use keyed_maps::MapKey;
 use server_events::{Event, InstanceConfig, What};
 use std::alloc::{AllocError, Global};
 use std::marker::Model;
@@ -84,7 +85,11 @@ impl Model for ServedInstance {
 
 impl ServedInstance {
     /// An instance that nothing has happened to.
-    pub fn new(alloc: Global, config: &InstanceConfig) -> Result<ServedInstance, AllocError>
+    pub fn new(
+        alloc: Global,
+        key: MapKey,
+        config: &InstanceConfig,
+    ) -> Result<ServedInstance, AllocError>
         requires quota { config.now.quota ≤ most_stored_bytes }
         requires slots { config.now.slots ≤ MOST_RUNNING }
         ensures stands { (p : Slots) → IfOk result
@@ -96,7 +101,7 @@ impl ServedInstance {
         ensures holders { IfOk result (λ served. (k : ℕ) → holders_of served k ≡ 0) }
     {
         Ok(ServedInstance {
-            instance: Instance::new(alloc, &config.name, config.quota, config.slots)?,
+            instance: Instance::new(alloc, key, &config.name, config.quota, config.slots)?,
             connections: Vec::new(alloc),
         })
     }

@@ -29,6 +29,7 @@ ghost use Rattle.blob_pool.specs.Slots.{Slots, text_at};
 ghost use Rattle.served_instance.specs.Ranges.{RangesEndWithin};
 
 use blob_pool::Pool;
+use keyed_maps::MapKey;
 use served_instance::{EventRefusal, Order, ServedInstance, Task};
 use server_events::{Configs, Event, InstanceConfig};
 use std::alloc::{AllocError, Global};
@@ -101,7 +102,7 @@ impl Model for Server {
 
 impl Server {
     /// A server that nothing has happened to, with an instance for each configuration.
-    pub fn new(alloc: Global, configs: &Configs) -> Result<Server, AllocError>
+    pub fn new(alloc: Global, key: MapKey, configs: &Configs) -> Result<Server, AllocError>
         ensures stands { IfOk result (λ server. (i : ℕ) (config : ConfigValue)
             → config_at i configs.now ≡ Some config
             → StandsAt i server.instances (new_lone config.name config.quota config.slots)) }
@@ -112,11 +113,11 @@ impl Server {
     {
         let parents = new_parents(alloc, configs)?;
         let configs = configs.instances();
-        let pool = Pool::new(alloc);
-        let spare = new_spare(alloc)?;
+        let pool = Pool::new(alloc, key);
+        let spare = new_spare(alloc, key)?;
         let mut instances = Vec::new(alloc);
         for config in configs {
-            let served = ServedInstance::new(alloc, config)?;
+            let served = ServedInstance::new(alloc, key, config)?;
             instances.push(served)?;
         }
         Ok(Server {
@@ -274,7 +275,7 @@ impl Server {
 }
 
 /// An instance that has nothing.
-fn new_spare(alloc: Global) -> Result<ServedInstance, AllocError>
+fn new_spare(alloc: Global, key: MapKey) -> Result<ServedInstance, AllocError>
     ensures { IfOk result (λ spare. spare.instance.view.entries ≡ []) }
 {
     let config = InstanceConfig {
@@ -283,7 +284,7 @@ fn new_spare(alloc: Global) -> Result<ServedInstance, AllocError>
         slots: 0,
         parent: None,
     };
-    ServedInstance::new(alloc, &config)
+    ServedInstance::new(alloc, key, &config)
 }
 
 /// The number of the parent of each, if it has one.

@@ -20,6 +20,7 @@ ghost use Rattle.server_core.specs.RunSoFar.{HasTaken, HasPassed};
 use crate::outputs::InstanceOutput;
 use crate::record::{ConnectionChange, InstanceRecord};
 use crate::server::Server;
+use keyed_maps::MapKey;
 use served_instance::{Broken, EventRefusal};
 use server_events::{Configs, Event};
 use std::alloc::{AllocError, Global};
@@ -83,7 +84,7 @@ impl ServerRun {
     pub fn new(alloc: Global, configs: &Configs) -> Result<ServerRun, AllocError>
         ensures { IfOk result (HasTaken configs.now []) }
     {
-        let server = Server::new(alloc, configs)?;
+        let server = Server::new(alloc, MapKey::known(), configs)?;
         let records = new_records(alloc, configs.instances().len())?;
         Ok(ServerRun {
             server,

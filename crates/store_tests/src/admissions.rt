@@ -6,6 +6,7 @@ ghost use Rattle.quota_evict.specs.InPool.{IsViewInPool};
 use blob_pool::Pool;
 use digest::Digest;
 use instance_view::View;
+use keyed_maps::MapKey;
 use quota_evict::{AdmitError, admit};
 use std::alloc::{AllocError, Global};
 
@@ -61,8 +62,8 @@ fn drops_the_least_recently_used(view: &mut View, pool: &mut Pool) -> Result<boo
 
 /// Whether a view keeps a limit of two texts.
 pub fn keeps_the_limit(alloc: Global) -> Result<bool, AllocError> {
-    let mut pool = Pool::new(alloc);
-    let mut view = View::new(alloc, 2)?;
+    let mut pool = Pool::new(alloc, MapKey::known());
+    let mut view = View::new(alloc, MapKey::known(), 2)?;
     drops_the_least_recently_used(&mut view, &mut pool)
 }
 
@@ -80,7 +81,7 @@ fn drops_for_the_quota(view: &mut View, pool: &mut Pool) -> Result<bool, AllocEr
 
 /// Whether an instance keeps a quota of ten bytes.
 pub fn keeps_the_quota(alloc: Global) -> Result<bool, AllocError> {
-    let mut pool = Pool::new(alloc);
-    let mut view = View::new(alloc, 100)?;
+    let mut pool = Pool::new(alloc, MapKey::known());
+    let mut view = View::new(alloc, MapKey::known(), 100)?;
     drops_for_the_quota(&mut view, &mut pool)
 }

@@ -9,6 +9,7 @@ use actions::{Plan, TreeFault, walk};
 use blob_pool::Pool;
 use digest::Digest;
 use instance_view::{Sight, View};
+use keyed_maps::MapKey;
 use message_fields::Message;
 use reapi_messages as messages;
 use std::alloc::{AllocError, Global};
@@ -119,10 +120,10 @@ fn store_mixed(
 }
 
 fn walked(alloc: Global, stored: &Stored) -> Result<Plan, TreeFault> {
-    let mut pool = Pool::new(alloc);
-    let mut view = View::new(alloc, 100)?;
+    let mut pool = Pool::new(alloc, MapKey::known());
+    let mut view = View::new(alloc, MapKey::known(), 100)?;
     let root = store_mixed(alloc, &mut view, &mut pool, stored)?;
-    let nobody = View::new(alloc, 1)?;
+    let nobody = View::new(alloc, MapKey::known(), 1)?;
     walk(alloc, &Sight::new(&view, &nobody), &pool, &root)
 }
 

@@ -7,6 +7,7 @@ ghost use Rattle.blob_pool.specs.Moves.{Moves, HasRoom, no_holders, one_at};
 use crate::texts::is_read;
 use blob_pool::{Draft, Kept, Pool, keep, release_kept};
 use digest::{Digest, HashFunction};
+use keyed_maps::MapKey;
 use std::alloc::{AllocError, Global};
 
 /// Holds a text beside a digest, and says whether that names it.
@@ -47,7 +48,7 @@ fn is_given_back(
 /// Whether two texts beside one digest both stand and are given back as themselves, and one text
 /// beside its digests by both functions stands once.
 pub fn both_stand(alloc: Global) -> Result<bool, AllocError> {
-    let mut pool = Pool::new(alloc);
+    let mut pool = Pool::new(alloc, MapKey::known());
     let named = Digest::of(b"first");
     let other = Digest::by(HashFunction::Sha512, b"first");
     let first = hold_beside(alloc, &mut pool, &named, b"first")?;

@@ -7,6 +7,7 @@ use actions::{Plan, TreeFault, walk};
 use blob_pool::Pool;
 use digest::Digest;
 use instance_view::{Sight, View};
+use keyed_maps::MapKey;
 use message_fields::Message;
 use reapi_messages as messages;
 use std::alloc::{AllocError, Global};
@@ -137,10 +138,10 @@ fn store_tree(
 
 /// How the walk through a tree ends.
 fn walked(alloc: Global, shape: &Shape) -> Result<Ending, AllocError> {
-    let mut pool = Pool::new(alloc);
-    let mut view = View::new(alloc, 100)?;
+    let mut pool = Pool::new(alloc, MapKey::known());
+    let mut view = View::new(alloc, MapKey::known(), 100)?;
     let root = store_tree(alloc, &mut view, &mut pool, shape)?;
-    let nobody = View::new(alloc, 1)?;
+    let nobody = View::new(alloc, MapKey::known(), 1)?;
     let sight = Sight::new(&view, &nobody);
     Ok(ending_of(&walk(alloc, &sight, &pool, &root)))
 }

@@ -7,6 +7,7 @@ ghost use Rattle.store_tests.specs.Beside.{AreBeside};
 use blob_pool::Pool;
 use digest::Digest;
 use instance_view::View;
+use keyed_maps::MapKey;
 use quota_evict::{AdmitError, admit};
 use std::alloc::{AllocError, Global};
 
@@ -62,9 +63,9 @@ fn is_as_said(first: &mut View, second: &mut View, pool: &mut Pool, case: &Uploa
 
 /// The first of the uploads after which the pool does not hold what it has to.
 pub fn are_shared(alloc: Global, cases: &[Upload]) -> Result<Option<&'static str>, AllocError> {
-    let mut pool = Pool::new(alloc);
-    let mut first = View::new(alloc, 100)?;
-    let mut second = View::new(alloc, 100)?;
+    let mut pool = Pool::new(alloc, MapKey::known());
+    let mut first = View::new(alloc, MapKey::known(), 100)?;
+    let mut second = View::new(alloc, MapKey::known(), 100)?;
     for case in cases {
         if !is_as_said(&mut first, &mut second, &mut pool, case) {
             return Ok(Some(case.name));

@@ -4,6 +4,7 @@ ghost use Rattle.std.specs.Prelude.{◌≡◌, ◌<◌, ◌+◌, ◌≤◌, ◌^
 
 use blob_pool::{Draft, Kept, Pool, keep, release_kept};
 use digest::{Digest, HashFunction};
+use keyed_maps::MapKey;
 use std::alloc::{AllocError, Global};
 
 /// How long a text of these tests is at most.
@@ -52,7 +53,7 @@ pub fn is_read(alloc: Global, pool: &Pool, kept: Kept, text: &[u8]) -> Result<bo
 
 /// Whether a text that is put in pieces comes back.
 pub fn comes_back(alloc: Global, text: &[u8]) -> Result<bool, AllocError> {
-    let mut pool = Pool::new(alloc);
+    let mut pool = Pool::new(alloc, MapKey::known());
     let mut draft = Draft::new(alloc, HashFunction::Sha256);
     push_in_pieces(&mut draft, text)?;
     let is_named = draft.names(&Digest::of(text));

@@ -15,6 +15,7 @@ use blob_pool::Pool;
 use cas_service::{CallError, batch_read, batch_update, find_missing};
 use digest::Digest;
 use instance_view::View;
+use keyed_maps::MapKey;
 use quota_evict::{AdmitError, MOST_BLOBS, admit};
 use script::unary::{Instance, Method};
 use std::alloc::{AllocError, Global};
@@ -64,13 +65,13 @@ impl Store {
         ensures { IfOk result (λ store. store ≡ new_store (instance_value instance.now)) }
     {
         let name = String::from_str(alloc, &instance.name)?;
-        let view = View::new(alloc, MOST_BLOBS)?;
-        let nobody = View::new(alloc, 1)?;
+        let view = View::new(alloc, MapKey::known(), MOST_BLOBS)?;
+        let nobody = View::new(alloc, MapKey::known(), 1)?;
         Ok(Store {
             name,
             quota: instance.quota,
             texts: Texts {
-                pool: Pool::new(alloc),
+                pool: Pool::new(alloc, MapKey::known()),
                 view,
                 nobody,
             },

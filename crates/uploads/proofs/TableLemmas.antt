@@ -5,7 +5,7 @@ use Rattle.std.specs.List.{filter, sum_by}
 use Rattle.std.specs.Map.{lookup, remove_entry}
 use Rattle.std.proofs.lemmas.Bool.{and_parts}
 use Rattle.std.proofs.lemmas.List.Sums.{sum_by-cons}
-use Rattle.indexmap.specs.IndexMap.{insert_entry}
+use Rattle.keyed_maps.specs.IndexMap.{insert_entry}
 use Rattle.digest.proofs.Same.{same_equal}
 use Rattle.digest.specs.Naming.{same_digest}
 use Rattle.digest.specs.declared.Digest.{Digest}

@@ -3,14 +3,14 @@
 ghost use Rattle.std.specs.Prelude.{◌≡◌, ◌≤◌, ◌<◌, ◌+◌, ◌^◌, ◌++◌, ◌↔◌, [], Some, true, false, map, length, is_some, IsTrue, IsSome, IfSome, OnOk, OnErr, option_map};
 ghost use Rattle.std.specs.List.{sum_by, filter};
 ghost use Rattle.std.specs.Option.{option_copied};
-ghost use Rattle.indexmap.specs.IndexMap.{values};
+ghost use Rattle.keyed_maps.specs.IndexMap.{values};
 ghost use Rattle.digest.specs.Naming.{Names, same_digest, digest_of};
 ghost use Rattle.uploads.specs.Uploads.{uploads_length, upload_at, with_upload, without_upload, text_so_far, uploads_at};
 ghost use Rattle.uploads.specs.Shown.{key_shown, upload_shown, entry_shown, IsWhole, AreWhole};
 
 use crate::key::UploadKey;
 use blob_pool::Draft;
-use indexmap::IndexMap;
+use keyed_maps::KeyedMap;
 use std::alloc::{AllocError, Global};
 use std::mem;
 
@@ -24,7 +24,7 @@ pub struct Upload {
     pub written: u64,
 }
 
-pub type Table = IndexMap<UploadKey, Upload>;
+pub type Table = KeyedMap<UploadKey, Upload>;
 
 impl Upload {
     /// An upload of a key without bytes. It takes no memory.

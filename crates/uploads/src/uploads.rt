@@ -17,6 +17,7 @@ use crate::steps::{self, Piece};
 use crate::table::{self, Table, find};
 use blob_pool::Pool;
 use instance_view::View;
+use keyed_maps::MapKey;
 use std::alloc::Global;
 use std::marker::Model;
 
@@ -47,11 +48,11 @@ impl Model for Uploads {
 
 impl Uploads {
     /// No uploads. It takes no memory.
-    pub fn new(alloc: Global) -> Uploads
+    pub fn new(alloc: Global, key: MapKey) -> Uploads
         ensures { result ≡ [] }
     {
         Uploads {
-            table: Table::new(alloc),
+            table: Table::with_hasher(alloc, key),
         }
     }
 

@@ -4,6 +4,7 @@ ghost use Rattle.std.specs.Prelude.{◌≡◌, [], Some, IfOk, IfSome};
 ghost use Rattle.serve.specs.Logged.{logged};
 ghost use Rattle.serve.specs.Served.{WasServed};
 
+use keyed_maps::MapKey;
 use program_status::{Fault, Output};
 use run_calls::RunKey;
 use run_outcomes::Outcome;
@@ -77,6 +78,7 @@ fn serve_over<S: Sockets>(
     let mut errors = ErrorLines::new(alloc, Vec::new(alloc), instances)?;
     let tally = serve(
         alloc,
+        MapKey::known(),
         configs,
         sockets,
         &mut runs,

@@ -1,6 +1,7 @@
 //! A server of two instances, event by event: one that opens, a stray, a refused one, and an error
 //! of the connection. What whole runs print is shown by the stored scripts of `acceptance`.
 
+use keyed_maps::MapKey;
 use script::replay::parse;
 use served_instance::EventRefusal;
 use server_core::*;
@@ -85,7 +86,7 @@ fn configs(alloc: Global) -> Option<Configs> {
 }
 
 fn is_served(alloc: Global, configs: &Configs) -> bool {
-    match Server::new(alloc, configs) {
+    match Server::new(alloc, MapKey::known(), configs) {
         Ok(mut server) => {
             is_begun(&mut server) && is_ended(alloc, &mut server) && is_apart(&server)
         }

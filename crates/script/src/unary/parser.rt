@@ -14,7 +14,7 @@ use crate::unary::command::{Command, Instance, UnaryScript};
 use crate::unary::method::Method;
 use crate::{Parts, hex_bytes, words};
 use decimals::decimal;
-use indexmap::IndexMap;
+use keyed_maps::{KeyedMap, MapKey};
 use server_events::{is_instance_name, is_quota};
 use std::alloc::{AllocError, Global};
 use std::str;
@@ -35,7 +35,7 @@ pub fn parse(alloc: Global, text: &[u8]) -> Result<UnaryScript, ScriptFault>
         script.commands.items) }
 {
     let mut lines = UnaryLines {
-        quotas: IndexMap::new(alloc),
+        quotas: KeyedMap::with_hasher(alloc, MapKey::known()),
         commands: Vec::new(alloc),
     };
     read_lines(alloc, &mut lines, text)?;
@@ -47,7 +47,7 @@ pub fn parse(alloc: Global, text: &[u8]) -> Result<UnaryScript, ScriptFault>
 }
 
 // The quotas of instances by their names, in the order of their lines.
-pub(crate) type Quotas = IndexMap<String, u64>;
+pub(crate) type Quotas = KeyedMap<String, u64>;
 
 // What lines say so far.
 #[derive(Drop)]

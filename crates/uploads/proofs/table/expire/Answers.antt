@@ -1,7 +1,7 @@
 use Rattle.std.proofs.Common.{◌≡◌, ◌-◌, rules}
 use Rattle.std.specs.Prelude.{nat_lt}
 use Rattle.std.specs.List.{filter}
-use Rattle.indexmap.proofs.CallerLemmas.{filter-RetainsPairs}
+use Rattle.keyed_maps.proofs.MapLemmas.{filter-RetainsPairs}
 use Rattle.uploads.specs.declared.key.UploadKey.{UploadKey}
 use Rattle.uploads.specs.declared.table.Upload.{Upload}
 use Rattle.uploads.proofs.TableLemmas.{unexpired_shown, whole_filter}

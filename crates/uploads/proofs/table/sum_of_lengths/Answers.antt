@@ -1,7 +1,7 @@
 use Rattle.std.proofs.Common.{rules, length}
 use Rattle.std.proofs.lemmas.Iterator.{YieldsList-from_map}
 use Rattle.std.proofs.lemmas.Iterator.Consumers.{sum_by_from_yields_List, YieldsList-from_rest, YieldsList-at}
-use Rattle.indexmap.specs.IndexMap.{values}
+use Rattle.keyed_maps.specs.IndexMap.{values}
 use Rattle.uploads.specs.declared.table.Upload.{Upload}
 use Rattle.uploads.proofs.table.sum_of_lengths.Goals as goal
 

@@ -1,5 +1,5 @@
 use Rattle.std.proofs.Common.{rules, ap, ◌∙◌}
-use Rattle.indexmap.proofs.CallerLemmas.{filter-RetainsPairs}
+use Rattle.keyed_maps.proofs.MapLemmas.{filter-RetainsPairs}
 use Rattle.instance_core.specs.Apart.{is_apart, calls_apart}
 use Rattle.instance_core.proofs.Apart.{kept_by}
 use Rattle.instance_core.proofs.calls.Calls.end_all.Goals as goal

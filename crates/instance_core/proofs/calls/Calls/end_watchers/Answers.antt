@@ -1,6 +1,6 @@
 use Rattle.std.proofs.Common.{rules, ℕ, Bool, ap, ◌∙◌}
 use Rattle.std.specs.Prelude.{not, filter}
-use Rattle.indexmap.proofs.CallerLemmas.{filter-RetainsPairs}
+use Rattle.keyed_maps.proofs.MapLemmas.{filter-RetainsPairs}
 use Rattle.instance_core.specs.declared.event.CallId.{CallId}
 use Rattle.instance_core.specs.Calls.{CallValue}
 use Rattle.instance_core.specs.Watching.{is_watcher}

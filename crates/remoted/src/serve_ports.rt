@@ -333,6 +333,7 @@ fn serve_instances<'a, O: Write, E: Write>(
     if !can_open(instances, errors)? || is_stopped(rt, service, errors)? {
         return Ok(FAILED);
     }
+    let key = map_key(rt)?;
     let Some(mut sockets) = listen(rt, address, &instances.ports, errors)? else {
         return Ok(FAILED);
     };
@@ -340,7 +341,6 @@ fn serve_instances<'a, O: Write, E: Write>(
     let Some(work) = place_of(rt, service, instances, errors)? else {
         return Ok(FAILED);
     };
-    let key = map_key(rt)?;
     let start = String::from_str(rt.alloc(), work.path())?;
     let folders = FolderCounts::new(rt.alloc(), instances.ports.len())?;
     let mut runs = job_runner(rt, work, &folders, launcher, instances, errors)?;

@@ -1,0 +1,7 @@
+//! Doors, wires and the clock of this host. The head of `host.rt` says what is believed of them.
+#![tactic(auto)]
+
+mod host;
+mod options;
+
+pub use host::{HostDoor, HostWire, ThisHost};

@@ -10,3 +10,4 @@ mod RunLogs
 mod Written
 mod Did
 mod FaultLines
+mod Carried

@@ -44,6 +44,11 @@ AddsAll before after more = after ≡ option_map (λ h. h ++ more) before
 abbrev pub Adds : Option (List SocketEvent) → Option (List SocketEvent) → List SocketEvent → Type 0
 Adds before after more = (after ≡ None) ⊎ AddsAll before after more
 
+-- whatever list stood for it before, with these events it stands for it afterwards
+abbrev pub Carries : (List SocketEvent → Type 0) → (List SocketEvent → Type 0) → List SocketEvent →
+    Type 0
+Carries old new more = (h : List SocketEvent) → old h → new (h ++ more)
+
 -- ---- what it is to the instance of the port
 
 abbrev pub what_of : PortEvent → WhatValue

@@ -1,11 +1,12 @@
 -- Where one port changes, and stays where it was, the others stay.
-use Rattle.std.proofs.Common.{◌≡◌, ◌≢◌, ◌∙◌, refl, ap, sym, ℕ, zero, suc, List, [], ◌∷◌, map, slice_get, slice_set, slice_index_or}
+use Rattle.std.proofs.Common.{◌≡◌, ◌≢◌, ◌∙◌, refl, ap, subst, ℕ, zero, suc, List, [], ◌∷◌, map, slice_get, slice_set, slice_index_or, Option, Some, None, is_some}
+use Rattle.std.proofs.lemmas.Bool.{true≢false}
+use Rattle.wires.specs.Wires.{WireEvent}
+use Rattle.host_sockets.proofs.Left.{stay_again}
 use Rattle.std.proofs.Math.Seq.{map-set_same}
 use Rattle.std.specs.declared.net.socket_addr.SocketAddr.{SocketAddr}
-use Rattle.host_sockets.specs.declared.lingering.Lingering.{Lingering}
 use Rattle.host_sockets.specs.declared.port.Port.{Port}
-use Rattle.host_sockets.specs.declared.HostSockets.{HostSockets}
-use Rattle.host_sockets.specs.Ports.{OnlyClosedGo, OpenStay, OthersStay}
+use Rattle.host_sockets.specs.Ports.{BecomesAt, OnlyClosedGo, OpenStay, OthersStay, Turns}
 
 slice_get-set_other : {X : Type 0} (xs : List X) (i j : ℕ) (w : X) → j ≢ i
     → slice_get (slice_set xs i w) j ≡ slice_get xs j
@@ -16,47 +17,53 @@ slice_get-set_other (x ∷ xs) (suc i) zero w h = refl
 slice_get-set_other (x ∷ xs) (suc i) (suc j) w h =
     slice_get-set_other xs i j w (λ e. h (ap suc e))
 
--- what is the same of each port stays so where one is put in its place that has it alike
-pub alike : {X : Type 0} (f : Port → X) (old new : List Port) (i : ℕ) (port after : Port)
-    → new ≡ slice_set old i after → port ≡ slice_index_or old i port → f after ≡ f port
-    → map f new ≡ map f old
-alike f old new i port after changed was stays =
-    ap (map f) changed ∙ map-set_same f old i after port (stays ∙ ap f was)
+becomes : {X : Type 0} (Becomes : X → X → Type 0) (xs : List X) (i : ℕ) (x after : X)
+    → x ≡ slice_index_or xs i x → Becomes x after
+    → Turns Becomes (slice_get xs i) (slice_get (slice_set xs i after) i)
+becomes B [] i x after is so = refl
+becomes B (y ∷ xs) zero x after is so = subst (λ z. B z after) is so
+becomes B (y ∷ xs) (suc i) x after is so = becomes B xs i x after is so
 
-abbrev address_of : Port → SocketAddr
-address_of port = port.address
+-- where none is, none is afterwards
+pub none_becomes : {X : Type 0} (Becomes : X → X → Type 0) (o : Option X) → o ≡ None
+    → Turns Becomes o o
+none_becomes B None is = refl
+none_becomes B (Some x) is = absurd (true≢false (ap is_some is))
 
-abbrev pub closed_of : Port → List Lingering
-closed_of port = port.lingering.items
+module _ {D W : Type 0} where
+  -- what is the same of each port stays so where one is put in its place that has it alike
+  pub alike : {X : Type 0} (f : Port D W → X) (old new : List (Port D W)) (i : ℕ)
+      (port after : Port D W) → new ≡ slice_set old i after → port ≡ slice_index_or old i port
+      → f after ≡ f port → map f new ≡ map f old
+  alike f old new i port after changed was stays =
+      ap (map f) changed ∙ map-set_same f old i after port (stays ∙ ap f was)
 
-pub one_changes : (old new : HostSockets) (i : ℕ) (port after : Port)
-    → new.ports.items ≡ slice_set old.ports.items i after
-    → port ≡ slice_index_or old.ports.items i port → after.address ≡ port.address
-    → OthersStay i old new
-one_changes old new i port after changed was stays = record {
-  addresses = alike address_of old.ports.items new.ports.items i port after changed was stays;
-  others = λ j apart. ap (λ ports. slice_get ports j) changed
-      ∙ slice_get-set_other old.ports.items i j after apart;
-}
+  abbrev pub address_of : Port D W → SocketAddr
+  address_of port = port.address
 
-pub kept : {X : Type 0} (f : Port → X) (ports : List Port) (i : ℕ) (port after : Port)
-    → port ≡ slice_index_or ports i port → f after ≡ f (slice_index_or ports i port)
-    → map f (slice_set ports i after) ≡ map f ports
-kept f ports i port after is same =
-    alike f ports (slice_set ports i after) i port after refl is (same ∙ ap f (sym is))
+  pub one_changes : (old : List (Port D W)) (i : ℕ) (port after : Port D W)
+      → port ≡ slice_index_or old i port → after.address ≡ port.address
+      → OthersStay i old (slice_set old i after)
+  one_changes old i port after was stays = record {
+    addresses = alike address_of old (slice_set old i after) i port after refl was stays;
+    others = λ j apart. slice_get-set_other old i j after apart;
+  }
 
-pub closed_stay : (ports : List Port) (i : ℕ) (port after : Port)
-    → port ≡ slice_index_or ports i port → after.lingering ≡ port.lingering
-    → map closed_of (slice_set ports i after) ≡ map closed_of ports
-closed_stay ports i port after was stays =
-    alike closed_of ports (slice_set ports i after) i port after refl was
-    (ap (λ l. l.items) stays)
+  pub one_becomes : (Becomes : Port D W → Port D W → Type 0) (old : List (Port D W)) (i : ℕ)
+      (port after : Port D W) → port ≡ slice_index_or old i port → Becomes port after
+      → BecomesAt i Becomes old (slice_set old i after)
+  one_becomes Becomes old i port after was so = becomes Becomes old i port after was so
 
-pub still_open : (old ports : List Port) (i : ℕ) (port after : Port)
-    → port ≡ slice_index_or ports i port → OnlyClosedGo (slice_index_or ports i port) after
-    → OpenStay old ports → OpenStay old (slice_set ports i after)
-still_open old ports i port after is goes stay = record {
-  addresses = kept address_of ports i port after is goes.address ∙ stay.addresses;
-  listeners = kept (λ p. p.listener) ports i port after is goes.listener ∙ stay.listeners;
-  streams = kept (λ p. p.streams) ports i port after is goes.streams ∙ stay.streams;
-}
+  module _ (happened : W → Option (List WireEvent)) where
+    -- of one more port closed ones went
+    pub still_open : (old ports : List (Port D W)) (i : ℕ) (port after : Port D W)
+        → port ≡ slice_index_or ports i port
+        → OnlyClosedGo happened (slice_index_or ports i port) after
+        → OpenStay happened old ports → OpenStay happened old (slice_set ports i after)
+    still_open [] [] i port after is goes stay = tt
+    still_open [] (q ∷ qs) i port after is goes bad = absurd bad
+    still_open (p ∷ ps) [] i port after is goes bad = absurd bad
+    still_open (p ∷ ps) (q ∷ qs) zero port after is goes stay =
+        (stay_again happened p q after stay.0 goes, stay.1)
+    still_open (p ∷ ps) (q ∷ qs) (suc i) port after is goes stay =
+        (stay.0, still_open ps qs i port after is goes stay.1)

@@ -1,31 +1,33 @@
-//! The sockets of this host, and its clock.
+//! The sockets of a host, and its clock.
 #![tactic(auto)]
 
-ghost use Rattle.std.specs.Prelude.{◌≡◌, ◌++◌, [], ◌∷◌, None, Some, slice_get, IfOk, OnOk};
+ghost use Rattle.std.specs.Prelude.{◌≡◌, ◌++◌, ℕ, [], ◌∷◌, None, Some, slice_get, IfOk, OnOk};
 ghost use Rattle.std.specs.Io.{ReadsAtMost, WritesAtMost};
-ghost use Rattle.serve.specs.SocketEvents.{Adds, accept_events, clock, read_events, shutdown_events, write_events};
-ghost use Rattle.host_sockets.specs.Ports.{IsGone, IsOpen, ListensAt, OpenStay, OthersStay, addresses, closed};
+ghost use Rattle.serve.specs.SocketEvents.{Adds, Carries, accept_events, clock, read_events, shutdown_events, write_events};
+ghost use Rattle.wires.specs.Wires as wires;
+ghost use Rattle.host_sockets.specs.Ports.{AreAt, BecomesAt, ClosesAt, HappensAt, IsOpen, LetsInAt, ListensAt, NoneIsOpen, OpenStay, OthersStay, addresses};
+ghost use Rattle.host_sockets.specs.Laid.{AreLaid};
 
 mod counts;
+mod laws;
 mod lingering;
 mod port;
 
 use crate::port::Port;
 pub use counts::SocketCounts;
+pub use laws::{what_is_laid, wrong_bodies_are_refused};
 pub use lingering::LINGERING_LIMIT;
-use mio::{Events, Poll, Token};
 use serve::{Socket, Sockets, is_not_ready};
 use std::alloc::Global;
 use std::io::{self, ErrorKind};
 use std::net::{IpAddr, SocketAddr};
-use std::thread;
-use std::time::{Duration, Instant};
 use thiserror::Error;
+use wires::{Door, Host, Wire};
 
 /// The most bytes that are dropped of a closed connection at a time.
 const DROP_LIMIT: usize = 16_384;
 
-/// How many ports are found at a time at which clients wait. Any further one is found the next
+/// How many ports are looked at a time at which clients wait. Any further one is found the next
 /// time.
 const WAITING_LIMIT: usize = 256;
 
@@ -40,22 +42,17 @@ pub enum ListenError {
     Host(#[from] io::Error),
 }
 
-/// Ports, connections and a clock of this host.
+/// Ports, connections and a clock of a host.
 ///
 /// A connection that is closed sends no more at once. What its client still sends is read and
 /// dropped, until the client closes it too, for two seconds at most.
 #[derive(Drop)]
-pub struct HostSockets<'a> {
-    rt: &'a HostRuntime,
+pub struct HostSockets<'a, H: Host> {
+    host: H,
     /// By the instances' numbers.
-    ports: Vec<Port>,
-    /// Finds the ports to which clients came.
-    poll: Poll,
-    /// Those that it found.
-    found: Events,
+    ports: Vec<Port<H::Door>>,
     /// Where dropped bytes are read to.
     room: Vec<u8>,
-    start: Instant,
     /// What the clock showed last.
     moment: u64,
     faults: u64,
@@ -63,22 +60,25 @@ pub struct HostSockets<'a> {
     counts: Option<&'a SocketCounts>,
 }
 
-impl<'a> HostSockets<'a> {
-    /// Sockets that listen on these ports of an address of the host, for the instances in order,
-    /// and a clock that starts now. With port 0 the system chooses one. The first port on which
-    /// there is no listening is told, and there is none on any.
+impl<'a, H: Host> HostSockets<'a, H> {
+    /// Sockets that listen on these ports of an address of the host, for the instances in order.
+    /// With port 0 the system chooses one. The first port on which there is no listening is told,
+    /// and there is none on any.
     pub fn listen(
-        rt: &'a HostRuntime,
+        host: H,
         alloc: Global,
         ip: IpAddr,
         ports: &[u16],
-    ) -> Result<HostSockets<'a>, ListenError>
-        ensures { IfOk result (ListensAt ip ports.now) }
+    ) -> Result<HostSockets<'a, H>, ListenError>
+        ensures ports { IfOk result (ListensAt ip ports.now) }
+        ensures doors { IfOk result (λ sockets. AreAt H.Door.at sockets.ports.items) }
+        ensures laid { IfOk result (λ sockets.
+            AreLaid H.Door.Wire.happened sockets.ports.items []) }
     {
-        let mut sockets = HostSockets::new(rt, alloc)?;
+        let mut sockets = HostSockets::new(host, alloc)?;
         'ports: for port in ports {
             let address = SocketAddr::new(ip, *port);
-            if let Err(error) = sockets.add_port(address) {
+            if let Err(error) = sockets.add_port(alloc, address) {
                 return Err(ListenError::Port(address, error));
             }
         }
@@ -86,16 +86,15 @@ impl<'a> HostSockets<'a> {
     }
 
     /// Sockets that listen on no port.
-    fn new(rt: &'a HostRuntime, alloc: Global) -> io::Result<HostSockets<'a>>
-        ensures { IfOk result (λ sockets. addresses sockets ≡ []) }
+    fn new(host: H, alloc: Global) -> io::Result<HostSockets<'a, H>>
+        ensures none { IfOk result (λ sockets. addresses sockets ≡ []) }
+        ensures doors { IfOk result (λ sockets. AreAt H.Door.at sockets.ports.items) }
+        ensures unopened { IfOk result (λ sockets. NoneIsOpen sockets.ports.items) }
     {
         Ok(HostSockets {
-            rt,
+            host,
             ports: Vec::new(alloc),
-            poll: Poll::new(rt)?,
-            found: Events::with_capacity(alloc, WAITING_LIMIT)?,
             room: vec![in alloc; 0; DROP_LIMIT]?,
-            start: Instant::now(rt)?,
             moment: 0,
             faults: 0,
             counts: None,
@@ -103,12 +102,16 @@ impl<'a> HostSockets<'a> {
     }
 
     /// Listens on one more port.
-    fn add_port(&mut self, address: SocketAddr) -> io::Result<()>
-        ensures { IfOk result (λ _. addresses self.new ≡ addresses self.old ++ address ∷ []) }
+    fn add_port(&mut self, alloc: Global, address: SocketAddr) -> io::Result<()>
+        requires doors { AreAt H.Door.at self.old.ports.items }
+        requires unopened { NoneIsOpen self.old.ports.items }
+        ensures address { IfOk result (λ _. addresses self.new
+            ≡ addresses self.old ++ address ∷ []) }
+        ensures doors { IfOk result (λ _. AreAt H.Door.at self.new.ports.items) }
+        ensures unopened { IfOk result (λ _. NoneIsOpen self.new.ports.items) }
     {
-        let mut port = Port::open(self.rt, self.rt.alloc(), address)?;
-        let token = Token(self.ports.len());
-        port.register(self.poll.registry(), token)?;
+        let door = self.host.open(address, self.ports.len())?;
+        let port = Port::new(alloc, address, door)?;
         self.ports.push(port)?;
         Ok(())
     }
@@ -139,9 +142,10 @@ impl<'a> HostSockets<'a> {
     }
 
     fn accept_now(&mut self, socket: Socket) -> io::Result<()>
-        ensures open { OnOk result (IsOpen socket self.new) }
-        ensures others { OthersStay socket.instance self.old self.new }
-        ensures lingering { closed self.new ≡ closed self.old }
+        ensures open { OnOk result (IsOpen socket.instance socket.connection self.new.ports.items) }
+        ensures own { BecomesAt socket.instance (LetsInAt H.Door.Wire.happened H.Door.given
+            H.Door.at socket.connection result) self.old.ports.items self.new.ports.items }
+        ensures others { OthersStay socket.instance self.old.ports.items self.new.ports.items }
     {
         match self.ports.get_mut(socket.instance as usize) {
             Some(port) => port.accept(socket.connection, self.counts),
@@ -151,9 +155,11 @@ impl<'a> HostSockets<'a> {
 
     fn read_now(&mut self, socket: Socket, room: &mut [u8]) -> io::Result<usize>
         ensures bound { ReadsAtMost result room.new }
-        ensures open { OnOk result (IsOpen socket self.old) }
-        ensures others { OthersStay socket.instance self.old self.new }
-        ensures lingering { closed self.new ≡ closed self.old }
+        ensures open { OnOk result (IsOpen socket.instance socket.connection self.old.ports.items) }
+        ensures own { BecomesAt socket.instance (HappensAt H.Door.Wire.happened
+            socket.connection (wires.read_events result room.new)) self.old.ports.items
+            self.new.ports.items }
+        ensures others { OthersStay socket.instance self.old.ports.items self.new.ports.items }
     {
         match self.ports.get_mut(socket.instance as usize) {
             Some(port) => port.read(socket.connection, room),
@@ -163,9 +169,11 @@ impl<'a> HostSockets<'a> {
 
     fn write_now(&mut self, socket: Socket, bytes: &[u8]) -> io::Result<usize>
         ensures bound { WritesAtMost result bytes.now }
-        ensures open { OnOk result (IsOpen socket self.old) }
-        ensures others { OthersStay socket.instance self.old self.new }
-        ensures lingering { closed self.new ≡ closed self.old }
+        ensures open { OnOk result (IsOpen socket.instance socket.connection self.old.ports.items) }
+        ensures own { BecomesAt socket.instance (HappensAt H.Door.Wire.happened
+            socket.connection (wires.write_events result bytes.now)) self.old.ports.items
+            self.new.ports.items }
+        ensures others { OthersStay socket.instance self.old.ports.items self.new.ports.items }
     {
         match self.ports.get_mut(socket.instance as usize) {
             Some(port) => port.write(socket.connection, bytes),
@@ -173,10 +181,20 @@ impl<'a> HostSockets<'a> {
         }
     }
 
+    /// Reads the clock, drops what closed connections bring, and looks at which ports clients wait.
+    fn go_on(&mut self)
+        ensures { OpenStay H.Door.Wire.happened self.old.ports.items self.new.ports.items }
+    {
+        self.moment = self.moment.max(self.passed());
+        port::drop_rest(&mut self.ports, self.moment, &mut self.room);
+        self.find_waiting();
+    }
+
     /// Sends no more on a connection, and keeps it for what its client still sends.
     fn close_now(&mut self, socket: Socket) -> io::Result<()>
-        ensures gone { IsGone socket self.new }
-        ensures others { OthersStay socket.instance self.old self.new }
+        ensures own { BecomesAt socket.instance (ClosesAt H.Door.Wire.happened
+            socket.connection) self.old.ports.items self.new.ports.items }
+        ensures others { OthersStay socket.instance self.old.ports.items self.new.ports.items }
     {
         // Much time may have gone by in this turn.
         let now = self.passed();
@@ -201,49 +219,53 @@ impl<'a> HostSockets<'a> {
     fn find_waiting(&mut self)
         ensures { self.new.ports ≡ self.old.ports }
     {
-        let polled = self.poll.poll(&mut self.found, Some(Duration::ZERO));
-        self.count(&polled);
-        if polled.is_err() {
+        let found = self.host.find();
+        self.count(&found);
+        if found.is_err() {
             for port in &self.ports {
                 port.may_have_come();
             }
         }
-        for event in self.found.iter() {
-            if let Some(port) = self.ports.get(event.token().0) {
+        for nth in 0..WAITING_LIMIT {
+            let Some(place) = self.host.found(nth) else {
+                return;
+            };
+            if let Some(port) = self.ports.get(place) {
                 port.may_have_come();
             }
         }
     }
 }
 
-impl<'a> Sockets for HostSockets<'a> {
+impl<'a, H: Host> Sockets for HostSockets<'a, H> {
+    ghost carries = { λ s h. AreLaid H.Door.Wire.happened s.ports.items h };
+
     /// It also looks at which ports clients wait, once for all of them.
     fn now(&mut self) -> u64
-        ensures open { OpenStay self.old.ports.items self.new.ports.items }
+        ensures open { OpenStay H.Door.Wire.happened self.old.ports.items
+            self.new.ports.items }
         ensures adds { Adds None None (clock result ∷ []) }
+        ensures carries { (moment : ℕ)
+            → Carries (AreLaid H.Door.Wire.happened self.old.ports.items)
+            (AreLaid H.Door.Wire.happened self.new.ports.items) (clock moment ∷ []) }
     {
-        self.moment = self.moment.max(self.passed());
-        port::drop_rest(&mut self.ports, self.moment, &mut self.room);
-        self.find_waiting();
+        self.go_on();
         self.moment
     }
 
     /// It is 0 where the clock cannot be read.
     fn passed(&self) -> u64 {
-        match self.start.elapsed(self.rt) {
-            Ok(passed) => {
-                let seconds = passed.as_secs().saturating_mul(1000);
-                seconds.saturating_add(passed.subsec_millis() as u64)
-            }
-            Err(_) => 0,
-        }
+        self.host.passed().unwrap_or(0)
     }
 
     fn accept(&mut self, socket: Socket) -> io::Result<()>
-        ensures open { OnOk result (IsOpen socket self.new) }
-        ensures others { OthersStay socket.instance self.old self.new }
-        ensures lingering { closed self.new ≡ closed self.old }
+        ensures open { OnOk result (IsOpen socket.instance socket.connection self.new.ports.items) }
+        ensures own { BecomesAt socket.instance (LetsInAt H.Door.Wire.happened H.Door.given
+            H.Door.at socket.connection result) self.old.ports.items self.new.ports.items }
+        ensures others { OthersStay socket.instance self.old.ports.items self.new.ports.items }
         ensures adds { Adds None None (accept_events socket result) }
+        ensures carries { Carries (AreLaid H.Door.Wire.happened self.old.ports.items)
+            (AreLaid H.Door.Wire.happened self.new.ports.items) (accept_events socket result) }
     {
         let outcome = self.accept_now(socket);
         self.count(&outcome);
@@ -252,10 +274,15 @@ impl<'a> Sockets for HostSockets<'a> {
 
     fn read(&mut self, socket: Socket, room: &mut [u8]) -> io::Result<usize>
         ensures bound { ReadsAtMost result room.new }
-        ensures open { OnOk result (IsOpen socket self.old) }
-        ensures others { OthersStay socket.instance self.old self.new }
-        ensures lingering { closed self.new ≡ closed self.old }
+        ensures open { OnOk result (IsOpen socket.instance socket.connection self.old.ports.items) }
+        ensures own { BecomesAt socket.instance (HappensAt H.Door.Wire.happened
+            socket.connection (wires.read_events result room.new)) self.old.ports.items
+            self.new.ports.items }
+        ensures others { OthersStay socket.instance self.old.ports.items self.new.ports.items }
         ensures adds { Adds None None (read_events socket result room.new) }
+        ensures carries { Carries (AreLaid H.Door.Wire.happened self.old.ports.items)
+            (AreLaid H.Door.Wire.happened self.new.ports.items)
+            (read_events socket result room.new) }
     {
         let outcome = self.read_now(socket, room);
         self.count(&outcome);
@@ -264,10 +291,15 @@ impl<'a> Sockets for HostSockets<'a> {
 
     fn write(&mut self, socket: Socket, bytes: &[u8]) -> io::Result<usize>
         ensures bound { WritesAtMost result bytes.now }
-        ensures open { OnOk result (IsOpen socket self.old) }
-        ensures others { OthersStay socket.instance self.old self.new }
-        ensures lingering { closed self.new ≡ closed self.old }
+        ensures open { OnOk result (IsOpen socket.instance socket.connection self.old.ports.items) }
+        ensures own { BecomesAt socket.instance (HappensAt H.Door.Wire.happened
+            socket.connection (wires.write_events result bytes.now)) self.old.ports.items
+            self.new.ports.items }
+        ensures others { OthersStay socket.instance self.old.ports.items self.new.ports.items }
         ensures adds { Adds None None (write_events socket result bytes.now) }
+        ensures carries { Carries (AreLaid H.Door.Wire.happened self.old.ports.items)
+            (AreLaid H.Door.Wire.happened self.new.ports.items)
+            (write_events socket result bytes.now) }
     {
         let outcome = self.write_now(socket, bytes);
         self.count(&outcome);
@@ -275,9 +307,12 @@ impl<'a> Sockets for HostSockets<'a> {
     }
 
     fn close(&mut self, socket: Socket) -> io::Result<()>
-        ensures gone { IsGone socket self.new }
-        ensures others { OthersStay socket.instance self.old self.new }
+        ensures own { BecomesAt socket.instance (ClosesAt H.Door.Wire.happened
+            socket.connection) self.old.ports.items self.new.ports.items }
+        ensures others { OthersStay socket.instance self.old.ports.items self.new.ports.items }
         ensures adds { Adds None None (shutdown_events socket) }
+        ensures carries { Carries (AreLaid H.Door.Wire.happened self.old.ports.items)
+            (AreLaid H.Door.Wire.happened self.new.ports.items) (shutdown_events socket) }
     {
         let outcome = self.close_now(socket);
         self.count(&outcome);
@@ -291,13 +326,15 @@ impl<'a> Sockets for HostSockets<'a> {
     fn rest(&mut self, idle_turns: u64)
         ensures ports { self.new.ports ≡ self.old.ports }
         ensures adds { Adds None None [] }
+        ensures carries { Carries (AreLaid H.Door.Wire.happened self.old.ports.items)
+            (AreLaid H.Door.Wire.happened self.new.ports.items) [] }
     {
         if idle_turns < 100 {
-            thread::yield_now();
+            self.host.rest(0);
         } else if idle_turns < 300 {
-            thread::sleep(self.rt, Duration::from_micros(50));
+            self.host.rest(50);
         } else {
-            thread::sleep(self.rt, Duration::from_millis(1));
+            self.host.rest(1_000);
         }
     }
 }

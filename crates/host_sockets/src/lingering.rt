@@ -1,8 +1,10 @@
 //! Closed connections, which are kept for what their clients still send.
 
-use mio::net::TcpStream;
+ghost use Rattle.std.specs.Prelude.{◌≡◌};
+ghost use Rattle.host_sockets.specs.Came.{OnlyCame};
+
 use serve::is_not_ready;
-use std::io::Read;
+use wires::Wire;
 
 /// For how many milliseconds a closed connection is kept at most, for what its client still sends.
 /// If it went at once while such bytes are unread, the system would reset it, and the client might
@@ -14,20 +16,24 @@ pub const LINGERING_LIMIT: usize = 64;
 
 /// A closed connection, and when it was closed.
 #[derive(Drop)]
-pub(crate) struct Lingering {
-    stream: TcpStream,
+pub(crate) struct Lingering<W> {
+    pub(crate) wire: W,
     since: u64,
 }
 
-impl Lingering {
+impl<W: Wire> Lingering<W> {
     /// A connection that is closed at this moment.
-    pub(crate) fn new(stream: TcpStream, since: u64) -> Lingering {
-        Lingering { stream, since }
+    pub(crate) fn new(wire: W, since: u64) -> Lingering<W>
+        ensures { result.wire ≡ wire }
+    {
+        Lingering { wire, since }
     }
 
     /// Drops what came, and says whether the client may still send more, and is not late.
-    pub(crate) fn drop_more(&mut self, now: u64, room: &mut [u8]) -> bool {
-        let is_open = match self.stream.read(room) {
+    pub(crate) fn drop_more(&mut self, now: u64, room: &mut [u8]) -> bool
+        ensures { OnlyCame W.happened self.old.wire self.new.wire }
+    {
+        let is_open = match self.wire.read(room) {
             Ok(0) => false,
             Ok(_) => true,
             Err(error) => is_not_ready(&error),

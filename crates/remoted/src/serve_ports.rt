@@ -18,6 +18,7 @@ use command_line::Service;
 use host_folders::{FolderCounts, HostFolder, Work};
 use host_programs::{HostPrograms, Launcher, launcher_path};
 use host_sockets::{HostSockets, ListenError, SocketCounts};
+use host_wires::ThisHost;
 use instance_words::{Instances, InstancesFault, instances_of};
 use job_runs::JobRunner;
 use keyed_maps::MapKey;
@@ -60,10 +61,10 @@ fn listen<'a, E: Write>(
     ip: IpAddr,
     ports: &[u16],
     errors: &mut E,
-) -> io::Result<Option<HostSockets<'a>>>
+) -> io::Result<Option<HostSockets<'a, ThisHost<'a>>>>
     ensures { IfOk result (λ found. IfSome found (ListensAt ip ports.now)) }
 {
-    match HostSockets::listen(rt, rt.alloc(), ip, ports) {
+    match HostSockets::listen(ThisHost::new(rt)?, rt.alloc(), ip, ports) {
         Ok(sockets) => Ok(Some(sockets)),
         Err(ListenError::Port(address, error)) if !is_memory(&error) => {
             tell_taken(address, &error, errors)?;
@@ -95,7 +96,7 @@ pub fn told(outcome: io::Result<()>) -> io::Result<()> {
 /// Prints which instance is served on which port.
 fn announce<O: Write>(
     configs: &Configs,
-    sockets: &HostSockets<'_>,
+    sockets: &HostSockets<'_, ThisHost<'_>>,
     output: &mut O,
 ) -> io::Result<()> {
     for (number, config) in configs.instances().iter().enumerate() {
@@ -195,7 +196,7 @@ fn passed_since(rt: &HostRuntime, moment: Option<Instant>) -> u64 {
 fn end_runs(
     rt: &HostRuntime,
     configs: &Configs,
-    mut sockets: HostSockets<'_>,
+    mut sockets: HostSockets<'_, ThisHost<'_>>,
     runs: &mut JobRunner<HostFolder<'_>, HostPrograms<'_>>,
     lines: &mut ErrorLines<StandardError>,
 ) {
@@ -252,7 +253,7 @@ fn serve_turns(
     rt: &HostRuntime,
     key: MapKey,
     instances: &Instances,
-    mut sockets: HostSockets<'_>,
+    mut sockets: HostSockets<'_, ThisHost<'_>>,
     runs: &mut JobRunner<HostFolder<'_>, HostPrograms<'_>>,
     folders: &FolderCounts,
     refusals: &SocketCounts,

@@ -1,9 +1,9 @@
 //! What a log of sockets says of a client.
 
-use serve::{LoggedSockets, Socket, SocketRecord};
+use serve::{LoggedSockets, Socket, SocketRecord, Sockets};
 
 /// What a log has; nothing where it was lost.
-pub fn records<S>(sockets: &LoggedSockets<S>) -> &[SocketRecord] {
+pub fn records<S: Sockets>(sockets: &LoggedSockets<S>) -> &[SocketRecord] {
     match &sockets.log {
         Some(records) => records,
         None => &[],

@@ -4,6 +4,7 @@ use crate::sockets::alone::sent_on;
 use crate::sockets::log::{accepted, has_written, records};
 use crate::sockets::no_runs::serve_alone;
 use host_sockets::{HostSockets, ListenError};
+use host_wires::ThisHost;
 use mio::net::TcpStream;
 use program_status::{Fault, Output};
 use serve::{LoggedSockets, Socket, SocketRecord, Sockets};
@@ -47,7 +48,7 @@ impl<'a> Peer<'a> {
 /// The sockets of this host, and clients that take a turn whenever the time is told.
 #[derive(Drop)]
 struct WithPeers<'a> {
-    sockets: HostSockets<'a>,
+    sockets: HostSockets<'a, ThisHost<'a>>,
     peers: Vec<Peer<'a>>,
 }
 
@@ -129,7 +130,7 @@ fn is_as_alone(configs: &Configs, peer: &Peer<'_>, output: &mut Output) -> bool 
 /// A client of an instance, connected.
 fn connected<'a>(
     rt: &HostRuntime,
-    sockets: &HostSockets<'_>,
+    sockets: &HostSockets<'_, ThisHost<'_>>,
     instance: u32,
     text: &'a [u8],
 ) -> io::Result<Peer<'a>> {
@@ -146,7 +147,7 @@ fn connected<'a>(
 /// A client for each text, by turns of the two instances.
 fn peers<'a>(
     rt: &HostRuntime,
-    sockets: &HostSockets<'_>,
+    sockets: &HostSockets<'_, ThisHost<'_>>,
     texts: &'a [Vec<u8>],
     output: &mut Output,
 ) -> Vec<Peer<'a>> {
@@ -198,7 +199,7 @@ fn differing(
 /// were not sent what their instance gives alone.
 fn serve_over<'a>(
     rt: &HostRuntime,
-    sockets: HostSockets<'a>,
+    sockets: HostSockets<'a, ThisHost<'a>>,
     configs: &Configs,
     texts: &'a [Vec<u8>],
     output: &mut Output,
@@ -218,7 +219,11 @@ pub fn serve_peers<'a>(
     output: &mut Output,
 ) -> u32 {
     let ip = IpAddr::V4(Ipv4Addr::LOCALHOST);
-    match HostSockets::listen(rt, rt.alloc(), ip, &[0, 0]) {
+    let listened = match ThisHost::new(rt) {
+        Ok(host) => HostSockets::listen(host, rt.alloc(), ip, &[0, 0]),
+        Err(error) => Err(ListenError::Host(error)),
+    };
+    match listened {
         Ok(sockets) => serve_over(rt, sockets, configs, texts, output),
         Err(ListenError::Host(error) | ListenError::Port(_, error)) => {
             output.fail(Fault::of(&error));

@@ -1,11 +1,14 @@
-use Rattle.std.proofs.Common.{refl}
-use Rattle.host_sockets.proofs.Ports.{closed_stay, one_changes}
+use Rattle.host_sockets.proofs.Ports.{one_becomes, one_changes}
 use Rattle.host_sockets.proofs.HostSockets.read_now.Goals as goal
 
 pub returns-in-Some-clause-others : goal.returns-in-Some-clause-others
-returns-in-Some-clause-others c = one_changes _ _ c.args.socket.instance c.in-Some.port.now
-    c.read.new.self refl c.in-Some.ensures.value c.read.ensures.address
+returns-in-Some-clause-others g c = one_changes _ c.args.socket.instance c.in-Some.port.now
+    c.read.new.self c.in-Some.ensures.value c.read.ensures.address
 
-pub returns-in-Some-clause-lingering : goal.returns-in-Some-clause-lingering
-returns-in-Some-clause-lingering c = closed_stay _ c.args.socket.instance c.in-Some.port.now
-    c.read.new.self c.in-Some.ensures.value c.read.ensures.lingering
+pub returns-in-Some-clause-own : goal.returns-in-Some-clause-own
+returns-in-Some-clause-own g c = one_becomes _ _ c.args.socket.instance c.in-Some.port.now
+    c.read.new.self c.in-Some.ensures.value (
+      c.read.ensures.own,
+      c.read.ensures.door,
+      c.read.ensures.lingering,
+    )

@@ -51,10 +51,10 @@ class Site:
 
 
 @contextlib.contextmanager
-def site(report, program, following=""):
+def site(report, program, following="", **more):
     folder = tempfile.mkdtemp(prefix="launchers-slurm-")
     try:
-        with Cluster(folder) as cluster:
+        with Cluster(folder, **more) as cluster:
             yield Site(report, program, folder, cluster, following)
     finally:
         for number in programs.running(folder):

@@ -43,6 +43,7 @@ SlurmdTimeout={lost}
 MessageTimeout=60
 KillWait=2
 SchedulerParameters=batch_sched_delay=0,sched_min_interval=10000
+SlurmdParameters=config_overrides
 NodeName=one NodeHostname={host} NodeAddr=127.0.0.1 Port={ports[1]} CPUs={cpus} State=UNKNOWN
 NodeName=two NodeHostname={host} NodeAddr=127.0.0.1 Port={ports[2]} CPUs={cpus} State=UNKNOWN
 PartitionName=main Nodes=ALL Default=YES MaxTime=INFINITE State=UP

@@ -1,0 +1,194 @@
+#!/usr/bin/env python3
+"""launchers_words.py PROGRAM [--only KIND ..] [--ways WAY ..] [--slow FACTOR]: odd commands, with launchers and without.
+
+PROGRAM is the built `remoted`. It gives each command to four servers: one without a launcher, one with
+`launchers/sandbox`, one with `launchers/slurm`, and one with that and the sandbox behind it. What comes of it has to be
+equal for all four: the status of the Operation, the exit code, standard output and error, and the outputs. What is known
+to differ stands in KNOWN, with its reason, and has to differ in just that way.
+
+Kinds are the functions of `odd_commands.py`. Without bubblewrap, Slurm or root the ways that need them are left out, and
+that is said. A line for each command that fails; it ends with `N passed, M failed`, and with status 1 where one failed.
+"""
+
+import argparse
+import collections
+import concurrent.futures
+import contextlib
+import os
+import shutil
+import subprocess
+import sys
+import tempfile
+import time
+
+import odd_commands
+import slurm_cluster
+from executing import Action, Peer
+from launchers_sandbox import sandbox
+from launchers_slurm import site
+from server import Server
+
+# What differs, and how: for these ways the status and the exit code that stand here. Each has a line in DEPLOYING.
+FAILED, ANY = (13, None), None
+KNOWN = {
+    "missing": (
+        "a program that cannot be started is a failed run without a launcher, and code 126 or 127 of `env` with one",
+        {"none": [FAILED, (0, 127)], "sandbox": [(0, 126), (0, 127)], "slurm": [(0, 126), (0, 127)], "both": [(0, 126), (0, 127)]},
+    ),
+    "equals": (
+        "a program with a `=` in its name: `env` would take it for a variable",
+        {"sandbox": [FAILED], "slurm": [FAILED], "both": [FAILED]},
+    ),
+    "order": (
+        "variables have the order of their names without a launcher, and that of the command with one",
+        {"sandbox": [(0, 0)], "slurm": [(0, 0)], "both": [(0, 0)]},
+    ),
+    "loader": (
+        "without a launcher `/usr/bin/setsid` has the action's variables, too: what the dynamic loader says comes twice",
+        {"sandbox": [(0, 0)], "slurm": [(0, 0)], "both": [(0, 0)]},
+    ),
+    "many": ("bubblewrap takes no more than 9,000 words, its own among them", {"sandbox": [FAILED], "both": [FAILED]}),
+    "near": (
+        "the last few kilobytes of 2 MiB of words: lines of launchers are longer",
+        {"none": [(0, 0)], "sandbox": [FAILED], "slurm": [(0, 0), FAILED], "both": [FAILED]},
+    ),
+    "killed": ("with a launcher behind Slurm the code 137 counts as a failure of that", {"both": [FAILED]}),
+}
+WAYS = ["none", "sandbox", "slurm", "both"]
+# The slots of a server, and how many actions it knows of at a time.
+SLOTS, TOGETHER = 16, 64
+
+
+class Report:
+    """What holds and what does not."""
+
+    def __init__(self, slow):
+        self.slow, self.passed, self.failed = slow, 0, 0
+
+    def expect(self, holds, what, found):
+        if holds:
+            self.passed += 1
+        else:
+            self.failed += 1
+            print(f"FAILED {what}: {found}", flush=True)
+
+
+class Outcome:
+    """What came of a command, by digests, and the texts of its streams where they are wanted."""
+
+    def __init__(self, operation, peer):
+        result = operation.result
+        self.end = operation.status.code, result and result.code
+        self.outputs = result and (result.stdout, result.stderr, sorted(result.files.items()), sorted(result.trees.items()))
+        self.texts = [peer.stream_text(each) for each in (result.stdout, result.stderr)] if result else []
+
+    def __eq__(self, other):
+        return (self.end, self.outputs) == (other.end, other.outputs)
+
+    def __str__(self):
+        said = " ".join(repr(text) if len(text) < 400 else f"{text[:150]!r} .. {text[-200:]!r}" for text in self.texts)
+        return f"{self.end} {said} {self.outputs and self.outputs[2:]}"
+
+
+def outcomes(peer, commands):
+    """The outcomes of all commands, many at a time."""
+    found, begun = [], collections.deque()
+    take = lambda: found.append(Outcome(peer.operations(begun.popleft())[-1], peer))
+    for each in commands:
+        if len(begun) == TOGETHER:
+            take()
+        action = Action(each.words, each.tree, do_not_cache=True, **each.given)
+        begun.append(peer.start(action))
+    while begun:
+        take()
+    return found
+
+
+@contextlib.contextmanager
+def by_way(report, program, way, folder):
+    """A connection to a server whose programs are started in this way."""
+    made = os.path.join(folder, way)
+    os.mkdir(made)
+    if way in ("slurm", "both"):
+        following = sandbox(made) if way == "both" else ""
+        with site(report, program, following, cpus=SLOTS // 2) as here, here.serve(SLOTS) as (_, peer):
+            yield peer
+    else:
+        launcher, work = sandbox(made) if way == "sandbox" else None, os.path.join(made, "work")
+        with Server(program, [("red", 10**9, SLOTS // 2)], 2**62, None, work, True, launcher) as server:
+            with Peer(server.ports[0], 300 * report.slow) as peer:
+                yield peer
+
+
+def commands_of(kinds, folder):
+    """The commands of these kinds, and the file that some of them try to write."""
+    mark, root = os.path.join(folder, "mark"), os.path.join(folder, "root")
+    for name in [root, f"{root}.aside"]:
+        os.mkdir(name)
+    found = []
+    for kind in kinds:
+        given = {"good": [mark], "divided": [mark, root]}.get(kind, [])
+        found += list(odd_commands.KINDS[kind](*given))
+    return found, mark
+
+
+def is_known(known, way, first, outcome):
+    """Whether an outcome of a way is as the list says, or as that of the first way."""
+    ends = KNOWN[known][1].get(way) if known else None
+    return outcome.end in ends if ends else outcome == first
+
+
+def compare(report, commands, found):
+    for at, each in enumerate(commands):
+        ways = {way: outcomes[at] for way, outcomes in found.items()}
+        first = next(iter(ways.values()))
+        wrong = [way for way in ways if not is_known(each.known, way, first, ways[way])]
+        told = "".join(f"\n    {way}: {outcome}" for way, outcome in ways.items())
+        report.expect(not wrong, f"{each.what} ({', '.join(wrong)})", told)
+
+
+def told_by(report, program, way, folder, commands, mark):
+    """The outcomes of all commands in this way, which write no file outside of their folders."""
+    begun = time.monotonic()
+    with by_way(report, program, way, folder) as peer:
+        found = outcomes(peer, commands)
+    print(f"{way}: {len(commands)} commands in {time.monotonic() - begun:.0f} s", flush=True)
+    report.expect(not os.path.exists(mark), f"{way}: no word is run outside of its program", mark)
+    return found
+
+
+def is_there(way):
+    """Whether what this way needs is there; otherwise it is said."""
+    missing = slurm_cluster.lacking() if way in ("slurm", "both") else []
+    if way in ("sandbox", "both"):
+        missing += [] if shutil.which("bwrap") else ["bubblewrap (bwrap)"]
+        missing += [] if subprocess.run(["/usr/bin/python3", "-c", "import seccomp"]).returncode == 0 else ["python3-seccomp"]
+    if missing:
+        print(f"skipped {way}: it needs {', '.join(missing)}", flush=True)
+    return not missing
+
+
+def main():
+    parser = argparse.ArgumentParser(description=__doc__, formatter_class=argparse.RawDescriptionHelpFormatter)
+    parser.add_argument("program")
+    parser.add_argument("--only", nargs="*", default=[*odd_commands.KINDS], choices=odd_commands.KINDS, metavar="KIND")
+    parser.add_argument("--ways", nargs="*", default=WAYS, choices=WAYS, metavar="WAY")
+    parser.add_argument("--slow", type=float, default=1.0, metavar="FACTOR")
+    options = parser.parse_args()
+    report, folder = Report(options.slow), tempfile.mkdtemp(prefix="launchers-words-")
+    os.chmod(folder, 0o755)
+    try:
+        program = shutil.copy(options.program, folder)
+        commands, mark = commands_of(options.only, folder)
+        ways = [way for way in options.ways if is_there(way)]
+        with concurrent.futures.ThreadPoolExecutor() as threads:
+            tasks = [threads.submit(told_by, report, program, way, folder, commands, mark) for way in ways]
+            found = {way: task.result() for way, task in zip(ways, tasks)}
+        compare(report, commands, found)
+    finally:
+        shutil.rmtree(folder)
+    print(f"{report.passed} passed, {report.failed} failed", flush=True)
+    sys.exit(report.failed > 0)
+
+
+main()

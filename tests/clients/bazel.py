@@ -20,6 +20,30 @@ def _impl(ctx):
 directory = rule(implementation = _impl, attrs = {"srcs": attr.label_list(allow_files = True)})
 """
 
+# What Bazel would load from the net; these rules need no more of it.
+STUBS = {
+    "rules_cc/WORKSPACE": "",
+    "rules_cc/cc/BUILD": "",
+    "rules_cc/cc/defs.bzl": "".join(
+        f"{name} = native.{name}\n"
+        for name in ["cc_library", "cc_binary", "cc_test", "cc_import", "cc_toolchain", "cc_toolchain_suite"]
+    ),
+    "rules_java/WORKSPACE": "",
+    "rules_java/java/BUILD": "",
+    "rules_java/java/defs.bzl": "".join(
+        f"java_{name} = native.java_{name}\n"
+        for name in ["binary", "import", "library", "runtime", "toolchain", "package_configuration", "plugin", "test"]
+    ),
+    "remote_coverage_tools/WORKSPACE": "",
+    "remote_coverage_tools/BUILD": "filegroup(name = 'coverage_report_generator', visibility = ['//visibility:public'])\n",
+}
+
+
+def overrides(folder):
+    """The flags by which Bazel takes these stubs, which are in `stubs` of this folder."""
+    names = dict.fromkeys(name.split("/")[0] for name in STUBS)
+    return [f"--override_repository={name}={folder}/stubs/{name}" for name in names]
+
 
 def make_files(folder, files):
     """Makes files of these texts; one whose name ends in `.sh` may be run."""

@@ -25,7 +25,7 @@ import tempfile
 import time
 
 import programs
-from bazel import DIRECTORY_RULE, Bazel, Counts, contents, make_files
+from bazel import DIRECTORY_RULE, STUBS, Bazel, Counts, contents, make_files, overrides
 from server import Server
 from slurm_cluster import Cluster, launcher
 
@@ -33,24 +33,6 @@ LIBRARIES, PROGRAMS, RULES, TREES = 24, 8, 56, 10
 PASSING, FAILING, SLOW, LEAVING = 5, 3, 2, 3
 TESTS = PASSING + FAILING + SLOW + LEAVING
 TEST_SECONDS = 20
-
-# What Bazel would load from the net; these rules need no more of it.
-STUBS = {
-    "rules_cc/WORKSPACE": "",
-    "rules_cc/cc/BUILD": "",
-    "rules_cc/cc/defs.bzl": "".join(
-        f"{name} = native.{name}\n"
-        for name in ["cc_library", "cc_binary", "cc_test", "cc_import", "cc_toolchain", "cc_toolchain_suite"]
-    ),
-    "rules_java/WORKSPACE": "",
-    "rules_java/java/BUILD": "",
-    "rules_java/java/defs.bzl": "".join(
-        f"java_{name} = native.java_{name}\n"
-        for name in ["binary", "import", "library", "runtime", "toolchain", "package_configuration", "plugin", "test"]
-    ),
-    "remote_coverage_tools/WORKSPACE": "",
-    "remote_coverage_tools/BUILD": "filegroup(name = 'coverage_report_generator', visibility = ['//visibility:public'])\n",
-}
 
 SCRIPTS = {
     "pass": "#!/bin/sh\necho passes\n",
@@ -106,10 +88,7 @@ def workspace():
 
 def flags(folder, options, port=None, instance=None):
     given = [
-        f"--override_repository={name}={folder}/stubs/{name}"
-        for name in ["rules_cc", "rules_java", "remote_coverage_tools"]
-    ]
-    given += [
+        *overrides(folder),
         f"--jobs={options.jobs}",
         f"--test_timeout={TEST_SECONDS}",
         "--keep_going",

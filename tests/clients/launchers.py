@@ -1,5 +1,5 @@
 #!/usr/bin/env python3
-"""launchers.py PROGRAM [--only PART ..] [--slow FACTOR] [--count N]: actions that launchers start.
+"""launchers.py PROGRAM [--only PART ..] [--slow FACTOR] [--count N] [--beside OLD]: actions that launchers start.
 
 PROGRAM is the built `remoted`. Parts:
 - `sandbox`: two instances share a server whose environment has a secret, with `launchers/sandbox`. An action of the
@@ -11,7 +11,8 @@ PROGRAM is the built `remoted`. Parts:
   codes, timeouts, a server that is killed, 200 actions, and a node that is lost. It needs slurm-wlm, munge and root.
 - `both`: some of that with the sandbox on the node.
 - `lost`: launchers that end by a signal, or are gone: the words that the server writes.
-- `cost`: what a launcher costs an action.
+- `cost`: what a launcher costs an action; and a table of what starts by the sandbox take of the processors, beside those
+  by bubblewrap alone and, with --beside, by another text of the launcher, of which they may take eight tenths.
 
 What a part needs and is not there is said, and the part is skipped. A line for each thing, `ok` or `FAILED`; it ends
 with `N passed, M failed`, and with status 1 where one failed. --slow stretches the limits of time.
@@ -23,43 +24,14 @@ import os
 import shutil
 import sys
 import tempfile
-import time
 
+import launchers_cost
 import launchers_lost
 import launchers_sandbox as sandbox
 import launchers_slurm as slurm
 import slurm_cluster
-from executing import Action, Peer
-from server import Server
 
 PLAIN = 65534
-
-
-def seconds_each(program, launcher, count):
-    with Server(program, [("red", 10**8, 1)], 2**62, launcher=launcher) as server, Peer(server.ports[0]) as peer:
-        took = []
-        for n in range(count):
-            action = Action(["/bin/true"], tree={"n": b"%d" % n}, do_not_cache=True)
-            peer.store(action.blobs)
-            begun = time.monotonic()
-            peer.operations(peer.start(action, is_stored=True))
-            took.append(time.monotonic() - begun)
-        return min(took), sorted(took)[count // 2]
-
-
-def cost(report, program, count):
-    tell_cost(report, "no launcher", *seconds_each(program, None, count))
-    with tempfile.TemporaryDirectory(prefix="launchers-cost-") as folder:
-        tell_cost(report, "sandbox", *seconds_each(program, sandbox.sandbox(folder), count))
-    if slurm_cluster.lacking():
-        return
-    with tempfile.TemporaryDirectory(prefix="launchers-cost-") as folder, slurm_cluster.Cluster(folder) as cluster:
-        launcher = slurm_cluster.launcher(cluster, folder)
-        tell_cost(report, "slurm", *seconds_each(program, launcher, max(1, count // 4)))
-
-
-def tell_cost(report, name, least, median):
-    report.told(f"an action by {name}", f"{1000 * least:.1f} ms at least, {1000 * median:.1f} ms the median")
 
 
 class Report:
@@ -97,6 +69,11 @@ def as_plain_user(report, program):
     sandbox.own_descriptors(report, who, **plain)
 
 
+def cost(report, program, options):
+    launchers_cost.of_starts(report, options.beside, options.count)
+    launchers_cost.of_actions(report, program, options.count)
+
+
 def main():
     parts = ["lost", "sandbox", "plain", "slurm", "both", "cost"]
     parser = argparse.ArgumentParser(description=__doc__, formatter_class=argparse.RawDescriptionHelpFormatter)
@@ -104,6 +81,7 @@ def main():
     parser.add_argument("--only", nargs="*", default=parts, choices=parts, metavar="PART")
     parser.add_argument("--slow", type=float, default=1.0, metavar="FACTOR")
     parser.add_argument("--count", type=int, default=100)
+    parser.add_argument("--beside", metavar="OLD")
     options = parser.parse_args()
     report, program = Report(options.slow), options.program
     no_sandbox = [] if shutil.which("bwrap") else ["bubblewrap (bwrap)"]
@@ -116,7 +94,7 @@ def main():
         "plain": (no_sandbox + no_root, lambda: as_plain_user(report, program)),
         "slurm": (no_cluster, lambda: (slurm.on_nodes(report, program), slurm.next_missing(report, program))),
         "both": (no_cluster + no_sandbox, lambda: slurm.sandboxed(report, program)),
-        "cost": (no_sandbox, lambda: cost(report, program, options.count)),
+        "cost": (no_sandbox, lambda: cost(report, program, options)),
     }
     folder = tempfile.mkdtemp(prefix="launchers-program-")
     os.chmod(folder, 0o755)

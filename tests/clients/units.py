@@ -1,0 +1,154 @@
+#!/usr/bin/env python3
+"""units.py PROGRAM [--root FOLDER]: the units of deploy/ under systemd, by the commands that docs/DEPLOYING.md prints.
+
+PROGRAM is the built `remoted`. In a fresh Debian, which debootstrap makes, systemd runs in namespaces of its own. There
+each block of the sections on services is run as it is printed: one server for two teams, and then a server for each
+team. A team is added, and another's quota changed, while the first team's blobs stay and its server goes on. With --root
+the Debian is a copy of FOLDER, as `debootstrap --include=systemd,systemd-sysv bookworm FOLDER` makes it. A line for
+each thing that holds; it ends with status 1 at the first that does not. It needs root; Debian: debootstrap,
+systemd-container.
+"""
+
+import argparse
+import pathlib
+import re
+
+import messages as m
+from clean_root import Machine, clean_root, copy_in
+from executing import Action, Peer
+from watched import expect, within
+
+TOP = pathlib.Path(__file__).resolve().parents[2]
+GUIDE = (TOP / "docs/DEPLOYING.md").read_text()
+BLOCK = re.compile(r"^```sh\n(.*?)^```$", re.MULTILINE | re.DOTALL)
+CHECKOUT = "checkout"
+PROGRAM = "crates/remoted/out/remoted"
+
+
+def blocks(heading):
+    """The blocks of commands between a heading and the next one."""
+    section = re.split(r"^#+ ", GUIDE.split(f"# {heading}\n")[1], maxsplit=1, flags=re.MULTILINE)[0]
+    return BLOCK.findall(section)
+
+
+class Host:
+    """The machine, and what is asked of it."""
+
+    def __init__(self, machine):
+        self.machine = machine
+
+    def run(self, script):
+        """Does what a block of the guide says."""
+        done = self.machine.inside("sh", "-ec", script, folder=f"/{CHECKOUT}", timeout=120)
+        first = script.split("\n")[0][:60]
+        expect(done.returncode == 0, f"the block goes well that begins with `{first}`", done.stderr)
+
+    def systemctl(self, *words):
+        return self.machine.inside("systemctl", *words, timeout=120).stdout.strip()
+
+    def unit_is(self, unit, state):
+        found = within(20, lambda: self.systemctl("is-active", unit) == state)
+        expect(found, f"{unit} is {state}", None if found else self.systemctl("status", unit))
+
+    def main_process(self, unit):
+        return self.systemctl("show", "--value", "--property=MainPID", unit)
+
+    def write(self, name, text):
+        path = self.machine.root / name
+        path.parent.mkdir(parents=True, exist_ok=True)
+        path.write_text(text)
+
+
+def store(port, blob):
+    with Peer(port) as peer:
+        peer.store([blob])
+
+
+def has(port, blob):
+    with Peer(port) as peer:
+        (answer,), status = peer.call(m.FIND_MISSING, m.find_missing("", [m.digest(blob)]))
+        return status[0] == 0 and not m.every(answer, 2)
+
+
+def one_server(host):
+    """One server for two teams."""
+    (block,) = blocks("The service")
+    host.run(block)
+    store(8980, b"red's")
+    expect(has(8980, b"red's") and not has(8981, b"red's"), "both teams are served, each for itself")
+    limits = host.machine.inside("cat", f"/proc/{host.main_process('remoted')}/limits").stdout
+    found = re.search(r"Max address space +(\d+)", limits)
+    expect(found and int(found.group(1)) == 24 * 2**30, "with the unit's limit of memory")
+    host.systemctl("disable", "--now", "remoted")
+    host.unit_is("remoted", "inactive")
+    result = host.systemctl("show", "--value", "--property=Result,ExecMainStatus", "remoted").split()
+    expect(result == ["success", "0"], "it ends with status 0 and was not killed", result)
+    expect(host.machine.inside("test", "-e", "/run/remoted").returncode == 1, "its folder below /run is gone")
+
+
+def a_server_for_each(host):
+    """A server for each team, and what each of them notices of the other's changes: nothing."""
+    first, another, other_quota = blocks("A server for each team")
+    host.run(first)
+    store(8980, b"red's")
+    red = host.main_process("remoted@red")
+    limits = host.machine.inside("cat", f"/proc/{red}/limits").stdout
+    expect(int(re.search(r"Max address space +(\d+)", limits).group(1)) == 3_500_000_000, "MEMORY bounds it")
+    host.run(another)
+    store(8981, b"blue's")
+    blue = host.main_process("remoted@blue")
+    host.run(other_quota)
+    expect(not has(8981, b"blue's"), "blue's cache is empty after its change")
+    figures = host.machine.inside("cat", "/run/remoted-blue/remoted.prom").stdout
+    expect(re.search(r"^remoted_quota_bytes\{.*\} 500000000$", figures, re.MULTILINE), "blue has its new quota")
+    expect(has(8980, b"red's"), "and red's is what it was")
+    same = host.main_process("remoted@red") == red and host.main_process("remoted@blue") != blue
+    expect(same, "red's server is the same process, and blue's another one")
+
+
+def what_else_is_said(host):
+    """A taken port, a parent, slots, and the end of a team."""
+    host.write("etc/remoted/green.conf", "INSTANCES=green:8980:1000:0\nMEMORY=unlimited\nOPTIONS=\n")
+    host.systemctl("start", "remoted@green")
+    said = lambda: "cannot listen on 8980" in host.machine.inside("journalctl", "-u", "remoted@green").stdout
+    expect(within(20, said), "a server whose port is taken does not begin, and says so")
+    host.systemctl("stop", "remoted@green")
+    expect(has(8980, b"red's"), "and red's notices nothing")
+    parent = "INSTANCES=ci:8982:1000000:0 dev:8983:1000000:1:ci\nMEMORY=unlimited\nOPTIONS=--listen 127.0.0.1\n"
+    host.write("etc/remoted/green.conf", parent)
+    slots = (TOP / "deploy/slots.conf").read_text()
+    host.write("etc/systemd/system/remoted@green.service.d/slots.conf", slots.replace("sleep 30", "sleep 1"))
+    host.systemctl("daemon-reload")
+    host.systemctl("start", "remoted@green")
+    host.unit_is("remoted@green", "active")
+    expect(within(20, lambda: host.machine.inside("remoted", "check", "--port", "8983").returncode == 0), "it answers")
+    store(8982, b"ci's")
+    expect(has(8983, b"ci's"), "an instance and its parent stand in one file")
+    with Peer(8983) as peer:
+        result = peer.execute(Action("id -un", do_not_cache=True)).result
+        said = peer.stream_text(result.stdout)
+        expect((result.code, said) == (0, b"remoted\n"), "with slots a program runs as the server's user", said)
+    host.systemctl("stop", "remoted@*")
+    for team in ["red", "blue", "green"]:
+        host.unit_is(f"remoted@{team}", "inactive")
+
+
+def main():
+    parser = argparse.ArgumentParser(description=__doc__, formatter_class=argparse.RawDescriptionHelpFormatter)
+    parser.add_argument("program")
+    parser.add_argument("--root")
+    asked = parser.parse_args()
+    with clean_root(asked.root) as root:
+        for name in ["deploy", "launchers"]:
+            copy_in(root, TOP / name, f"{CHECKOUT}/{name}")
+        copy_in(root, asked.program, f"{CHECKOUT}/{PROGRAM}")
+        with Machine(root) as machine:
+            host = Host(machine)
+            machine.join_network()
+            one_server(host)
+            a_server_for_each(host)
+            what_else_is_said(host)
+
+
+if __name__ == "__main__":
+    main()

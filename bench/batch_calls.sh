@@ -1,9 +1,9 @@
 #!/bin/sh
-# Carries out scripts of ten batches of four million bytes with each PROGRAM (crates/remoted/out/remoted if none is
+# Carries out scripts of ten batches of four million bytes with each PROGRAM (build/remoted if none is
 # named), and prints for each kind of batch the processor time of a batch, the least of three runs: see README.md.
 set -eu
 bench=$(cd "$(dirname "$0")" && pwd)
-[ $# -gt 0 ] || set -- "$bench/../crates/remoted/out/remoted"
+[ $# -gt 0 ] || set -- "$bench/../build/remoted"
 scratch=$(mktemp -d)
 trap 'rm -rf "$scratch"' EXIT
 

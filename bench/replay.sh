@@ -1,9 +1,9 @@
 #!/bin/sh
 # Replays files of 10,000 and of 100,000 events, of 32 clients and of a single one, with the program REMOTED
-# (crates/remoted/out/remoted), and prints for each how fast it went and how much memory it took at most: see README.md.
+# (build/remoted), and prints for each how fast it went and how much memory it took at most: see README.md.
 set -eu
 bench=$(cd "$(dirname "$0")" && pwd)
-remoted=${1:-$bench/../crates/remoted/out/remoted}
+remoted=${1:-$bench/../build/remoted}
 scratch=$(mktemp -d)
 trap 'rm -rf "$scratch"' EXIT
 

@@ -1,10 +1,10 @@
 #!/bin/sh
-# Replays uploads of 10,000 blobs of 4 KB to eight instances with the program REMOTED (crates/remoted/out/remoted),
+# Replays uploads of 10,000 blobs of 4 KB to eight instances with the program REMOTED (build/remoted),
 # once the same blobs to all and once others to each, and prints for each how fast it went and how much memory it took
 # at most; and the same for an eighth of the blobs: see README.md.
 set -eu
 bench=$(cd "$(dirname "$0")" && pwd)
-remoted=${1:-$bench/../crates/remoted/out/remoted}
+remoted=${1:-$bench/../build/remoted}
 scratch=$(mktemp -d)
 trap 'rm -rf "$scratch"' EXIT
 

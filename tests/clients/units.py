@@ -22,7 +22,7 @@ TOP = pathlib.Path(__file__).resolve().parents[2]
 GUIDE = (TOP / "docs/DEPLOYING.md").read_text()
 BLOCK = re.compile(r"^```sh\n(.*?)^```$", re.MULTILINE | re.DOTALL)
 CHECKOUT = "checkout"
-PROGRAM = "crates/remoted/out/remoted"
+PROGRAM = "build/remoted"
 
 
 def blocks(heading):

@@ -13,7 +13,7 @@ import subprocess
 import tempfile
 import time
 
-PACKAGES = "adduser,procps,systemd,systemd-sysv,util-linux"
+PACKAGES = "adduser,bubblewrap,python3-seccomp,systemd,systemd-sysv"
 NEW_NETWORK = 0x4000_0000
 HIERARCHIES = [pathlib.Path("/sys/fs/cgroup", name) for name in ["", "systemd", "unified"]]
 NSPAWN = ["systemd-nspawn", "--quiet", "--register=no", "--private-network", "--console=pipe"]
@@ -48,7 +48,8 @@ class Machine:
         # Where the host has no systemd, nobody makes a group for it.
         kept = [] if os.path.isdir("/run/systemd/system") else ["--keep-unit"]
         words = [*NSPAWN, *kept, f"--directory={root}", "--boot"]
-        self.process = subprocess.Popen(words, stdin=subprocess.DEVNULL, stdout=subprocess.DEVNULL, stderr=subprocess.DEVNULL)
+        nowhere = dict.fromkeys(["stdin", "stdout", "stderr"], subprocess.DEVNULL)
+        self.process = subprocess.Popen(words, **nowhere)
 
     def __enter__(self):
         try:

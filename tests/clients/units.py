@@ -4,7 +4,7 @@
 PROGRAM is the built `remoted`. In a fresh Debian, which debootstrap makes, systemd runs in namespaces of its own. There
 each block of the sections on services is run as it is printed: one server for two teams, and then a server for each
 team. A team is added, and another's quota changed, while the first team's blobs stay and its server goes on. With --root
-the Debian is a copy of FOLDER, as `debootstrap --include=systemd,systemd-sysv bookworm FOLDER` makes it. A line for
+the Debian is a copy of FOLDER, made by debootstrap with what clean_root.py names. A line for
 each thing that holds; it ends with status 1 at the first that does not. It needs root; Debian: debootstrap,
 systemd-container.
 """
@@ -13,7 +13,7 @@ import argparse
 import pathlib
 import re
 
-import messages as m
+from clean_host import Host, has, store
 from clean_root import Machine, clean_root, copy_in
 from executing import Action, Peer
 from watched import expect, within
@@ -22,52 +22,12 @@ TOP = pathlib.Path(__file__).resolve().parents[2]
 GUIDE = (TOP / "docs/DEPLOYING.md").read_text()
 BLOCK = re.compile(r"^```sh\n(.*?)^```$", re.MULTILINE | re.DOTALL)
 CHECKOUT = "checkout"
-PROGRAM = "build/remoted"
 
 
 def blocks(heading):
     """The blocks of commands between a heading and the next one."""
     section = re.split(r"^#+ ", GUIDE.split(f"# {heading}\n")[1], maxsplit=1, flags=re.MULTILINE)[0]
     return BLOCK.findall(section)
-
-
-class Host:
-    """The machine, and what is asked of it."""
-
-    def __init__(self, machine):
-        self.machine = machine
-
-    def run(self, script):
-        """Does what a block of the guide says."""
-        done = self.machine.inside("sh", "-ec", script, folder=f"/{CHECKOUT}", timeout=120)
-        first = script.split("\n")[0][:60]
-        expect(done.returncode == 0, f"the block goes well that begins with `{first}`", done.stderr)
-
-    def systemctl(self, *words):
-        return self.machine.inside("systemctl", *words, timeout=120).stdout.strip()
-
-    def unit_is(self, unit, state):
-        found = within(20, lambda: self.systemctl("is-active", unit) == state)
-        expect(found, f"{unit} is {state}", None if found else self.systemctl("status", unit))
-
-    def main_process(self, unit):
-        return self.systemctl("show", "--value", "--property=MainPID", unit)
-
-    def write(self, name, text):
-        path = self.machine.root / name
-        path.parent.mkdir(parents=True, exist_ok=True)
-        path.write_text(text)
-
-
-def store(port, blob):
-    with Peer(port) as peer:
-        peer.store([blob])
-
-
-def has(port, blob):
-    with Peer(port) as peer:
-        (answer,), status = peer.call(m.FIND_MISSING, m.find_missing("", [m.digest(blob)]))
-        return status[0] == 0 and not m.every(answer, 2)
 
 
 def one_server(host):
@@ -83,7 +43,7 @@ def one_server(host):
     host.unit_is("remoted", "inactive")
     result = host.systemctl("show", "--value", "--property=Result,ExecMainStatus", "remoted").split()
     expect(result == ["success", "0"], "it ends with status 0 and was not killed", result)
-    expect(host.machine.inside("test", "-e", "/run/remoted").returncode == 1, "its folder below /run is gone")
+    expect(not host.has_file("/run/remoted"), "its folder below /run is gone")
 
 
 def a_server_for_each(host):
@@ -121,7 +81,7 @@ def what_else_is_said(host):
     host.systemctl("daemon-reload")
     host.systemctl("start", "remoted@green")
     host.unit_is("remoted@green", "active")
-    expect(within(20, lambda: host.machine.inside("remoted", "check", "--port", "8983").returncode == 0), "it answers")
+    host.answers(8983)
     store(8982, b"ci's")
     expect(has(8983, b"ci's"), "an instance and its parent stand in one file")
     with Peer(8983) as peer:
@@ -141,9 +101,9 @@ def main():
     with clean_root(asked.root) as root:
         for name in ["deploy", "launchers"]:
             copy_in(root, TOP / name, f"{CHECKOUT}/{name}")
-        copy_in(root, asked.program, f"{CHECKOUT}/{PROGRAM}")
+        copy_in(root, asked.program, f"{CHECKOUT}/build/remoted")
         with Machine(root) as machine:
-            host = Host(machine)
+            host = Host(machine, f"/{CHECKOUT}")
             machine.join_network()
             one_server(host)
             a_server_for_each(host)

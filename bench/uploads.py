@@ -1,5 +1,5 @@
 #!/usr/bin/env python3
-"""uploads.py PROGRAM.. [--megabytes N] [--rounds N]: how fast blobs are written under SHA-256 and under SHA-512.
+"""uploads.py PROGRAM.. [--megabytes N] [--rounds N] [--pictures FOLDER]: how fast blobs are written under SHA-256 and under SHA-512.
 
 Each PROGRAM is a built `remoted`. In each round each in turn takes a blob of N million bytes (200 if not given) by a
 Write and as many by BatchUpdateBlobs, under either function that it offers. For each load it prints millions of bytes
@@ -16,6 +16,7 @@ import time
 sys.path.insert(0, os.path.join(os.path.dirname(os.path.abspath(__file__)), "..", "tests", "clients"))
 
 import messages as m  # noqa: E402
+import pictures  # noqa: E402
 from raw import Connection, block, frame  # noqa: E402
 from server import Server  # noqa: E402
 
@@ -115,16 +116,20 @@ def main():
     parser.add_argument("programs", nargs="+")
     parser.add_argument("--megabytes", type=int, default=200)
     parser.add_argument("--rounds", type=int, default=5)
+    pictures.add_option(parser)
     words = parser.parse_args()
     found = {}
     for _ in range(words.rounds):
         for program in words.programs:
             for load, figures in measured(program, words.megabytes):
                 found.setdefault((load, program), []).append(figures)
+    table = {}
     for (name, function), program in sorted(found):
         rates, times = zip(*found[(name, function), program])
         rate, used = statistics.median(rates), statistics.median(times)
         print(f"{name} under {function}, {program}: {rate:.0f} MB/s, {used:.2f} ms of the server a million bytes")
+        table.setdefault(f"{name}, {function}", {})[program] = round(rate)
+    pictures.bars(words.pictures, "uploads", "Uploads, medians", "MB/s", list(table.items()))
 
 
 main()

@@ -1,5 +1,5 @@
 #!/usr/bin/env python3
-"""idle_instances.py PROGRAM [--seconds N] [--each N] [--pictures FOLDER]: what idle instances, and connections to them, take.
+"""idle_instances.py PROGRAM [--seconds N] [--each N] [--pictures FOLDER]: what idle instances and connections take.
 
 PROGRAM is the built `remoted`. It is started with 1 and with 256 instances, and with 256 that have N idle connections
 each (4 if not given), which send the preface and SETTINGS. For each it prints what the idle server takes of a
@@ -59,8 +59,10 @@ def main():
                 rate, used = (median([each[place][part] for each in rounds]) for part in [0, 1])
                 print(f"{streams} at a time, {name}: {rate:,.0f} calls/s, {used:.1f} us a call", flush=True)
                 calls.append((f"{streams} at a time", name, round(rate)))
-        rows = [(row, {name: rate for at, name, rate in calls if at == row}) for row in dict.fromkeys(c[0] for c in calls)]
-        pictures.bars(words.pictures, "idle_calls", "FindMissingBlobs beside idle instances", "calls/s", rows)
+        rows = {}
+        for row, name, rate in calls:
+            rows.setdefault(row, {})[name] = rate
+        pictures.bars(words.pictures, "idle_calls", "FindMissingBlobs beside idle instances", "calls/s", list(rows.items()))
 
 
 if __name__ == "__main__":

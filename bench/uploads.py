@@ -1,5 +1,6 @@
 #!/usr/bin/env python3
-"""uploads.py PROGRAM.. [--megabytes N] [--rounds N] [--pictures FOLDER]: how fast blobs are written under SHA-256 and under SHA-512.
+"""uploads.py PROGRAM.. [--megabytes N] [--rounds N] [--pictures FOLDER]: how fast blobs are written under SHA-256 and
+under SHA-512.
 
 Each PROGRAM is a built `remoted`. In each round each in turn takes a blob of N million bytes (200 if not given) by a
 Write and as many by BatchUpdateBlobs, under either function that it offers. For each load it prints millions of bytes

@@ -10,6 +10,12 @@ PROGRAM is the built `remoted`. Parts:
 - `slurm`: actions on two nodes of a Slurm cluster, which is made on this host for it, with `launchers/slurm`: outputs,
   codes, timeouts, a server that is killed, 200 actions, and a node that is lost. It needs slurm-wlm, munge and root.
 - `both`: some of that with the sandbox on the node.
+- `attacks`: what one team tries against the other, the host and its own launcher in a sandbox: calls, what tells of the
+  host, forged codes, folders of runs below what is seen, memory, and words told as the launcher's; as this user and as a
+  plain one.
+- `words`: words of one team's actions that mean something to `srun`, with and without the sandbox on the node.
+- `hung`: slurmctld does not answer for 50 seconds, while 24 actions at a time come to their timeouts of a second; and what
+  cannot be cancelled.
 - `lost`: launchers that end by a signal, or are gone: the words that the server writes.
 - `cost`: what a launcher costs an action; and a table of what starts by the sandbox take of the processors, beside those
   by bubblewrap alone and, with --beside, by another text of the launcher, of which they may take eight tenths.
@@ -25,7 +31,9 @@ import shutil
 import sys
 import tempfile
 
+import launchers_attacks as attacks
 import launchers_cost
+import launchers_hung
 import launchers_lost
 import launchers_sandbox as sandbox
 import launchers_slurm as slurm
@@ -74,8 +82,22 @@ def cost(report, program, options):
     launchers_cost.of_actions(report, program, options.count)
 
 
+def attacked(report, program, no_group):
+    """As this user, and as a plain one."""
+    ways = {"as this user": {}}
+    if os.geteuid() == 0:
+        ways["as a plain user"] = {"user": PLAIN, "group": PLAIN, "extra_groups": []}
+    for who, more in ways.items():
+        for attack in [attacks.inside, attacks.hidden, attacks.told_words]:
+            attack(report, program, who, **more)
+        if not no_group:
+            attacks.memory(report, program, who, **more)
+    if no_group:
+        print(f"skipped memory without a control group of the sandbox's own: it needs {', '.join(no_group)}", flush=True)
+
+
 def main():
-    parts = ["lost", "sandbox", "plain", "slurm", "both", "cost"]
+    parts = ["lost", "sandbox", "plain", "attacks", "slurm", "both", "words", "hung", "cost"]
     parser = argparse.ArgumentParser(description=__doc__, formatter_class=argparse.RawDescriptionHelpFormatter)
     parser.add_argument("program")
     parser.add_argument("--only", nargs="*", default=parts, choices=parts, metavar="PART")
@@ -92,6 +114,9 @@ def main():
         "lost": ([], lambda: launchers_lost.lost(report, program)),
         "sandbox": (no_sandbox, lambda: as_this_user(report, program)),
         "plain": (no_sandbox + no_root, lambda: as_plain_user(report, program)),
+        "attacks": (no_sandbox, lambda: attacked(report, program, attacks.Group.lacking())),
+        "words": (no_cluster + no_sandbox, lambda: launchers_hung.escape(report, program)),
+        "hung": (no_cluster, lambda: (launchers_hung.hung(report, program), launchers_hung.not_cancelled(report, program))),
         "slurm": (no_cluster, lambda: (slurm.on_nodes(report, program), slurm.next_missing(report, program))),
         "both": (no_cluster + no_sandbox, lambda: slurm.sandboxed(report, program)),
         "cost": (no_sandbox, lambda: cost(report, program, options)),

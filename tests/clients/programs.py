@@ -73,6 +73,12 @@ def helpers(folder, server, word=""):
     return {each: text for each, text in told.items() if text and word in text and each not in actions}
 
 
+def children(parents, word=""):
+    """The children of processes whose command lines have the word."""
+    found = [int(name) for name in os.listdir("/proc") if name.isdigit() and _state(name)[1] in parents]
+    return [each for each in found if word.encode() in _read(f"/proc/{each}/cmdline")]
+
+
 def zombies(server):
     """The ended children of a server for which it has not asked."""
     return [int(name) for name in os.listdir("/proc") if name.isdigit() and _state(name) == ("Z", server)]

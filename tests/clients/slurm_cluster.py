@@ -3,14 +3,14 @@
 It needs Debian's slurm-wlm and munge, and root. All of it listens on free ports of this host, and lies in one folder.
 """
 
+import contextlib
 import os
+import random
 import re
 import shutil
 import socket
 import subprocess
 import time
-
-from server import free_ports
 
 NEEDED = ["munged", "slurmctld", "slurmd", "srun", "scancel", "squeue", "scontrol"]
 NODES = ["one", "two"]
@@ -32,7 +32,8 @@ SlurmctldPidFile={folder}/slurmctld.pid
 SlurmdPidFile={folder}/slurmd-%n.pid
 SlurmctldLogFile={folder}/slurmctld.log
 SlurmdLogFile={folder}/slurmd-%n.log
-ProctrackType=proctrack/linuxproc
+ProctrackType=proctrack/{tracked_by}
+FirstJobId={first}
 TaskPlugin=task/none
 SelectType=select/cons_tres
 SelectTypeParameters=CR_CPU
@@ -75,15 +76,29 @@ def lacking():
     return [name for name in NEEDED if not shutil.which(name, path=path)] + ([] if os.geteuid() == 0 else ["root"])
 
 
+def quiet_ports(count):
+    """Free ports that no program is given by chance: daemons that are started again have to have them, too."""
+    found = []
+    while len(found) < count:
+        with socket.socket() as tried, contextlib.suppress(OSError):
+            tried.bind(("127.0.0.1", random.randrange(10000, 32000)))
+            found.append(tried.getsockname()[1])
+    return found
+
+
 class Cluster:
     """Two nodes with some processors each, from `with` on to its end."""
 
-    def __init__(self, folder, cpus=2):
+    def __init__(self, folder, cpus=2, tracked_by="linuxproc"):
         self.folder, self.processes = folder, {}
         self.configuration = os.path.join(folder, "slurm.conf")
         host = socket.gethostname().split(".")[0]
+        # Control groups have the jobs' numbers in their names, which another cluster on this host may have, too.
+        given = {"tracked_by": tracked_by, "first": random.randrange(1, 10**7), "lost": LOST_AFTER, "cpus": cpus}
         with open(self.configuration, "w") as file:
-            file.write(CONFIGURATION.format(host=host, ports=free_ports(3), folder=folder, lost=LOST_AFTER, cpus=cpus))
+            file.write(CONFIGURATION.format(host=host, ports=quiet_ports(3), folder=folder, **given))
+        with open(os.path.join(folder, "cgroup.conf"), "w") as file:
+            file.write("CgroupPlugin=cgroup/v1\nCgroupAutomount=no\nCgroupMountpoint=/sys/fs/cgroup\n")
         self.environment = {"PATH": "/usr/bin:/bin:/usr/sbin:/sbin", "SLURM_CONF": self.configuration}
 
     def __enter__(self):
@@ -105,10 +120,19 @@ class Cluster:
         options += [named(f"{kind}-file") for kind in ["key", "pid", "log", "seed"]]
         self._start("munged", options)
         self._wait(lambda: os.path.exists(f"{self.folder}/munge.socket"), "munged")
-        self._start("slurmctld", ["-D", "-i"])
+        self.start_controller()
         for node in NODES:
             self.start_node(node)
         self._wait(lambda: self.states().count("idle") == len(NODES), "the nodes")
+
+    def start_controller(self):
+        self._start("slurmctld", ["-D", "-i"])
+
+    def stop_controller(self):
+        """Kills what hands out the nodes; what runs on them goes on."""
+        process = self.processes.pop("slurmctld")
+        process.kill()
+        process.wait()
 
     def start_node(self, node):
         self._start("slurmd", ["-D", "-N", node], node)
@@ -154,8 +178,9 @@ class Cluster:
 
     def __exit__(self, *_):
         if "slurmctld" in self.processes:
-            subprocess.run(["scancel", "--signal=KILL", "--state=RUNNING"], env=self.environment, capture_output=True)
-            subprocess.run(["scancel", "--user=root"], env=self.environment, capture_output=True, timeout=30)
+            for words in (["--signal=KILL", "--state=RUNNING"], ["--user=root"]):
+                with contextlib.suppress(subprocess.TimeoutExpired):
+                    subprocess.run(["scancel", *words], env=self.environment, capture_output=True, timeout=20)
         for name in reversed(self.processes):
             process = self.processes[name]
             process.terminate()

@@ -1,0 +1,152 @@
+"""What `launchers_killed.py` kills, and what it finds left: the processes of a test, and the places where its actions run."""
+
+import contextlib
+import os
+import shutil
+import signal
+import tempfile
+import time
+
+import slurm_cluster
+from launchers_sandbox import sandbox
+from programs import helpers
+from server import Server
+
+PLAIN = {"user": 65534, "group": 65534, "extra_groups": []}
+KINDS = ["sandbox", "plain", "slurm", "both"]
+
+
+def _read(path):
+    try:
+        with open(path, "rb") as file:
+            return file.read()
+    except OSError:
+        return b""
+
+
+def _links(pid):
+    """The working directory of a process, and what its descriptors are of."""
+    found = []
+    with contextlib.suppress(OSError):
+        found.append(os.readlink(f"/proc/{pid}/cwd"))
+        found += [os.readlink(f"/proc/{pid}/fd/{name}") for name in os.listdir(f"/proc/{pid}/fd")]
+    return found
+
+
+def stat(pid):
+    """A process's state, its parent, its group and its session; nothing where it is gone."""
+    words = _read(f"/proc/{pid}/stat").rpartition(b")")[2].split()
+    return (words[0].decode(), *(int(each) for each in words[1:4])) if words else ("", 0, 0, 0)
+
+
+def words(pid):
+    return [each.decode(errors="replace") for each in _read(f"/proc/{pid}/cmdline").split(b"\0")]
+
+
+def numbers():
+    return [int(name) for name in os.listdir("/proc") if name.isdigit()]
+
+
+def marked(mark, spared=()):
+    """The processes that have a mark in their words, variables, working directory or descriptors, by their numbers."""
+    found, sought = {}, os.fsencode(mark)
+    for pid in numbers():
+        if pid == os.getpid() or pid in spared or stat(pid)[0] in ("Z", "X", ""):
+            continue
+        said = _read(f"/proc/{pid}/cmdline")
+        if sought in said or sought in _read(f"/proc/{pid}/environ") or any(mark in each for each in _links(pid)):
+            found[pid] = f"{stat(pid)[0]} {said.replace(bytes(1), b' ').decode(errors='replace')[:150]}"
+    return found
+
+
+def launchers(server, launcher):
+    """The children of a server that are to start a program of an action by this launcher."""
+    return [pid for pid in numbers() if stat(pid)[1] == server.process.pid and launcher in words(pid)]
+
+
+def named(mark, name):
+    """The processes of this name with the mark in their words."""
+    return [
+        pid
+        for pid in numbers()
+        if os.path.basename(words(pid)[0]) == name and any(mark in each for each in words(pid)) and stat(pid)[0] != "Z"
+    ]
+
+
+def kill(pid):
+    """Whether it was there to be killed."""
+    try:
+        os.kill(pid, signal.SIGKILL)
+    except ProcessLookupError:
+        return False
+    return True
+
+
+def has_freezer():
+    """Whether Slurm can end jobs by control groups of version 1. By other means it misses what a job starts just then."""
+    return os.access("/sys/fs/cgroup/freezer", os.W_OK)
+
+
+class Place:
+    """Where servers with a launcher work: a folder whose path is the mark of all that they start, and maybe a cluster."""
+
+    def __init__(self, program, kind):
+        self.program, self.kind, self.count = program, kind, 0
+        self.folder = tempfile.mkdtemp(prefix=f"launchers-killed-{kind}-")
+        os.chmod(self.folder, 0o777)
+        self.cluster, self.more = None, PLAIN if kind == "plain" else {}
+        self.are_missed = kind == "slurm" and not has_freezer()
+
+    def __enter__(self):
+        made = os.path.join(self.folder, "launcher")
+        os.mkdir(made)
+        following = "" if self.kind == "slurm" else sandbox(made)
+        if self.kind in ("slurm", "both"):
+            tracked_by = "cgroup" if has_freezer() else "linuxproc"
+            self.cluster = slurm_cluster.Cluster(self.folder, min(4, os.cpu_count()), tracked_by).__enter__()
+            self.launcher = slurm_cluster.launcher(self.cluster, self.folder, following)
+        else:
+            self.launcher = following
+        return self
+
+    def __exit__(self, *_):
+        for pid in marked(self.folder, self.daemons()):
+            kill(pid)
+        if self.cluster:
+            self.cluster.__exit__()
+        shutil.rmtree(self.folder, ignore_errors=True)
+
+    def serve(self, slots=6):
+        """A server with a folder of its own."""
+        self.count += 1
+        work = os.path.join(self.folder, f"work-{self.count}")
+        return Server(self.program, [("red", 10**8, slots)], 2**62, None, work, True, self.launcher, **self.more)
+
+    def daemons(self):
+        """Those of the cluster, and a part of slurmctld's that is a process of its own."""
+        if not self.cluster:
+            return set()
+        found = {process.pid for process in self.cluster.processes.values()}
+        return found | {pid for pid in numbers() if stat(pid)[1] in found and "slurmscriptd" in words(pid)[0]}
+
+    def left(self, server=None):
+        """The processes that are there, but for a server that goes on, its helpers, and the cluster's."""
+        spared = self.daemons()
+        if server:
+            spared |= {server.process.pid, *helpers(self.folder, server.process.pid)}
+        return marked(self.folder, spared)
+
+    def _is_missed(self, pid):
+        """Whether it is a program's process that Slurm may have missed."""
+        mark = b"MARK=" + os.fsencode(self.folder)
+        return self.are_missed and mark in _read(f"/proc/{pid}/environ").split(bytes(1))
+
+    def settled(self, seconds, server=None):
+        """What is left once that is nothing or the time is over, after how long, and how many Slurm missed. It is killed then."""
+        begun = time.monotonic()
+        while (found := self.left(server)) and time.monotonic() < begun + seconds:
+            time.sleep(0.2)
+        took, missed = time.monotonic() - begun, [pid for pid in found if self._is_missed(pid)]
+        for pid in found:
+            kill(pid)
+        return {pid: text for pid, text in found.items() if pid not in missed}, took, len(missed)

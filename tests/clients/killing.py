@@ -82,11 +82,6 @@ def kill(pid):
     return True
 
 
-def has_freezer():
-    """Whether Slurm can end jobs by control groups of version 1. By other means it misses what a job starts just then."""
-    return os.access("/sys/fs/cgroup/freezer", os.W_OK)
-
-
 class Place:
     """Where servers with a launcher work: a folder whose path is the mark of all that they start, and maybe a cluster."""
 
@@ -95,15 +90,14 @@ class Place:
         self.folder = tempfile.mkdtemp(prefix=f"launchers-killed-{kind}-")
         os.chmod(self.folder, 0o777)
         self.cluster, self.more = None, PLAIN if kind == "plain" else {}
-        self.are_missed = kind == "slurm" and not has_freezer()
+        self.are_missed = kind == "slurm" and not slurm_cluster.has_freezer()
 
     def __enter__(self):
         made = os.path.join(self.folder, "launcher")
         os.mkdir(made)
         following = "" if self.kind == "slurm" else sandbox(made)
         if self.kind in ("slurm", "both"):
-            tracked_by = "cgroup" if has_freezer() else "linuxproc"
-            self.cluster = slurm_cluster.Cluster(self.folder, min(4, os.cpu_count()), tracked_by).__enter__()
+            self.cluster = slurm_cluster.Cluster(self.folder, min(4, os.cpu_count())).__enter__()
             self.launcher = slurm_cluster.launcher(self.cluster, self.folder, following)
         else:
             self.launcher = following

@@ -11,7 +11,7 @@ import time
 import messages as m
 import programs
 from executing import PATH, Action, Peer
-from killing import has_freezer, kill, marked
+from killing import kill, marked
 from launchers_sandbox import SOURCE, Told, sandbox
 from server import Server
 from slurm_cluster import Cluster, launcher
@@ -30,8 +30,7 @@ class Hung:
     def __enter__(self):
         beside = os.path.join(self.folder, "sandbox")
         os.mkdir(beside)
-        tracked_by = "cgroup" if has_freezer() else "linuxproc"
-        self.cluster = Cluster(self.folder, min(4, os.cpu_count()), tracked_by).__enter__()
+        self.cluster = Cluster(self.folder, min(4, os.cpu_count())).__enter__()
         path = launcher(self.cluster, self.folder, sandbox(beside) if self.following else "")
         with open(path) as file:
             text = file.read()
@@ -203,6 +202,19 @@ def not_cancelled(report, program):
         here.expect(job in here.logged().split(), "a line names the job", here.logged())
         os.remove(f"{here.folder}/bin/scancel")
         here.expect(not programs.settled(here.cluster.jobs, 30 * report.slow), "it is tried again", here.cluster.jobs())
+    with Hung(report, program, "srun does not end", changes=refused) as here:
+        os.mkdir(f"{here.folder}/bin")
+        with open(f"{here.folder}/bin/srun", "w") as file:
+            file.write("#!/bin/sh\ntrap '' TERM\nexec sleep 4177\n")
+        os.chmod(f"{here.folder}/bin/srun", 0o755)
+        with here.serve(2) as server, Peer(server.ports[0], 100) as red:
+            red.start(here.action("true"))
+            programs.settled(lambda: "sleep 4177" not in str(here.left(server)), 20 * report.slow)
+            here.expect("sleep 4177" in str(here.left(server)), "a run waits for it", here.left(server))
+            server.process.kill()
+            server.process.wait()
+            left = programs.settled(lambda: here.left(server), 30 * report.slow)
+            here.expect(not left, "half a minute after its server's end it waits no more", left)
     with Hung(report, program, "Slurm never answers", changes={'"$failures" -lt 100': '"$failures" -lt 1'}) as here:
         with here.serve(2) as server:
             here.stop()

@@ -76,6 +76,11 @@ def lacking():
     return [name for name in NEEDED if not shutil.which(name, path=path)] + ([] if os.geteuid() == 0 else ["root"])
 
 
+def has_freezer():
+    """Whether Slurm can end jobs by control groups of version 1. By other means it misses what a job starts just then."""
+    return os.access("/sys/fs/cgroup/freezer", os.W_OK)
+
+
 def quiet_ports(count):
     """Free ports that no program is given by chance: daemons that are started again have to have them, too."""
     found = []
@@ -89,11 +94,12 @@ def quiet_ports(count):
 class Cluster:
     """Two nodes with some processors each, from `with` on to its end."""
 
-    def __init__(self, folder, cpus=2, tracked_by="linuxproc"):
+    def __init__(self, folder, cpus=2):
         self.folder, self.processes = folder, {}
         self.configuration = os.path.join(folder, "slurm.conf")
         host = socket.gethostname().split(".")[0]
         # Control groups have the jobs' numbers in their names, which another cluster on this host may have, too.
+        tracked_by = "cgroup" if has_freezer() else "linuxproc"
         given = {"tracked_by": tracked_by, "first": random.randrange(1, 10**7), "lost": LOST_AFTER, "cpus": cpus}
         with open(self.configuration, "w") as file:
             file.write(CONFIGURATION.format(host=host, ports=quiet_ports(3), folder=folder, **given))

@@ -9,7 +9,7 @@ import time
 
 import slurm_cluster
 from launchers_sandbox import sandbox
-from programs import helpers
+from programs import helpers, marked
 from server import Server
 
 PLAIN = {"user": 65534, "group": 65534, "extra_groups": []}
@@ -24,15 +24,6 @@ def _read(path):
         return b""
 
 
-def _links(pid):
-    """The working directory of a process, and what its descriptors are of."""
-    found = []
-    with contextlib.suppress(OSError):
-        found.append(os.readlink(f"/proc/{pid}/cwd"))
-        found += [os.readlink(f"/proc/{pid}/fd/{name}") for name in os.listdir(f"/proc/{pid}/fd")]
-    return found
-
-
 def stat(pid):
     """A process's state, its parent, its group and its session; nothing where it is gone."""
     words = _read(f"/proc/{pid}/stat").rpartition(b")")[2].split()
@@ -45,18 +36,6 @@ def words(pid):
 
 def numbers():
     return [int(name) for name in os.listdir("/proc") if name.isdigit()]
-
-
-def marked(mark, spared=()):
-    """The processes that have a mark in their words, variables, working directory or descriptors, by their numbers."""
-    found, sought = {}, os.fsencode(mark)
-    for pid in numbers():
-        if pid == os.getpid() or pid in spared or stat(pid)[0] in ("Z", "X", ""):
-            continue
-        said = _read(f"/proc/{pid}/cmdline")
-        if sought in said or sought in _read(f"/proc/{pid}/environ") or any(mark in each for each in _links(pid)):
-            found[pid] = f"{stat(pid)[0]} {said.replace(bytes(1), b' ').decode(errors='replace')[:150]}"
-    return found
 
 
 def launchers(server, launcher):

@@ -11,8 +11,9 @@ import time
 import messages as m
 import programs
 from executing import PATH, Action, Peer
-from killing import kill, marked
+from killing import kill
 from launchers_sandbox import SOURCE, Told, sandbox
+from programs import marked
 from server import Server
 from slurm_cluster import Cluster, launcher
 

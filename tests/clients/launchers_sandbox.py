@@ -1,5 +1,6 @@
 """What `launchers.py` looks at of `launchers/sandbox`: what an action of one team cannot reach of another's."""
 
+import contextlib
 import os
 import platform
 import shutil
@@ -270,7 +271,7 @@ def ended_soon(report, who, server, red, folder):
 
 
 def ended_alone(report, who, **more):
-    """The launcher by itself, as on a node: it is ended while the sandbox is being made."""
+    """The launcher by itself, as on a node: it is ended while the sandbox is being made. Who started it ends its session."""
     folder = tempfile.mkdtemp(prefix="launchers-")
     os.chmod(folder, 0o777)
     launcher = sandbox(folder)
@@ -288,8 +289,11 @@ def ended_alone(report, who, **more):
                 os.killpg(begun.pid, signal.SIGTERM)
             else:
                 begun.kill()
+                begun.wait()
+                with contextlib.suppress(ProcessLookupError):
+                    os.killpg(begun.pid, signal.SIGKILL)
             begun.wait()
-        left = programs.settled(lambda: programs.running(folder), 5 * report.slow)
+        left = programs.settled(lambda: programs.marked(folder), 5 * report.slow)
         report.expect(not left, f"{who}: the launcher alone is ended while the sandbox is being made", left)
     finally:
         for number in programs.running(folder):

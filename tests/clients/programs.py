@@ -1,5 +1,6 @@
 """Looks for the programs that a server of `remoted` has running."""
 
+import contextlib
 import os
 import signal
 import time
@@ -58,6 +59,27 @@ def running(folder, server=None):
         if where.startswith(folder + "/") or mark in _read(f"/proc/{name}/environ").split(b"\0"):
             if _state(name)[0] not in ("Z", "X", ""):
                 found[int(name)] = _read(f"/proc/{name}/cmdline").replace(b"\0", b" ").decode(errors="replace").strip()
+    return found
+
+
+def _links(pid):
+    """The working directory of a process, and what its descriptors are of."""
+    found = []
+    with contextlib.suppress(OSError):
+        found.append(os.readlink(f"/proc/{pid}/cwd"))
+        found += [os.readlink(f"/proc/{pid}/fd/{name}") for name in os.listdir(f"/proc/{pid}/fd")]
+    return found
+
+
+def marked(mark, spared=()):
+    """The processes that have a mark in their words, variables, working directory or descriptors, by their numbers."""
+    found, sought = {}, os.fsencode(mark)
+    for pid in [int(name) for name in os.listdir("/proc") if name.isdigit()]:
+        if pid == os.getpid() or pid in spared or _state(pid)[0] in ("Z", "X", ""):
+            continue
+        said = _read(f"/proc/{pid}/cmdline")
+        if sought in said or sought in _read(f"/proc/{pid}/environ") or any(mark in each for each in _links(pid)):
+            found[pid] = f"{_state(pid)[0]} {said.replace(bytes(1), b' ').decode(errors='replace')[:150]}"
     return found
 
 

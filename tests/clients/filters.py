@@ -19,10 +19,11 @@ X32 = 1 << 30
 
 # For each: where its headers lie, which of them has the numbers, what a compiler for it has defined, and the package.
 DEBIAN = {"x86": "linux-libc-dev", "aarch64": "linux-libc-dev-arm64-cross", "arm": "linux-libc-dev-armhf-cross"}
+X86 = "/usr/include /usr/include/x86_64-linux-gnu"
 HEADERS = {
-    "x86_64": ("/usr/include /usr/include/x86_64-linux-gnu", "asm/unistd_64.h", [], DEBIAN["x86"]),
-    "i386": ("/usr/include /usr/include/x86_64-linux-gnu", "asm/unistd_32.h", [], DEBIAN["x86"]),
-    "x32": ("/usr/include /usr/include/x86_64-linux-gnu", "asm/unistd_x32.h", ["__X32_SYSCALL_BIT=0x40000000"], DEBIAN["x86"]),
+    "x86_64": (X86, "asm/unistd_64.h", [], DEBIAN["x86"]),
+    "i386": (X86, "asm/unistd_32.h", [], DEBIAN["x86"]),
+    "x32": (X86, "asm/unistd_x32.h", ["__X32_SYSCALL_BIT=0x40000000"], DEBIAN["x86"]),
     "aarch64": ("/usr/aarch64-linux-gnu/include", "asm/unistd.h", ["__aarch64__", "__LP64__"], DEBIAN["aarch64"]),
     "arm": ("/usr/arm-linux-gnueabihf/include", "asm/unistd.h", ["__arm__", "__ARM_EABI__"], DEBIAN["arm"]),
 }
@@ -144,7 +145,7 @@ class Machine:
 
 
 def together(first, second, call):
-    """The kernel's answer where the first of two filters is put in place before the second: the harder one, or the later one."""
+    """The kernel's answer where the second filter is put in place behind the first: the harder one, or that of the second."""
     earlier, later = first.verdict(call), second.verdict(call)
     hardness = lambda answer: struct.unpack("<i", struct.pack("<I", answer & 0xFFFF0000))[0]
     return earlier if hardness(earlier) < hardness(later) else later

@@ -52,7 +52,8 @@ class Test:
     def near(self):
         """Values on both sides of the test, also with bits above the lower 32."""
         low = {self.value, self.value - 1, self.value + 1, 0, 2**32 - 1, 2**31 | self.value, ~self.value % 2**32}
-        return {each % 2**32 for each in low} | {2**32 | self.value, 0xFFFFFFFF << 32 | self.value, 2**63 | self.value, 2**32}
+        wide = {above | self.value for above in (2**32, 0xFFFFFFFF << 32, 2**63)}
+        return {each % 2**32 for each in low} | wide | {2**32}
 
 
 class Policy:
@@ -133,7 +134,8 @@ def compared(policy, both, architecture, chance):
             wanted = policy.answer(names, architecture, arguments)
             count += 1
             if found != wanted:
-                wrong.append(f"{number} {'/'.join(sorted(names)) or 'no call'} {[hex(each) for each in arguments]}: {found}, not {wanted}")
+                named = f"{number} {'/'.join(sorted(names)) or 'no call'}"
+                wrong.append(f"{named} {[hex(each) for each in arguments]}: {found}, not {wanted}")
     return wrong, count
 
 
@@ -163,7 +165,8 @@ def of_machine(report, policy, machine, folder, chance):
         wrong, count = compared(policy, both, architecture, chance)
         report.expect(wrong, f"{machine}: {count} calls of {architecture} are answered as the list says")
         number = ARCHITECTURES[architecture]
-        report.expect(passing(both, number, [-1, -2, -600, 2**31, 2**31 + 1]), f"{machine}: negative numbers of {architecture}")
+        negative = passing(both, number, [-1, -2, -600, 2**31, 2**31 + 1])
+        report.expect(negative, f"{machine}: no call of {architecture} with a negative number passes")
     if machine == "x86_64":
         x32 = [X32 + number for number in range(601)] + [*calls("x32"), X32 | 2**31, 2**32 - 2]
         report.expect(passing(both, ARCHITECTURES["x86_64"], x32), "x86_64: no call of x32 passes")

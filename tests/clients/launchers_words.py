@@ -29,11 +29,11 @@ from launchers_slurm import site
 from server import Server
 
 # What differs, and how: for these ways the status and the exit code that stand here. Each has a line in DEPLOYING.
-FAILED, ANY = (13, None), None
+FAILED, NOT_THERE = (13, None), [(0, 126), (0, 127)]
 KNOWN = {
     "missing": (
         "a program that cannot be started is a failed run without a launcher, and code 126 or 127 of `env` with one",
-        {"none": [FAILED, (0, 127)], "sandbox": [(0, 126), (0, 127)], "slurm": [(0, 126), (0, 127)], "both": [(0, 126), (0, 127)]},
+        {"none": [FAILED, (0, 127)], "sandbox": NOT_THERE, "slurm": NOT_THERE, "both": NOT_THERE},
     ),
     "equals": (
         "a program with a `=` in its name: `env` would take it for a variable",
@@ -107,54 +107,53 @@ def outcomes(peer, commands):
 @contextlib.contextmanager
 def by_way(report, program, way, folder):
     """A connection to a server whose programs are started in this way."""
-    made = os.path.join(folder, way)
-    os.mkdir(made)
     if way in ("slurm", "both"):
-        following = sandbox(made) if way == "both" else ""
+        following = sandbox(folder) if way == "both" else ""
         with site(report, program, following, cpus=SLOTS // 2) as here, here.serve(SLOTS) as (_, peer):
             yield peer
     else:
-        launcher, work = sandbox(made) if way == "sandbox" else None, os.path.join(made, "work")
+        launcher, work = sandbox(folder) if way == "sandbox" else None, os.path.join(folder, "work")
         with Server(program, [("red", 10**9, SLOTS // 2)], 2**62, None, work, True, launcher) as server:
             with Peer(server.ports[0], 300 * report.slow) as peer:
                 yield peer
 
 
 def commands_of(kinds, folder):
-    """The commands of these kinds, and the file that some of them try to write."""
+    """The commands of these kinds, and the file that some of them try to write, which no sandbox shows."""
     mark, root = os.path.join(folder, "mark"), os.path.join(folder, "root")
     for name in [root, f"{root}.aside"]:
         os.mkdir(name)
-    found = []
-    for kind in kinds:
-        given = {"good": [mark], "divided": [mark, root]}.get(kind, [])
-        found += list(odd_commands.KINDS[kind](*given))
-    return found, mark
+    given = {"good": [mark], "divided": [mark, root]}
+    return [each for kind in kinds for each in odd_commands.KINDS[kind](*given.get(kind, []))], mark
 
 
-def is_known(known, way, first, outcome):
-    """Whether an outcome of a way is as the list says, or as that of the first way."""
+def is_known(known, way, ways):
+    """Whether the outcome of a way is as the list says, and equal for launchers that end alike; or as that of the first way."""
     ends = KNOWN[known][1].get(way) if known else None
-    return outcome.end in ends if ends else outcome == first
+    if not ends:
+        return ways[way] == next(iter(ways.values()))
+    alike = [other for name, other in ways.items() if "none" not in (name, way) and other.end == ways[way].end]
+    return ways[way].end in ends and all(other == ways[way] for other in alike)
 
 
-def compare(report, commands, found):
-    for at, each in enumerate(commands):
-        ways = {way: outcomes[at] for way, outcomes in found.items()}
-        first = next(iter(ways.values()))
-        wrong = [way for way in ways if not is_known(each.known, way, first, ways[way])]
+def compare(report, found):
+    """Compares what came of each command: `found` has for each way its commands and their outcomes."""
+    for alike in zip(*found.values()):
+        ways, command = dict(zip(found, (outcome for _, outcome in alike))), alike[0][0]
+        wrong = [way for way in ways if not is_known(command.known, way, ways)]
         told = "".join(f"\n    {way}: {outcome}" for way, outcome in ways.items())
-        report.expect(not wrong, f"{each.what} ({', '.join(wrong)})", told)
+        report.expect(not wrong, f"{command.what} ({', '.join(wrong)})", told)
 
 
-def told_by(report, program, way, folder, commands, mark):
-    """The outcomes of all commands in this way, which write no file outside of their folders."""
-    begun = time.monotonic()
+def told_by(report, program, way, folder, kinds):
+    """All commands of these kinds with their outcomes in this way, which write no file outside of their folders."""
+    os.mkdir(folder)
+    begun, (commands, mark) = time.monotonic(), commands_of(kinds, folder)
     with by_way(report, program, way, folder) as peer:
         found = outcomes(peer, commands)
     print(f"{way}: {len(commands)} commands in {time.monotonic() - begun:.0f} s", flush=True)
     report.expect(not os.path.exists(mark), f"{way}: no word is run outside of its program", mark)
-    return found
+    return list(zip(commands, found))
 
 
 def is_there(way):
@@ -162,7 +161,8 @@ def is_there(way):
     missing = slurm_cluster.lacking() if way in ("slurm", "both") else []
     if way in ("sandbox", "both"):
         missing += [] if shutil.which("bwrap") else ["bubblewrap (bwrap)"]
-        missing += [] if subprocess.run(["/usr/bin/python3", "-c", "import seccomp"]).returncode == 0 else ["python3-seccomp"]
+        trying = subprocess.run(["/usr/bin/python3", "-c", "import seccomp"], capture_output=True)
+        missing += ["python3-seccomp"] if trying.returncode else []
     if missing:
         print(f"skipped {way}: it needs {', '.join(missing)}", flush=True)
     return not missing
@@ -179,12 +179,11 @@ def main():
     os.chmod(folder, 0o755)
     try:
         program = shutil.copy(options.program, folder)
-        commands, mark = commands_of(options.only, folder)
         ways = [way for way in options.ways if is_there(way)]
         with concurrent.futures.ThreadPoolExecutor() as threads:
-            tasks = [threads.submit(told_by, report, program, way, folder, commands, mark) for way in ways]
-            found = {way: task.result() for way, task in zip(ways, tasks)}
-        compare(report, commands, found)
+            of = lambda way: threads.submit(told_by, report, program, way, os.path.join(folder, way), options.only)
+            tasks = {way: of(way) for way in ways}
+            compare(report, {way: task.result() for way, task in tasks.items()})
     finally:
         shutil.rmtree(folder)
     print(f"{report.passed} passed, {report.failed} failed", flush=True)

@@ -24,19 +24,24 @@ SHOWS = ["/usr/bin/python3", "-ISc", TEXT]
 SHOWING = Executable(b"#!/usr/bin/python3 -IS\n" + TEXT.replace("[3:-1]", "[2:-1]").encode())
 TOP = {".top": b""}
 
-SIGNS = [":", "--", "-", "!", ";", "{}", "{", "%", "%n", "%s", "%j", "\\", "\\n", "\\0", "'", '"', "`", "`id`", "$", "$HOME", "$(id)", "$@"]
-SIGNS += ["${x}", "*", "?", "[", "[a-z]", "~", "~root", "#", "#x", "&", "&&", "|", "||", ">x", "<", "<in", ">>", "2>&1", "(", ")", "^", ","]
+SIGNS = [":", "--", "-", "!", ";", "{}", "{", "%", "%n", "%s", "%j", "\\", "\\n", "\\0", "'", '"', "`", "`id`", "$", "$HOME"]
+SIGNS += ["$(id)", "$@", "${x}", "*", "?", "[", "[a-z]", "~", "~root", "#", "#x", "&", "&&", "|", "||", ">x", "<", "<in"]
+SIGNS += [">>", "2>&1", "(", ")", "^", ","]
 BLANKS = ["", " ", "\t", "\n", "\r", "a\nb", "\na", "a\n", " a", "a ", ": ", " :", ":\n", "::", "\\\n", "\\c", "-\n"]
-EQUALS = ["=", "A=B", "=B", "A=", "--export=ALL", "--prolog=/bin/sh", "--het-group=0", "--reuid=0", "--chdir=/", "--split-string=x"]
-OPTIONS = ["-S", "-i", "-u", "-0", "-a", "-n", "-N2", "-I", "-I{}", "-x", "-r", "-E", "-E:", "-c", "-e", "-v", "-h", "-V", "--help", "--version"]
-OPTIONS += ["--args", "--bind", "--ro-bind", "--unshare-all", "--add-seccomp-fd", "--json-status-fd", "--chdir", "--as-pid-1"]
-OPTIONS += ["--multi-prog", "--pdeathsig", "--unset", "--default-signal", "--null", "--kept", "--fork", "--max-args", "@x", "+x", "9"]
-LETTERS = ["\x01", "\x1b[0m", "\x7f", "\x80", "\u00e9", "e\u0301", "\u65e5\u672c", "\U0001f600", "\u202e", "\ufeff", "\ud7ff", "\U0010ffff"]
+EQUALS = ["=", "A=B", "=B", "A=", "--export=ALL", "--prolog=/bin/sh", "--het-group=0", "--reuid=0", "--chdir=/"]
+EQUALS += ["--split-string=x"]
+OPTIONS = ["-S", "-i", "-u", "-0", "-a", "-n", "-N2", "-I", "-I{}", "-x", "-r", "-E", "-E:", "-c", "-e", "-v", "-h", "-V"]
+OPTIONS += ["--help", "--version", "--args", "--bind", "--ro-bind", "--unshare-all", "--add-seccomp-fd", "--json-status-fd"]
+OPTIONS += ["--chdir", "--as-pid-1", "--multi-prog", "--pdeathsig", "--unset", "--default-signal", "--null", "--kept"]
+OPTIONS += ["KEPT", "--fork", "--max-args", "@x", "+x", "9"]
+LETTERS = ["\x01", "\x1b[0m", "\x7f", "\x80", "\u00e9", "e\u0301", "\u65e5\u672c", "\U0001f600", "\u202e", "\ufeff"]
+LETTERS += ["\ud7ff", "\U0010ffff"]
 WORDS = [*SIGNS, *BLANKS, *EQUALS, *OPTIONS, *LETTERS]
 
-OWN_NAMES = "LD_PRELOAD LD_LIBRARY_PATH LD_AUDIT LD_BIND_NOW GLIBC_TUNABLES IFS BASH_ENV ENV PS4 SHELLOPTS BASHOPTS CDPATH PWD OLDPWD HOME"
-OWN_NAMES += " SHLVL _ PPID OPTIND LC_ALL LANG TMPDIR POSIXLY_CORRECT SLURM_CONF SLURM_JOB_ID SLURM_NTASKS SRUN_EXPORT_ENV SLURM_EXPORT_ENV"
-OWN_NAMES += " SLURM_HET_SIZE SLURM_STEP_ID SLURM_PROLOG SLURM_TASK_PROLOG STARTED_BY_ANOTHER MARK root directory aside code failed next"
+OWN_NAMES = "LD_PRELOAD LD_LIBRARY_PATH LD_AUDIT LD_BIND_NOW GLIBC_TUNABLES IFS BASH_ENV ENV PS4 SHELLOPTS BASHOPTS CDPATH"
+OWN_NAMES += " PWD OLDPWD HOME SHLVL _ PPID OPTIND LC_ALL LANG TMPDIR POSIXLY_CORRECT STARTED_BY_ANOTHER MARK"
+OWN_NAMES += " SLURM_CONF SLURM_JOB_ID SLURM_NTASKS SRUN_EXPORT_ENV SLURM_EXPORT_ENV SLURM_HET_SIZE SLURM_STEP_ID"
+OWN_NAMES += " SLURM_PROLOG SLURM_TASK_PROLOG root directory aside code failed next"
 
 # For each of these the dynamic loader says that it finds no such file.
 LOADED = ["LD_PRELOAD", "LD_AUDIT"]
@@ -81,7 +86,8 @@ def programs():
         yield Odd(f"./ and {short(each)}", [f"./{each}", "x"], known, tree)
         yield Odd(f"{short(each)} by PATH", [each, each], known, tree, variables=[*before, ("PATH", ".")])
     yield Odd("a word - that stands first", ["-", "/bin/true"], "missing", variables=[])
-    for each in ["", "-", "--", ":", "!", "{}", "-S", "--help", "--version", "/bin/true x", "/no/such", "\n", "/", "n" * 5000]:
+    missing = ["", "-", "--", ":", "!", "{}", "-S", "--help", "--version", "/bin/true x", "/no/such", "\n", "/", "n" * 5000]
+    for each in missing:
         yield Odd(f"no program {short(each)}", [each, "/bin/true"], "missing")
     yield Odd("no program A=B", ["A=B", "/bin/true"])
     yield Odd("no word at all", [])
@@ -90,7 +96,8 @@ def programs():
     yield Odd("a link to no program", ["./link", "x"], "missing", {"link": Link("none")})
     yield Odd("a folder", ["./d", "x"], "missing", {"d": {}})
     yield Odd("a file that may not be run", ["./file", "x"], "missing", {"file": b"#!/bin/sh\n"})
-    yield Odd("a program for another program that is not there", ["./file"], "missing", {"file": Executable(b"#!/no/such\n")})
+    no_such = {"file": Executable(b"#!/no/such\n")}
+    yield Odd("a program for another program that is not there", ["./file"], "missing", no_such)
     yield Odd("lines without a program's name", ["./file", ":"], None, {"file": Executable(b'echo "$0" "$@"\n')})
     yield Odd("nothing in it", ["./file", ":"], None, {"file": Executable(b"")})
 
@@ -98,8 +105,8 @@ def programs():
 def paths():
     """Where programs are looked for."""
     tree = {"show": SHOWING, "d e": {"show": SHOWING}, "~": {"show": SHOWING}, "no": {"show": b"x"}, "file": b""}
-    found = ["", ":", ".", "./", "/no:", ":/no", "/no::/no", "d e", "~", "no:d e", "file:~", "/usr/bin:.", "\n:.", "x" * 4096 + ":."]
-    for each in found:
+    found = ["", ":", ".", "./", "/no:", ":/no", "/no::/no", "d e", "~", "no:d e", "file:~", "/usr/bin:.", "\n:."]
+    for each in [*found, "x" * 4096 + ":."]:
         yield Odd(f"PATH is {short(each)}", ["show", ":"], None, tree, variables=[("PATH", each)])
     for each in ["/no", "no", "$HOME", "*", "/usr/bin", "'.'", "d\\ e", "show"]:
         yield Odd(f"PATH is {short(each)}", ["show", ":"], "missing", tree, variables=[("PATH", each)])
@@ -109,11 +116,10 @@ def paths():
 
 def variables():
     """Names and values."""
-    shell = ["/bin/bash", "-c", 'cd d >in; cd ..; set -- a:b; printf "%s," $1 "$#" >out; /usr/bin/env -0 | cut -z -d = -f 1', "bash"]
     names = [each for each in WORDS if each and "=" not in each] + OWN_NAMES.split() + ["n" * 1000, "a b", "BASH_FUNC_cd%%"]
     for each in names:
-        known = "loader" if each in LOADED else None
-        yield Odd(f"a variable {short(each)}", [*SHOWS, ":"], known, variables=by_name(("A", "1"), (each, "./x :"), ("Z", "2")))
+        known, given = "loader" if each in LOADED else None, by_name(("A", "1"), (each, "./x :"), ("Z", "2"))
+        yield Odd(f"a variable {short(each)}", [*SHOWS, ":"], known, variables=given)
     values = [each for each in WORDS if each not in LETTERS] + ["v" * 100_000, "a=b=c", "() { :; }; echo x"]
     yield Odd("all values", [*SHOWS, ":"], variables=by_name(*((f"V{at}", each) for at, each in enumerate(values))))
     for each in [*EQUALS, *BLANKS, "v" * 100_000, "v" * 131_067, "() { :; }; echo x"]:
@@ -121,15 +127,18 @@ def variables():
     tree = {"d": {}, "e": b"echo once >>out\n"}
     for each in ["BASH_ENV", "ENV", "PS4", "IFS", "CDPATH", "SHELLOPTS", "POSIXLY_CORRECT", "PWD", "LD_PRELOAD"]:
         value = {"CDPATH": "/usr:.", "SHELLOPTS": "xtrace", "IFS": ":", "PS4": "$(echo x >>out)"}.get(each, "./e")
-        given = {"known": "loader" if each in LOADED else None, "variables": by_name((each, value), PATH), "files": ["out"]}
-        yield Odd(f"{each} for bash", ["/bin/bash", "-c", "cd d >in; cd .. >in; x=a:b; echo $x >>out", "bash"], tree=tree, **given)
-        yield Odd(f"{each} for sh", ["/bin/sh", "-c", "cd d >in; cd .. >in; x=a:b; echo $x >>out", "sh"], tree=tree, **given)
+        known, given = "loader" if each in LOADED else None, {"variables": by_name((each, value), PATH), "files": ["out"]}
+        for shell in ["/bin/bash", "/bin/sh"]:
+            text = "cd d >in; cd .. >in; x=a:b; echo $x >>out"
+            yield Odd(f"{each} for {shell}", [shell, "-c", text, "sh"], known, tree, **given)
     yield Odd("a variable twice", [*SHOWS, ":"], variables=[("A", "1"), ("A", "3"), ("B", "2")])
     yield Odd("a variable twice, others between", [*SHOWS, ":"], "order", variables=[("A", "1"), ("B", "2"), ("A", "3")])
     yield Odd("variables in another order", [*SHOWS, ":"], "order", variables=[("Z", "1"), ("-", "2"), ("A", "3")])
     yield Odd("no name", [*SHOWS, ":"], variables=[("", "1")])
     yield Odd("a name with =", [*SHOWS, ":"], variables=[("A=B", "1")])
     yield Odd("many variables", [*SHOWS, ":"], variables=[(f":{at:05}", "--") for at in range(3000)])
+    script = 'cd d >in; cd ..; set -- a:b; printf "%s," $1 "$#" >out; /usr/bin/env -0 | cut -z -d = -f 1'
+    shell = ["/bin/bash", "-c", script, "bash"]
     yield Odd("bash, and what it has", shell, None, tree, variables=[("CDPATH", "."), ("IFS", ":")], files=["out"])
 
 
@@ -145,7 +154,8 @@ def directories():
         folder = "/".join([name] * count)
         many = f"{count} times {short(name)}"
         yield Odd(f"in {many}", ["/bin/sh", "-c", "echo 1 >out; ls -A"], folder=folder, files=["out"])
-        yield Odd(f"in {many}, which tells", ["/usr/bin/python3", "-ISc", "import os; print(len(os.listdir('.')))"], folder=folder)
+        looking = "import os; print(len(os.listdir('.')), len(os.listdir('..')))"
+        yield Odd(f"in {many}, which looks up", ["/usr/bin/python3", "-ISc", looking], folder=folder)
     for each in ["..", "a/..", "/", "/a", "a//b", "./a", "a/.", ".", "a/", "-/-", "--/:", "link", "link/a"]:
         yield Odd(f"in {short(each)}", [*SHOWS, ":"], tree={"link": Link("/etc")}, folder=each)
 
@@ -161,7 +171,8 @@ def sizes():
     for count in [9_000, 20_000, 100_000]:
         yield Odd(f"{count} words", [*SHOWS, *(":" for _ in range(count))], "many")
     yield Odd("1.8 MB of words", [*SHOWS, *("w" * 130_000 for _ in range(14))])
-    yield Odd("1.8 MB of words and variables", [*SHOWS, *("w" * 100_000 for _ in range(9))], variables=[(f"V{at}", "v" * 99_999) for at in range(9)])
+    large = [(f"V{at}", "v" * 99_999) for at in range(9)]
+    yield Odd("1.8 MB of words and variables", [*SHOWS, *("w" * 100_000 for _ in range(9))], variables=large)
     yield Odd("2.2 MB of words", [*SHOWS, *("w" * 130_000 for _ in range(17))])
 
 
@@ -173,7 +184,8 @@ def good(mark=""):
     yield Odd("cut", ["/usr/bin/cut", "-d", ":", "-f", "1", "in"], None, {"in": b"a:b\n"})
     yield Odd("$#", shell("echo $#", ":", "x", "y"))
     yield Odd("echo", ["/bin/echo", "a", ":", "b"])
-    yield Odd("find", ["/usr/bin/find", ".", "-name", "*", "!", "-name", "a", "-exec", "echo", "{}", ";"], None, {"a": b"", "b": b""})
+    finding = ["/usr/bin/find", ".", "-name", "*", "!", "-name", "a", "-exec", "echo", "{}", ";"]
+    yield Odd("find", finding, None, {"a": b"", "b": b""})
     yield Odd("xargs", shell("echo a | xargs -I{} echo {} : {}"))
     yield Odd("sed", ["/usr/bin/sed", "-e", "s:a:b:", "-e", "$!d", "in"], None, {"in": b"a\nab\n"})
     yield Odd("env -S", ["/usr/bin/env", "-S", "A=B sh -c 'echo $A'"])
@@ -209,9 +221,16 @@ def ends():
     for number in [*range(1, 16), 16, 24, 25, 26, 27, 29, 30, 31, 34, 50, 64]:
         known = "killed" if number == 9 else None
         yield Odd(f"ended by signal {number}", ["/bin/bash", "-c", f"echo x; kill -{number} $$; sleep 9", "bash"], known)
-        yield Odd(f"a child is ended by signal {number}", ["/bin/bash", "-c", f"exec 2>in; (kill -{number} $BASHPID; sleep 9); echo $?"])
+        of_child = f"exec 2>in; (kill -{number} $BASHPID; sleep 9); echo $?"
+        yield Odd(f"a child is ended by signal {number}", ["/bin/bash", "-c", of_child])
     yield Odd("signals that are held back or ignored", ["/bin/grep", "^Sig[BIC]", "/proc/self/status"])
+    yield Odd("what is open", ["/bin/ls", "/proc/self/fd"])
+    limits = "ulimit -a | grep -v -E 'coredump|process'; ulimit -H -a | grep -v -E 'coredump|process'"
+    yield Odd("limits", ["/bin/sh", "-c", limits])
+    leads = "import os; print(os.getsid(0) == os.getpgid(0), os.nice(0), os.isatty(0))"
+    yield Odd("who leads", ["/usr/bin/python3", "-ISc", leads])
     yield Odd("SIGPIPE", ["/bin/bash", "-c", "yes | head -n 1; echo ${PIPESTATUS[@]}"])
 
 
-KINDS = {each.__name__: each for each in [words, programs, paths, variables, directories, sizes, good, divided, ends]}
+KINDS = [words, programs, paths, variables, directories, sizes, good, divided, ends]
+KINDS = {each.__name__: each for each in KINDS}

@@ -1,10 +1,10 @@
 #!/usr/bin/env python3
 """launchers_words.py PROGRAM [--only KIND ..] [--ways WAY ..] [--slow FACTOR]: odd commands, with launchers and without.
 
-PROGRAM is the built `remoted`. It gives each command to four servers: one without a launcher, one with
-`launchers/sandbox`, one with `launchers/slurm`, and one with that and the sandbox behind it. What comes of it has to be
-equal for all four: the status of the Operation, the exit code, standard output and error, and the outputs. What is known
-to differ stands in KNOWN, with its reason, and has to differ in just that way.
+PROGRAM is the built `remoted`. It gives each command to five servers: one without a launcher, one with
+`launchers/sandbox`, one of a plain user with that, one with `launchers/slurm`, and one with that and the sandbox behind it.
+What comes of it has to be equal for all: the status of the Operation, the exit code, standard output and error, and the
+outputs. What is known to differ stands in KNOWN, with its reason, and has to differ in just that way.
 
 Kinds are the functions of `odd_commands.py`. Without bubblewrap, Slurm or root the ways that need them are left out, and
 that is said. A line for each command that fails; it ends with `N passed, M failed`, and with status 1 where one failed.
@@ -28,35 +28,35 @@ from launchers_sandbox import sandbox
 from launchers_slurm import site
 from server import Server
 
-# What differs, and how: for these ways the status and the exit code that stand here. Each has a line in DEPLOYING.
-FAILED, NOT_THERE = (13, None), [(0, 126), (0, 127)]
+WAYS = ["none", "sandbox", "plain", "slurm", "both"]
+# What differs: why, and for these ways the status and the exit codes that stand here. Each has a line in DEPLOYING.
+FAILED, SANDBOXED = [(13, None)], ["sandbox", "plain", "both"]
+all_of = lambda ways, ends: {way: ends for way in ways}
 KNOWN = {
     "missing": (
         "a program that cannot be started is a failed run without a launcher, and code 126 or 127 of `env` with one",
-        {"none": [FAILED, (0, 127)], "sandbox": NOT_THERE, "slurm": NOT_THERE, "both": NOT_THERE},
+        {"none": [*FAILED, (0, 127)], **all_of(WAYS[1:], [(0, 126), (0, 127)])},
     ),
-    "equals": (
-        "a program with a `=` in its name: `env` would take it for a variable",
-        {"sandbox": [FAILED], "slurm": [FAILED], "both": [FAILED]},
-    ),
+    "equals": ("a program with a `=` in its name: `env` would take it for a variable", all_of(WAYS[1:], FAILED)),
     "order": (
         "variables have the order of their names without a launcher, and that of the command with one",
-        {"sandbox": [(0, 0)], "slurm": [(0, 0)], "both": [(0, 0)]},
+        all_of(WAYS[1:], [(0, 0)]),
     ),
     "loader": (
         "without a launcher `/usr/bin/setsid` has the action's variables, too: what the dynamic loader says comes twice",
-        {"sandbox": [(0, 0)], "slurm": [(0, 0)], "both": [(0, 0)]},
+        all_of(WAYS[1:], [(0, 0)]),
     ),
-    "many": ("bubblewrap takes no more than 9,000 words, its own among them", {"sandbox": [FAILED], "both": [FAILED]}),
+    "many": ("bubblewrap takes no more than 9,000 words, its own among them", all_of(SANDBOXED, FAILED)),
     "near": (
         "the last few kilobytes of 2 MiB of words: lines of launchers are longer",
-        {"none": [(0, 0)], "sandbox": [FAILED], "slurm": [(0, 0), FAILED], "both": [FAILED]},
+        {"none": [(0, 0)], "slurm": [(0, 0), *FAILED], **all_of(SANDBOXED, FAILED)},
     ),
-    "killed": ("with a launcher behind Slurm the code 137 counts as a failure of that", {"both": [FAILED]}),
+    "killed": ("with a launcher behind Slurm the code 137 counts as a failure of that", {"both": FAILED}),
 }
-WAYS = ["none", "sandbox", "slurm", "both"]
 # The slots of a server, and how many actions it knows of at a time.
 SLOTS, TOGETHER = 16, 64
+# The user of the server whose way is `plain`.
+PLAIN = 65534
 
 
 class Report:
@@ -112,8 +112,9 @@ def by_way(report, program, way, folder):
         with site(report, program, following, cpus=SLOTS // 2) as here, here.serve(SLOTS) as (_, peer):
             yield peer
     else:
-        launcher, work = sandbox(folder) if way == "sandbox" else None, os.path.join(folder, "work")
-        with Server(program, [("red", 10**9, SLOTS // 2)], 2**62, None, work, True, launcher) as server:
+        launcher, work = sandbox(folder) if way != "none" else None, os.path.join(folder, "work")
+        user = {"user": PLAIN, "group": PLAIN, "extra_groups": []} if way == "plain" else {}
+        with Server(program, [("red", 10**9, SLOTS // 2)], 2**62, None, work, True, launcher, **user) as server:
             with Peer(server.ports[0], 300 * report.slow) as peer:
                 yield peer
 
@@ -148,6 +149,7 @@ def compare(report, found):
 def told_by(report, program, way, folder, kinds):
     """All commands of these kinds with their outcomes in this way, which write no file outside of their folders."""
     os.mkdir(folder)
+    os.chmod(folder, 0o777)
     begun, (commands, mark) = time.monotonic(), commands_of(kinds, folder)
     with by_way(report, program, way, folder) as peer:
         found = outcomes(peer, commands)
@@ -159,7 +161,8 @@ def told_by(report, program, way, folder, kinds):
 def is_there(way):
     """Whether what this way needs is there; otherwise it is said."""
     missing = slurm_cluster.lacking() if way in ("slurm", "both") else []
-    if way in ("sandbox", "both"):
+    missing += ["root"] if way == "plain" and os.geteuid() else []
+    if way in SANDBOXED:
         missing += [] if shutil.which("bwrap") else ["bubblewrap (bwrap)"]
         trying = subprocess.run(["/usr/bin/python3", "-c", "import seccomp"], capture_output=True)
         missing += ["python3-seccomp"] if trying.returncode else []

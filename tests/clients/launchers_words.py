@@ -54,7 +54,7 @@ KNOWN = {
     "killed": ("with a launcher behind Slurm the code 137 counts as a failure of that", {"both": FAILED}),
 }
 # The slots of a server, and how many actions it knows of at a time.
-SLOTS, TOGETHER = 16, 64
+SLOTS, TOGETHER = 8, 64
 # The user of the server whose way is `plain`.
 PLAIN = 65534
 

@@ -8,6 +8,7 @@ import os
 import random
 import re
 import shutil
+import signal
 import socket
 import subprocess
 import time
@@ -195,3 +196,14 @@ class Cluster:
             except subprocess.TimeoutExpired:
                 process.kill()
                 process.wait()
+        self._end_left()
+
+    def _end_left(self):
+        """Ends what still asks this cluster, as processes that cancel jobs, and what holds its jobs."""
+        mark = f"SLURM_CONF={self.configuration}".encode()
+        for name in filter(str.isdigit, os.listdir("/proc")):
+            with contextlib.suppress(OSError):
+                with open(f"/proc/{name}/environ", "rb") as file:
+                    is_left = mark in file.read().split(b"\0")
+                if is_left:
+                    os.kill(int(name), signal.SIGKILL)

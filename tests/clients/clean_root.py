@@ -16,7 +16,9 @@ import time
 PACKAGES = "adduser,bubblewrap,python3-seccomp,systemd,systemd-sysv"
 NEW_NETWORK = 0x4000_0000
 HIERARCHIES = [pathlib.Path("/sys/fs/cgroup", name) for name in ["", "systemd", "unified"]]
-NSPAWN = ["systemd-nspawn", "--quiet", "--register=no", "--private-network", "--console=pipe"]
+# bubblewrap writes there, for its own namespace of users; all else of /proc/sys is read only in the machine.
+WRITTEN = "/proc/sys/user"
+NSPAWN = ["systemd-nspawn", "--quiet", "--register=no", "--private-network", "--console=pipe", f"--bind={WRITTEN}"]
 
 
 @contextlib.contextmanager
@@ -55,6 +57,7 @@ class Machine:
         try:
             self.first = self._first_process()
             self.inside("sh", "-c", "until systemctl is-system-running --quiet --wait; do sleep 0.2; done", timeout=60)
+            self.inside("mount", "-o", "remount,bind,rw", WRITTEN, check=True)
         except BaseException:
             self.__exit__()
             raise

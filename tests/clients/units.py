@@ -1,5 +1,5 @@
 #!/usr/bin/env python3
-"""units.py PROGRAM [--root FOLDER]: the units of deploy/ under systemd, by the commands that docs/DEPLOYING.md prints.
+"""units.py PROGRAM [--root FOLDER]: the units of deploy/ and the guides under systemd, by the commands that they print.
 
 PROGRAM is the built `remoted`. In a fresh Debian, which debootstrap makes, systemd runs in namespaces of its own. There
 each block of the sections on services is run as it is printed: one server for two teams, and then a server for each
@@ -19,15 +19,15 @@ from executing import Action, Peer
 from watched import expect, within
 
 TOP = pathlib.Path(__file__).resolve().parents[2]
-GUIDE = (TOP / "docs/DEPLOYING.md").read_text()
-BLOCK = re.compile(r"^```sh\n(.*?)^```$", re.MULTILINE | re.DOTALL)
 CHECKOUT = "checkout"
+SYSTEM = "etc/systemd/system"
 
 
-def blocks(heading):
-    """The blocks of commands between a heading and the next one."""
-    section = re.split(r"^#+ ", GUIDE.split(f"# {heading}\n")[1], maxsplit=1, flags=re.MULTILINE)[0]
-    return BLOCK.findall(section)
+def blocks(heading, guide="DEPLOYING", language="sh"):
+    """The blocks of a language between a heading of a guide and the next one."""
+    text = (TOP / f"docs/{guide}.md").read_text().split(f"# {heading}\n")[1]
+    section = re.split(r"^#+ ", text, maxsplit=1, flags=re.MULTILINE)[0]
+    return re.findall(rf"^```{language}\n(.*?)^```$", section, re.MULTILINE | re.DOTALL)
 
 
 def one_server(host):
@@ -39,11 +39,45 @@ def one_server(host):
     limits = host.machine.inside("cat", f"/proc/{host.main_process('remoted')}/limits").stdout
     found = re.search(r"Max address space +(\d+)", limits)
     expect(found and int(found.group(1)) == 24 * 2**30, "with the unit's limit of memory")
+    checked_each_minute(host)
     host.systemctl("disable", "--now", "remoted")
     host.unit_is("remoted", "inactive")
     result = host.systemctl("show", "--value", "--property=Result,ExecMainStatus", "remoted").split()
     expect(result == ["success", "0"], "it ends with status 0 and was not killed", result)
     expect(not host.has_file("/run/remoted"), "its folder below /run is gone")
+
+
+def checked_each_minute(host):
+    """The service and the timer of WATCHING."""
+    for text, kind in zip(blocks("A check", "WATCHING", "ini"), ["service", "timer"]):
+        host.write(f"{SYSTEM}/remoted-check.{kind}", text)
+    host.systemctl("daemon-reload")
+    host.systemctl("start", "remoted-check.timer")
+    host.unit_is("remoted-check.timer", "active")
+    result = host.machine.inside("systemctl", "start", "remoted-check.service").returncode
+    expect(result == 0, "the check of each minute is content")
+    host.systemctl("stop", "remoted-check.timer")
+
+
+def with_slots(host):
+    """The unit with slots that DEPLOYING prints, as a drop-in."""
+    (block,) = blocks("A unit with slots", language="ini")
+    text = block.replace("ExecStart=", "ExecStart=\nExecStart=", 1).replace("sleep 30", "sleep 1")
+    host.write(f"{SYSTEM}/remoted.service.d/slots.conf", text)
+    host.systemctl("daemon-reload")
+    host.systemctl("start", "remoted")
+    host.answers(8980)
+    ran(host, 8980, "id -un", b"remoted\n", "with slots a program runs as the server's user")
+    host.systemctl("stop", "remoted")
+    host.unit_is("remoted", "inactive")
+
+
+def ran(host, port, script, wanted, what):
+    with Peer(port) as peer:
+        done = peer.execute(Action(script, do_not_cache=True))
+        found = done.result and (done.result.code, peer.stream_text(done.result.stdout))
+        said = host.machine.inside("journalctl", "--no-pager", "--lines=5").stdout
+        expect(found == (0, wanted), what, found or said)
 
 
 def a_server_for_each(host):
@@ -74,20 +108,18 @@ def what_else_is_said(host):
     expect(within(20, said), "a server whose port is taken does not begin, and says so")
     host.systemctl("stop", "remoted@green")
     expect(has(8980, b"red's"), "and red's notices nothing")
-    parent = "INSTANCES=ci:8982:1000000:0 dev:8983:1000000:1:ci\nMEMORY=unlimited\nOPTIONS=--listen 127.0.0.1\n"
+    parent = "INSTANCES=ci:8982:1000000:0 dev:8983:1000000:1:ci\nMEMORY=unlimited\n"
+    parent += "OPTIONS=--launcher /usr/local/lib/remoted/sandbox --listen 127.0.0.1\n"
     host.write("etc/remoted/green.conf", parent)
     slots = (TOP / "deploy/slots.conf").read_text()
-    host.write("etc/systemd/system/remoted@green.service.d/slots.conf", slots.replace("sleep 30", "sleep 1"))
+    host.write(f"{SYSTEM}/remoted@green.service.d/slots.conf", slots.replace("sleep 30", "sleep 1"))
     host.systemctl("daemon-reload")
     host.systemctl("start", "remoted@green")
     host.unit_is("remoted@green", "active")
     host.answers(8983)
     store(8982, b"ci's")
     expect(has(8983, b"ci's"), "an instance and its parent stand in one file")
-    with Peer(8983) as peer:
-        result = peer.execute(Action("id -un", do_not_cache=True)).result
-        said = peer.stream_text(result.stdout)
-        expect((result.code, said) == (0, b"remoted\n"), "with slots a program runs as the server's user", said)
+    ran(host, 8983, "pwd && test ! -e /etc/remoted", b"/work\n", "in the sandbox no file of the host's is")
     host.systemctl("stop", "remoted@*")
     for team in ["red", "blue", "green"]:
         host.unit_is(f"remoted@{team}", "inactive")
@@ -106,6 +138,7 @@ def main():
             host = Host(machine, f"/{CHECKOUT}")
             machine.join_network()
             one_server(host)
+            with_slots(host)
             a_server_for_each(host)
             what_else_is_said(host)
 

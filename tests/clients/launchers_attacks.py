@@ -194,8 +194,7 @@ def memory(report, program, who, **more):
             for each in (red, blue):
                 each.close()
     finally:
-        for number in programs.running(folder):
-            os.kill(number, signal.SIGKILL)
+        programs.end(folder)
         shutil.rmtree(folder, ignore_errors=True)
 
 

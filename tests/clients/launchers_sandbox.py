@@ -196,8 +196,7 @@ def reach(report, program, who, **more):
             report.expect(not programs.zombies(server.process.pid), f"{who}: no ended program is left", "some are")
             ends_with_server(report, who, server, red, folder)
     finally:
-        for number in programs.running(folder):
-            os.kill(number, signal.SIGKILL)
+        programs.end(folder)
         shutil.rmtree(folder, ignore_errors=True)
 
 
@@ -296,8 +295,7 @@ def ended_alone(report, who, **more):
         left = programs.settled(lambda: programs.marked(folder), 5 * report.slow)
         report.expect(not left, f"{who}: the launcher alone is ended while the sandbox is being made", left)
     finally:
-        for number in programs.running(folder):
-            os.kill(number, signal.SIGKILL)
+        programs.end(folder)
         shutil.rmtree(folder, ignore_errors=True)
 
 

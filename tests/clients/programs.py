@@ -106,6 +106,13 @@ def zombies(server):
     return [int(name) for name in os.listdir("/proc") if name.isdigit() and _state(name) == ("Z", server)]
 
 
+def end(folder):
+    """Kills what is left of a test."""
+    for number in marked(folder):
+        with contextlib.suppress(ProcessLookupError):
+            os.kill(number, signal.SIGKILL)
+
+
 def settled(look, seconds=10):
     """What `look` finds, once it finds nothing or the time is over."""
     end = time.monotonic() + seconds

@@ -77,7 +77,7 @@ tried well "echo fine"
 echo "$who:left $(ls -d $groups/start-* 2>/dev/null)"
 for each in "memory=head -c 300000000 /dev/zero | tail >/dev/null; echo on" \
   "temporary=head -c 300000000 /dev/zero >/tmp/x; echo on" "shared=head -c 300000000 /dev/zero >/dev/shm/x; echo on" \
-  "processes=n=0; while [ \$n -lt 200 ]; do sleep 9 & n=\$((n + 1)); echo \$n; done"; do
+  "processes=n=0; while [ \$n -lt 200 ]; do sleep 999 & n=\$((n + 1)); echo \$n; done"; do
   begin 1 "sleep 4; head -c 9000000 /dev/zero >/tmp/x; echo fine"
   beside=$session of_beside=$root
   tried "${each%%%%=*}" "${each#*=}"

@@ -13,7 +13,7 @@ from server import Server
 
 # Calls that no program may make, by their numbers on x86_64 and aarch64, with arguments with which they would do something
 # harmless or fail otherwise. Process 1 is the shell that waits for the program; 2 is the program's own standard error.
-CALLS = """import ctypes, os, platform
+CALLS = """import ctypes, os, platform, resource
 kernel = ctypes.CDLL(None, use_errno=True)
 at = ["x86_64", "aarch64"].index(platform.machine())
 one = kernel.syscall([434, 434][at], 1, 0)
@@ -33,13 +33,16 @@ tries = {"prlimit of process 1": [(302, 261), 1, 7, text, 0], "its descriptors":
   "memfd_secret": [(447, 447), 0], "the log": [(103, 116), 2, text, 64], "kexec": [(246, 104), 0, 0, 0, 0],
   "a module": [(313, 273), 2, b"", 0], "accounting": [(163, 89), b"/tmp/x"], "swap": [(167, 224), b"/tmp/x", 0],
   "the clock": [(227, 112), 0, text], "the host's name": [(170, 161), b"x", 1], "quotas": [(179, 60), 0, 0, 0, 0],
-  "a terminal's words": [(16, 29), 2, 0x5412, b"x"], "a console's": [(16, 29), 2, 0x541C, b"x"],
-  "cores": [(302, 261), 0, 4, (ctypes.c_ulong * 2)(1 << 40, 1 << 40), 0]}
+  "a terminal's words": [(16, 29), 2, 0x5412, b"x"], "a console's": [(16, 29), 2, 0x541C, b"x"]}
 for family in (17, 29, 31, 38, 40, 44):
     tries["sockets %d" % family] = [(41, 198), family, 3, 0]
 for name, (numbers, *words) in tries.items():
     if kernel.syscall(numbers[at], *words) != -1 or ctypes.get_errno() not in (1, 38):
         print(name, ctypes.get_errno())
+held = resource.getrlimit(resource.RLIMIT_CORE)
+kernel.syscall((302, 261)[at], 0, resource.RLIMIT_CORE, (ctypes.c_ulong * 2)(1 << 40, 1 << 40), 0)
+if resource.getrlimit(resource.RLIMIT_CORE) != held:
+    print("cores")
 if at == 0:
     child = kernel.syscall(56, 0x10000000 | 17, 0, 0, 0, 0)
     if child == 0:

@@ -27,7 +27,7 @@ from filters import ALLOW, ARCHITECTURES, ERRNO, OTHERS, X32, Call, Filter, call
 HERE = os.path.dirname(os.path.abspath(__file__))
 LAUNCHERS = os.path.realpath(os.path.join(HERE, "..", "..", "launchers"))
 MACHINES = {"x86_64": ["x86_64", "i386"], "aarch64": ["aarch64", "arm"]}
-NAMES = {ALLOW: "passes", ERRNO | errno.EPERM: "EPERM", ERRNO | errno.ENOSYS: "ENOSYS"}
+NAMES = {ALLOW: "passes", ERRNO | errno.EPERM: "EPERM", ERRNO | errno.ENOSYS: "ENOSYS", ERRNO: "does nothing"}
 NO_PASS = ["EPERM", "ENOSYS"]
 
 # Arguments that say nothing, or all that they can.
@@ -57,10 +57,11 @@ class Test:
 
 
 class Policy:
-    """`sandbox.calls`: the names of calls that pass, and for names that are refused the tests that have to hold for it."""
+    """`sandbox.calls`: the names of calls that pass; and for names of which calls are refused, or do nothing, the tests
+    that have to hold for it."""
 
     def __init__(self):
-        self.allowed, self.refused = set(), {}
+        self.allowed, self.refused, self.ignored = set(), {}, {}
         with open(os.path.join(LAUNCHERS, "sandbox.calls")) as file:
             for line in file:
                 self._read(line.split("#")[0].split())
@@ -72,22 +73,26 @@ class Policy:
         tests = [Test(each) for each in words[1:] if each[0].isdigit()]
         if verb == "allow":
             self.allowed.update(names)
-        for name in names if verb == "refuse" else []:
-            self.refused.setdefault(name, []).append(tests)
+        kept = {"refuse": self.refused, "ignore": self.ignored}.get(verb)
+        for name in names if kept is not None else []:
+            kept.setdefault(name, []).append(tests)
 
     def names(self):
-        return self.allowed | set(self.refused)
+        return self.allowed | set(self.refused) | set(self.ignored)
 
     def rules(self, names, architecture):
-        """The tests of a call's refusals. On i386 `socketcall`, whose first argument is 1, does what `socket` does."""
-        found = [tests for name in names for tests in self.refused.get(name, [])]
+        """The tests of a call, and its answer where they hold: the first one counts. On i386 `socketcall`, whose
+        first argument is 1, does what `socket` does."""
+        found = [(tests, "does nothing") for name in names for tests in self.ignored.get(name, [])]
+        found += [(tests, "EPERM") for name in names for tests in self.refused.get(name, [])]
         if architecture == "i386" and "socketcall" in names and self.refused.get("socket"):
-            found.append([Test("0=1")])
+            found.append(([Test("0=1")], "EPERM"))
         return found
 
     def answer(self, names, architecture, arguments):
-        if any(all(test.holds(arguments) for test in tests) for tests in self.rules(names, architecture)):
-            return "EPERM"
+        for tests, answer in self.rules(names, architecture):
+            if all(test.holds(arguments) for test in tests):
+                return answer
         return "passes" if names & self.allowed else "ENOSYS"
 
 
@@ -129,7 +134,8 @@ def compared(policy, both, architecture, chance):
     numbers = sorted({*range(601), *known, *range(0xF0000, 0xF0010), *chance.sample(range(601, 2**20), 200)})
     for number in numbers:
         names = known.get(number, set())
-        for arguments in arguments_of(policy.rules(names, architecture), is_wide, chance):
+        rules = [tests for tests, _ in policy.rules(names, architecture)]
+        for arguments in arguments_of(rules, is_wide, chance):
             found = NAMES.get(together(*both, Call(ARCHITECTURES[architecture], number, arguments)), "another answer")
             wanted = policy.answer(names, architecture, arguments)
             count += 1
@@ -186,7 +192,8 @@ def names_known(report, policy):
 
 
 # Numbers of a call with its arguments, for each processor, and its errno; 0 where it is to end otherwise than by these two.
-# What is refused would fail by EINVAL (22) otherwise, or do nothing.
+# What is refused would fail by EINVAL (22) otherwise, or do nothing. What is ignored would fail by EFAULT.
+IGNORED = None
 TRIED = {
     "mount": ({"x86_64": 165, "aarch64": 40}, (0, 0, 0, 0, 0), errno.ENOSYS),
     "unshare": ({"x86_64": 272, "aarch64": 97}, (0,), errno.ENOSYS),
@@ -204,7 +211,7 @@ TRIED = {
     "F_GETFD": ({"x86_64": 72, "aarch64": 25}, (0, 1), 0),
     "a snapshot": ({"x86_64": 16, "aarch64": 29}, (0, 0x50009401, 0), errno.EPERM),
     "a user namespace": ({"x86_64": 56, "aarch64": 220}, (0x10000000 | 0x200, 0, 0, 0, 0), errno.EPERM),
-    "prlimit64 for cores": ({"x86_64": 302, "aarch64": 261}, (0, 4, 1, 0), errno.EPERM),
+    "prlimit64 for cores": ({"x86_64": 302, "aarch64": 261}, (0, 4, 1, 0), IGNORED),
     "prlimit64 that reads": ({"x86_64": 302, "aarch64": 261}, (0, 4, 0, 0), 0),
     "getpid": ({"x86_64": 39, "aarch64": 172}, (), 0),
     "getpid of x32": ({"x86_64": X32 | 39}, (), errno.EPERM),
@@ -233,7 +240,8 @@ def answers(folder, machine):
             ctypes.set_errno(0)
             kernel.syscall(ctypes.c_long(numbers[machine]), *(ctypes.c_ulong(each % 2**64) for each in arguments))
             found = ctypes.get_errno()
-            if found != wanted and (wanted or found in (errno.EPERM, errno.ENOSYS)):
+            is_right = found == (wanted or 0) or (wanted == 0 and found not in (errno.EPERM, errno.ENOSYS))
+            if not is_right:
                 wrong.append(f"{name}: {found}, not {wanted}")
     return wrong
 

@@ -173,6 +173,10 @@ curl -s -o /dev/null --cacert c https://localhost:4433/; echo $?
 curl -s -o /dev/null https://localhost:4433/; echo $?"""
 )
 
+GPG = """export GNUPGHOME=/tmp/keys && mkdir -m 700 /tmp/keys || exit
+gpg -q --batch --passphrase '' --quick-gen-key x default default never 2>&1 && gpg -q --batch --detach-sign f 2>&1
+gpg --verify f.sig f 2>&1 | grep -c 'Good signature'"""
+
 CMAKE = """cmake_minimum_required(VERSION 3.13)
 project(x CXX)
 find_package(Threads REQUIRED)
@@ -287,6 +291,7 @@ def other_tools():
         Program("date in the host's zone", [], f"date +%z; [ ! -L {local} ] || readlink {local}", zone),
         Program("openssl", ["openssl"], OPENSSL, "c: OK\n"),
         Program("curl", ["curl", "openssl"], CURL, "0\n60\n"),
+        Program("gpg", ["gpg"], GPG, "1\n", {"f": "text"}),
         Program("locales", ["locale"], "locale charmap && printf 'b\\n\u00e4\\n' | sort | head -n 1", "UTF-8\nb\n"),
         Program("what there is of /etc", [], "ls -A /etc && ls -A /etc/ssl", is_public),
     ]

@@ -1,5 +1,5 @@
 #!/usr/bin/env python3
-"""launchers_words.py PROGRAM [--only KIND ..] [--ways WAY ..] [--slow FACTOR]: odd commands, with launchers and without.
+"""launchers_words.py PROGRAM [--only KIND ..] [--ways WAY ..] [--slots N] [--slow FACTOR]: odd commands, by launchers.
 
 PROGRAM is the built `remoted`. It gives each command to five servers: one without a launcher, one with
 `launchers/sandbox`, one of a plain user with that, one with `launchers/slurm`, and one with that and the sandbox behind it.
@@ -53,8 +53,8 @@ KNOWN = {
     ),
     "killed": ("with a launcher behind Slurm the code 137 counts as a failure of that", {"both": FAILED}),
 }
-# The slots of a server, and how many actions it knows of at a time.
-SLOTS, TOGETHER = 8, 64
+# How many actions a server knows of at a time.
+TOGETHER = 64
 # The user of the server whose way is `plain`.
 PLAIN = 65534
 
@@ -105,16 +105,16 @@ def outcomes(peer, commands):
 
 
 @contextlib.contextmanager
-def by_way(report, program, way, folder):
+def by_way(report, program, way, folder, slots):
     """A connection to a server whose programs are started in this way."""
     if way in ("slurm", "both"):
         following = sandbox(folder) if way == "both" else ""
-        with site(report, program, following, cpus=SLOTS // 2) as here, here.serve(SLOTS) as (_, peer):
+        with site(report, program, following, cpus=(slots + 1) // 2) as here, here.serve(slots) as (_, peer):
             yield peer
     else:
         launcher, work = sandbox(folder) if way != "none" else None, os.path.join(folder, "work")
         user = {"user": PLAIN, "group": PLAIN, "extra_groups": []} if way == "plain" else {}
-        with Server(program, [("red", 10**9, SLOTS // 2)], 2**62, None, work, True, launcher, **user) as server:
+        with Server(program, [("red", 10**9, slots)], 2**62, None, work, True, launcher, **user) as server:
             with Peer(server.ports[0], 300 * report.slow) as peer:
                 yield peer
 
@@ -146,12 +146,12 @@ def compare(report, found):
         report.expect(not wrong, f"{command.what} ({', '.join(wrong)})", told)
 
 
-def told_by(report, program, way, folder, kinds):
+def told_by(report, options, program, way, folder):
     """All commands of these kinds with their outcomes in this way, which write no file outside of their folders."""
     os.mkdir(folder)
     os.chmod(folder, 0o777)
-    begun, (commands, mark) = time.monotonic(), commands_of(kinds, folder)
-    with by_way(report, program, way, folder) as peer:
+    begun, (commands, mark) = time.monotonic(), commands_of(options.only, folder)
+    with by_way(report, program, way, folder, options.slots) as peer:
         found = outcomes(peer, commands)
     print(f"{way}: {len(commands)} commands in {time.monotonic() - begun:.0f} s", flush=True)
     report.expect(not os.path.exists(mark), f"{way}: no word is run outside of its program", mark)
@@ -176,6 +176,7 @@ def main():
     parser.add_argument("program")
     parser.add_argument("--only", nargs="*", default=[*odd_commands.KINDS], choices=odd_commands.KINDS, metavar="KIND")
     parser.add_argument("--ways", nargs="*", default=WAYS, choices=WAYS, metavar="WAY")
+    parser.add_argument("--slots", type=int, default=6, metavar="N")
     parser.add_argument("--slow", type=float, default=1.0, metavar="FACTOR")
     options = parser.parse_args()
     report, folder = Report(options.slow), tempfile.mkdtemp(prefix="launchers-words-")
@@ -184,7 +185,7 @@ def main():
         program = shutil.copy(options.program, folder)
         ways = [way for way in options.ways if is_there(way)]
         with concurrent.futures.ThreadPoolExecutor() as threads:
-            of = lambda way: threads.submit(told_by, report, program, way, os.path.join(folder, way), options.only)
+            of = lambda way: threads.submit(told_by, report, options, program, way, os.path.join(folder, way))
             tasks = {way: of(way) for way in ways}
             compare(report, {way: task.result() for way, task in tasks.items()})
     finally:

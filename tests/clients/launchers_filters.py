@@ -30,6 +30,9 @@ MACHINES = {"x86_64": ["x86_64", "i386"], "aarch64": ["aarch64", "arm"]}
 NAMES = {ALLOW: "passes", ERRNO | errno.EPERM: "EPERM", ERRNO | errno.ENOSYS: "ENOSYS", ERRNO: "does nothing"}
 NO_PASS = ["EPERM", "ENOSYS"]
 
+# On i386 `socketcall` does what these do, and shows nothing of their arguments: it is refused where they can be.
+SOCKETCALL = {"socket": "0=1", "socketpair": "0=8"}
+
 # Arguments that say nothing, or all that they can.
 PLAIN = [(0,) * 6, (1,) * 6, (2**64 - 1,) * 6, (2**32,) * 6, (2**31,) * 6]
 
@@ -81,12 +84,11 @@ class Policy:
         return self.allowed | set(self.refused) | set(self.ignored)
 
     def rules(self, names, architecture):
-        """The tests of a call, and its answer where they hold: the first one counts. On i386 `socketcall`, whose
-        first argument is 1, does what `socket` does."""
+        """The tests of a call, and its answer where they hold: the first one counts."""
         found = [(tests, "does nothing") for name in names for tests in self.ignored.get(name, [])]
         found += [(tests, "EPERM") for name in names for tests in self.refused.get(name, [])]
-        if architecture == "i386" and "socketcall" in names and self.refused.get("socket"):
-            found.append(([Test("0=1")], "EPERM"))
+        if architecture == "i386" and "socketcall" in names:
+            found += [([Test(test)], "EPERM") for name, test in SOCKETCALL.items() if name in self.refused]
         return found
 
     def answer(self, names, architecture, arguments):
@@ -205,6 +207,8 @@ TRIED = {
     "bpf": ({"x86_64": 321, "aarch64": 280}, (0, 0, 0), errno.EPERM),
     "io_uring_setup": ({"x86_64": 425, "aarch64": 425}, (0, 0), errno.EPERM),
     "socket of AF_VSOCK": ({"x86_64": 41, "aarch64": 198}, (40, 1, 0), errno.EPERM),
+    "pair of AF_VSOCK": ({"x86_64": 53, "aarch64": 199}, (40, 1, 0, 0), errno.EPERM),
+    "pair of AF_UNIX, to nowhere": ({"x86_64": 53, "aarch64": 199}, (1, 1, 0, 0), 0),
     "socket of AF_UNIX": ({"x86_64": 41, "aarch64": 198}, (1, 1, 0), 0),
     "a lease": ({"x86_64": 72, "aarch64": 25}, (0, 1024, 2), errno.EPERM),
     "a lease, with higher bits": ({"x86_64": 72, "aarch64": 25}, (0, 2**32 | 1024, 2), errno.EPERM),

@@ -16,6 +16,7 @@ import concurrent.futures
 import contextlib
 import os
 import shutil
+import signal
 import subprocess
 import sys
 import tempfile
@@ -179,6 +180,9 @@ def main():
     parser.add_argument("--slots", type=int, default=6, metavar="N")
     parser.add_argument("--slow", type=float, default=1.0, metavar="FACTOR")
     options = parser.parse_args()
+    # What is ignored here, as behind `&` in a script, would be ignored by programs that no launcher starts.
+    for each in (signal.SIGHUP, signal.SIGINT, signal.SIGQUIT, signal.SIGTERM):
+        signal.signal(each, signal.SIG_DFL)
     report, folder = Report(options.slow), tempfile.mkdtemp(prefix="launchers-words-")
     os.chmod(folder, 0o755)
     try:

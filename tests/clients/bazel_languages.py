@@ -15,17 +15,15 @@ of two nodes that is made for it (--slurm; slurm_cluster.py says what that needs
 """
 
 import argparse
-import contextlib
 import os
 import shutil
 import subprocess
 import tempfile
 import time
 
-import launchers_sandbox
+import ways
 from bazel import STUBS, Bazel, Counts, contents, make_files, overrides
 from server import Server
-from slurm_cluster import Cluster, launcher
 
 RULES = """
 cc_library(name = "sum", srcs = ["sum.cc"], hdrs = ["sum.h"])
@@ -168,35 +166,18 @@ def build_all(folder, options, started_by):
         expect(not server.said(), f"on standard error: {server.said()[:10]}")
 
 
-@contextlib.contextmanager
-def started_by(options, folder):
-    """The launcher, in a cluster that is there meanwhile where it is asked for."""
-    sandbox = None
-    if options.sandbox or options.slurm_sandbox:
-        place = tempfile.mkdtemp(dir=folder)
-        sandbox = launchers_sandbox.sandbox(place)
-    if options.slurm or options.slurm_sandbox:
-        with Cluster(tempfile.mkdtemp(dir=folder)) as cluster:
-            yield launcher(cluster, cluster.folder, sandbox or "")
-    else:
-        yield options.launcher or sandbox
-
-
 def main():
     parser = argparse.ArgumentParser(description=__doc__, formatter_class=argparse.RawDescriptionHelpFormatter)
     parser.add_argument("program")
-    way = parser.add_mutually_exclusive_group()
-    way.add_argument("--launcher")
-    for name in ["--sandbox", "--slurm", "--slurm-sandbox"]:
-        way.add_argument(name, action="store_true")
+    ways.add_ways(parser)
     parser.add_argument("--jobs", type=int, default=8)
     parser.add_argument("--seconds", type=int, default=600)
     parser.add_argument("--keep", action="store_true")
     options = parser.parse_args()
     folder = tempfile.mkdtemp(prefix="bazel-languages-")
     try:
-        with started_by(options, folder) as way:
-            build_all(folder, options, way)
+        with ways.made(options, folder) as way:
+            build_all(folder, options, way.launcher)
     except subprocess.TimeoutExpired:
         raise SystemExit(f"FAULT it takes longer than {options.seconds} seconds")
     finally:

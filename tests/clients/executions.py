@@ -1,13 +1,14 @@
 #!/usr/bin/env python3
-"""executions.py PROGRAM [--large] [--launcher L] [--only NAME ..] [--skip NAME ..]: has a server run actions, and looks
-at each answer.
+"""executions.py PROGRAM [--launcher L | --sandbox | --slurm | --slurm-sandbox] [--large] [--only NAME ..]
+[--skip NAME ..]: has a server run actions, and looks at each answer.
 
 PROGRAM is the built `remoted`. A server with some instances runs small shell scripts, whose input trees, outputs,
 streams, codes, timeouts and leftovers are looked at one after another, a line for each thing: `ok`, or `FAULT` with
 what was found. In the end no process, no folder and no descriptor may be left. --large has outputs of 1,073,741,824
-bytes gathered, which takes as much memory. With --launcher programs are started by L, and what looks at the host from
-within a program is left out. Run as root it starts a second server as a plain user. It ends with status
-1 where there was a fault.
+bytes gathered, which takes as much memory. Programs are started by the launcher L, by `launchers/sandbox` (--sandbox),
+on a cluster that is made for it (--slurm; slurm_cluster.py says what that needs), or there in a sandbox
+(--slurm-sandbox); then what looks at the host from within a program is left out. Run as root it starts a second server
+as a plain user. It ends with status 1 where there was a fault.
 """
 
 import argparse
@@ -21,6 +22,7 @@ import time
 import execution_ends as ends
 import execution_inputs as inputs
 import programs
+import ways
 from executing import Peer
 from execution_context import Context, expect, shell
 from server import Server
@@ -200,7 +202,7 @@ def main():
     parser = argparse.ArgumentParser(description=__doc__, formatter_class=argparse.RawDescriptionHelpFormatter)
     parser.add_argument("program")
     parser.add_argument("--large", action="store_true")
-    parser.add_argument("--launcher")
+    ways.add_ways(parser)
     parser.add_argument("--only", nargs="*", default=[])
     parser.add_argument("--skip", nargs="*", default=[])
     options = parser.parse_args()
@@ -209,7 +211,14 @@ def main():
         parts.append(as_nobody)
     if is_wanted("turns_end", options):
         parts.append(turns_end)
-    faults = sum(part(options.program, options) for part in parts)
+    folder = tempfile.mkdtemp(prefix="executions-way-")
+    os.chmod(folder, 0o755)
+    try:
+        with ways.made(options, folder) as way:
+            options.launcher = way.launcher
+            faults = sum(part(options.program, options) for part in parts)
+    finally:
+        shutil.rmtree(folder, ignore_errors=True)
     print(f"{faults} faults" if faults else "no fault")
     sys.exit(faults > 0)
 

@@ -1,11 +1,17 @@
 #!/usr/bin/env python3
-"""hostile_actions.py PROGRAM [--case NAME ..] [--slow FACTOR] [--seconds N]: actions that mean harm, beside a team.
+"""hostile_actions.py PROGRAM [--launcher L | --sandbox | --slurm | --slurm-sandbox] [--case NAME ..] [--user WHO]
+[--slow FACTOR] [--seconds N]: actions that mean harm, beside a team.
 
 PROGRAM is the built `remoted`. Each case is a server of two instances. `red` has actions executed that try to read,
 stop or remove what is not theirs, or a start finds what it should not take; `blue` calls GetCapabilities and
 FindMissingBlobs all the while, and has actions executed: its answers have to be right each time, and no call of it may
 wait longer than 250 ms. As root, each case is tried once with a server of root and once with one of a plain user; else
 with one of this user. What cannot be tried is skipped, and the line says why.
+
+Programs are started by the server itself; by the launcher L; by `launchers/sandbox` (--sandbox); on a cluster that is
+made for it (--slurm; slurm_cluster.py says what that needs); or there in a sandbox (--slurm-sandbox). Where programs see
+nothing of the host but their folder, what an action tries does not reach the host: that is looked at then. What any
+launcher has started has to end with its run, or with its server.
 
 A line for each: `ok` with what holds and how long blue's slowest call waited, or `FAILED` with what was found. It ends
 with `N passed, M failed`, and with status 1 where one failed. --case runs those named alone, --list lists them, --user
@@ -27,6 +33,7 @@ import time
 import hostile_folders as folders
 import hostile_programs as host_programs
 import hostile_starts as starts
+import ways
 from teams import PYTHON, Skipped, Stage, copied
 
 # How long a case may take, but for what --seconds and --slow add.
@@ -93,8 +100,13 @@ def ring(*_):
     raise Late
 
 
-def plain_user():
-    """A number of a user who has no process and no name: limits of processes are then the servers' own."""
+def plain_user(options):
+    """A number of a user who has no process and no name: limits of processes are then the servers' own.
+
+    Slurm runs nothing for one who has no name: there it is `nobody`.
+    """
+    if options.slurm or options.slurm_sandbox:
+        return pwd.getpwnam("nobody").pw_uid
     taken = {each.pw_uid for each in pwd.getpwall()}
     for name in filter(str.isdigit, os.listdir("/proc")):
         with contextlib.suppress(OSError):
@@ -102,9 +114,9 @@ def plain_user():
     return next(number for number in range(61_000 + os.getpid() % 2_000, 65_000) if number not in taken)
 
 
-def tried(case, program, user, options):
+def tried(case, program, user, way, options):
     """Whether a case holds; none where it cannot be tried."""
-    stage = Stage(program, user, options.slow, options.seconds)
+    stage = Stage(program, user, options.slow, options.seconds, way)
     who = "plain user" if user is not None else "root" if os.geteuid() == 0 else "this user"
     begun = time.monotonic()
     signal.setitimer(signal.ITIMER_REAL, (MOST_SECONDS + 2 * options.seconds) * options.slow)
@@ -132,6 +144,7 @@ def main():
     parser.add_argument("--slow", type=float, default=1.0, metavar="FACTOR")
     parser.add_argument("--seconds", type=float, default=60.0, metavar="N")
     parser.add_argument("--user", choices=["root", "plain", "both"], default="both")
+    ways.add_ways(parser)
     options = parser.parse_args()
     if options.list:
         for case in CASES:
@@ -140,14 +153,15 @@ def main():
     if not os.access(PYTHON, os.X_OK):
         sys.exit(f"it needs {PYTHON}")
     signal.signal(signal.SIGALRM, ring)
-    users = {"root": [None], "plain": [plain_user()], "both": [None, plain_user()]}[options.user]
+    users = {"root": [None], "plain": [plain_user(options)], "both": [None, plain_user(options)]}[options.user]
     users = users if os.geteuid() == 0 else [None]
     folder = tempfile.mkdtemp(prefix="hostile-actions-program-")
     os.chmod(folder, 0o755)
     try:
         program = copied(options.program, folder)
         cases = [case for case in CASES if not options.case or case.__name__ in options.case]
-        found = [tried(case, program, user, options) for case in cases for user in users]
+        with ways.made(options, folder) as way:
+            found = [tried(case, program, user, way, options) for case in cases for user in users]
     finally:
         shutil.rmtree(folder)
     passed, failed = found.count(True), found.count(False)

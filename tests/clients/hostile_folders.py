@@ -167,7 +167,7 @@ def links_of_a_program(stage):
         trees = {path: red.tree(each) for path, each in result.trees.items()}
         expect(result.files, {}, "output files")
         expect(trees, {"o": {"own": (m.digest(b"abc"), False)}}, "output directories")
-        stage.nothing_left(server, is_kept=lambda name: name == other)
+        stage.nothing_left(server, is_kept=lambda name: name.partition(".")[0] == other)
     expect(listed(path), before, "what the links led to")
     return "what they lead to is no output, and stays as it is"
 
@@ -181,7 +181,12 @@ def root_replaced(stage):
             script = f'R=$PWD; cd /; {command}; ln -s {path} "$R"'
             done = red.execute(stage.action(script, files=["file", "inner/file"], directories=["inner"]))
             found = done.result and (done.result.files, done.result.trees)
-            expect(found in (None, ({}, {})), True, f"outputs {found}")
+            if stage.way.is_apart:
+                # Its folder cannot be another one: what was made there for its outputs is there, and is empty.
+                expect((found[0], texts(red, done.result)), ({}, set()), "outputs")
+                stage.nothing_left(server)
+            else:
+                expect(found in (None, ({}, {})), True, f"outputs {found}")
         stage.runs(red, "printf abc > out", files=["out"])
         stage.nothing_left(server, is_kept=lambda name: name.endswith("-aside"))
     expect(listed(path), before, "what the link led to")
@@ -192,7 +197,10 @@ def root_replaced(stage):
 
 
 def race(stage, commands, rest, outputs, right, seconds, is_kept=lambda name: False):
-    """Has actions leave daemons that exchange things while outputs are gathered, whose texts are known, and removed."""
+    """Has actions leave daemons that exchange things while outputs are gathered, whose texts are known, and removed.
+
+    With a launcher they end before that: then each run has a result, and nothing goes on behind it.
+    """
     words = ["/bin/sh", "-c", f'{commands}; exec {PYTHON} -c "$1" 1.5 {rest}', "sh", EXCHANGING]
     end, results, failed = time.monotonic() + seconds, 0, 0
     with stage.serve() as (server, red):
@@ -205,6 +213,10 @@ def race(stage, commands, rest, outputs, right, seconds, is_kept=lambda name: Fa
                 expect(done.result.code, 0, f"exit code: {red.stream_text(done.result.stderr)}")
                 expect(texts(red, done.result) - set(right), set(), "what outputs are that nobody wrote there")
                 results += 1
+            if stage.way.launcher:
+                stage.nothing_goes_on()
+        if stage.way.launcher:
+            expect(failed, 0, "runs that failed, as something went on")
         stage.end_programs()
         took = stage.blue_runs(server)
         stage.nothing_left(server, 60, is_kept)
@@ -244,6 +256,8 @@ def devices_exchanged(stage):
     if os.geteuid() or stage.user is not None:
         raise Skipped("only root can make devices")
     commands = "mkdir o; printf abc > o/a; printf abc > o/b; mknod z c 1 5; mknod t c 1 9; mkfifo f"
+    if stage.way.is_apart:
+        commands += "; [ ! -e z ] && [ ! -e t ] || exit 9"
     outputs = {"files": ["o/a", "o/b"], "directories": ["o"]}
     return race(stage, commands, "o/a z o/b f", outputs, [b"abc"], stage.seconds / 3)
 
@@ -266,7 +280,7 @@ def removal_exchanged(stage):
 
 def leased(stage):
     """Daemons hold leases on outputs, which keep whoever opens those waiting, where the system has leases."""
-    waiting = 13 if has_leases() else 0
+    waiting = 13 if has_leases() and not stage.way.launcher else 0
     with stage.serve(slots=(8, 2)) as (server, red):
         expect(server.said(), [], "what is said at the start")
         for kind, code in [("F_WRLCK", waiting), ("F_RDLCK", 0)]:
@@ -277,6 +291,8 @@ def leased(stage):
         stage.end_programs()
         stage.blue_runs(server)
         stage.nothing_left(server)
+    if stage.way.launcher:
+        return "they end before the outputs are opened, and nobody waits"
     return "a run whose output has a write lease fails, and nobody waits" if waiting else "the system has no leases"
 
 
@@ -289,8 +305,14 @@ def starved(stage):
         stage.blue_runs(server)
         codes = {red.operations(number)[-1].status.code for number in numbers}
         expect(codes <= {0, 13}, True, f"statuses {codes}")
+        if stage.way.is_apart:
+            policies = {os.sched_getscheduler(each) for each in programs.shells(stage.folder, server.process.pid)}
+            expect(policies, {os.SCHED_OTHER}, "how the server's shells are scheduled")
+            stage.nothing_goes_on()
         stage.end_programs()
         stage.blue_runs(server)
+    if stage.way.is_apart:
+        return "no shell of the server's is reached, and nobody waits"
     return "a run whose output cannot be opened fails, and nobody else waits"
 
 
@@ -329,7 +351,8 @@ def held_up(stage):
                     expect(sorted(done.result.files), ["a", "b"], "output files")
             stage.blue_runs(server, 60)
         stage.end_programs()
-        expect(red.operations(busy)[-1].result.code == 0, False, "the programs that were killed have ended well")
+        done = red.operations(busy)[-1]
+        expect(bool(done.result) and done.result.code == 0, False, "the programs that were killed have ended well")
         stage.nothing_left(server)
     return "no run fails for it"
 
@@ -478,7 +501,7 @@ def files_of_pieces(stage):
         stage.waits(lambda: not of_blue(), 5, "blue's folders are gone")
         for _ in range(70):
             stage.runs(red, "true")
-        at = len(server.entries())
+        at = len({name.partition(".")[0] for name in server.entries()})
         expect(at < 2 * 70, True, f"{at} folders wait")
         stage.nothing_left(server, 200)
         removed = time.monotonic() - begun
@@ -611,6 +634,8 @@ def names_of_removal(stage):
         for _ in range(2):
             stage.runs(red, inside)
         stage.nothing_left(server, 60)
+        if stage.way.is_apart:
+            return made_beside(stage, server, red, beside)
         for _ in range(2):
             # the names of the run that follows are taken then
             stage.runs(red, beside)
@@ -626,11 +651,22 @@ def names_of_removal(stage):
     return f"no folder is kept by what is in it; what was made beside ({count} things) goes with the next start"
 
 
+def made_beside(stage, server, red, beside):
+    """What programs that are apart would make beside their folders is not made."""
+    for _ in range(2):
+        done = red.execute(stage.action(beside))
+        expect(bool(done.result) and done.result.code != 0, True, "the program is told that it cannot be made")
+        stage.nothing_left(server, 60)
+        stage.runs(red, "true")
+    stage.blue_runs(server)
+    return "no folder is kept by what is in it, and nothing can be made beside"
+
+
 def not_removable(stage):
     """Something in a folder cannot be removed."""
     with stage.serve() as (server, red):
-        path = os.path.join(stage.folder, "told")
-        number = red.start(stage.action(f"mkdir d; : > d/f; until [ -e {path} ]; do sleep 0.05; done; printf abc"))
+        number = red.start(stage.action("mkdir d; : > d/f; until [ -e told ]; do sleep 0.05; done; printf abc"))
+        path = os.path.join(server.start(), "0-1", "told")
         stage.waits(lambda: os.path.exists(os.path.join(server.start(), "0-1", "d", "f")), 20, "a folder")
         inner = os.path.join(server.start(), "0-1", "d")
         if stage.user is None:

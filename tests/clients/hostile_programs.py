@@ -13,12 +13,13 @@ import time
 import messages as m
 import programs
 from execution_context import expect
+from executing import Link
 from hostile_folders import python
 from server import has_leases
 from teams import Skipped
 
 # The line of a run that failed, or one of another kind, as for lines that were dropped. None is within another one.
-LINE = re.compile(rb"remoted: (run red [1-9]\d* failed: start|(?!run ))((?!remoted: ).)*")
+LINE = re.compile(rb"remoted: (run red [1-9]\d* failed: folder|(?!run ))((?!remoted: ).)*")
 SMALLEST_PIPE = 4096
 MOST_PROCESSES = 60
 
@@ -50,6 +51,12 @@ for name in os.listdir("/proc"):
 # Standard error.
 
 
+def fails(stage, peer):
+    """A run that fails, however programs are started: a link of its tree stands above its output."""
+    done = peer.execute(stage.action(["/bin/true"], tree={"d": Link("..")}, files=["d/x"]))
+    expect((done.status.code, done.status.text), (13, "run failed"), "a run that fails")
+
+
 def lines_unread(stage):
     """Standard error is a pipe that nobody reads, while runs fail again and again."""
     reader, writer = os.pipe()
@@ -59,15 +66,14 @@ def lines_unread(stage):
             # ten lines a second are told, so the pipe is full after some seconds
             runs, end = 0, time.monotonic() + 15
             while time.monotonic() < end:
-                done = red.execute(stage.action(["/no/such"]))
-                expect((done.status.code, done.status.text), (13, "run failed"), "a run that fails")
+                fails(stage, red)
                 runs += 1
                 time.sleep(0.02)
             stage.blue_runs(server)
             first = os.read(reader, SMALLEST_PIPE)
             expect(len(first) > SMALLEST_PIPE / 2, True, f"{len(first)} bytes were told")
             for _ in range(10):
-                red.execute(stage.action(["/no/such"]))
+                fails(stage, red)
             pipe.close()
         whole = (first + told.read()).splitlines()
     expect([line for line in whole if not LINE.fullmatch(line)], [], "lines that are not whole")
@@ -82,8 +88,7 @@ def lines_unheard(stage):
             os.close(reader)
             server.process.stdout.close()
             for _ in range(20):
-                done = red.execute(stage.action(["/no/such"]))
-                expect((done.status.code, done.status.text), (13, "run failed"), "a run that fails")
+                fails(stage, red)
             stage.runs(red, "printf abc")
             stage.blue_runs(server)
     return "the server goes on"
@@ -99,8 +104,7 @@ def lines_unheard_from_the_start(stage):
     os.close(reader)
     with open(writer, "wb") as pipe, stage.serve(heard=False, stderr=pipe) as (server, red):
         for _ in range(20):
-            done = red.execute(stage.action(["/no/such"]))
-            expect((done.status.code, done.status.text), (13, "run failed"), "a run that fails")
+            fails(stage, red)
         stage.runs(red, "printf abc")
         stage.blue_runs(server)
     return "the server begins, and goes on"
@@ -139,7 +143,7 @@ def helper_killed(stage):
         killed, end = 0, time.monotonic() + 6
         number = red.start(stage.action("sleep 600 & (trap '' TERM; sleep 600) & sleep 5", seconds=60))
         while time.monotonic() < end:
-            for helper in programs.helpers(stage.folder, server.process.pid):
+            for helper in programs.shells(stage.folder, server.process.pid):
                 with contextlib.suppress(ProcessLookupError):
                     os.kill(helper, signal.SIGKILL)
                     killed += 1
@@ -177,12 +181,15 @@ def number_taken(stage):
     with stage.serve() as (server, red):
         stage.runs(red, "true")
         helper = stage.helper(server, programs.ENDS_SESSIONS)
-        path = os.path.join(stage.make("told"), "number")
-        told = lambda: os.path.exists(path) and open(path).read().endswith("\n")
+        before = set(programs.children([server.process.pid]))
         os.kill(helper, signal.SIGSTOP)
-        run = red.start(stage.action(f"echo $$ > {path}"))
-        stage.waits(told, 20, "red's action runs")
-        number = int(open(path).read())
+        run = red.start(stage.action("until [ -e told ]; do sleep 0.05; done"))
+        path = os.path.join(server.start(), "0-2")
+        begun = lambda: set(programs.children([server.process.pid])) - before
+        stage.waits(lambda: begun() and "sleep 0.05" in str(programs.running(stage.folder)), 20, "red's action runs")
+        number = min(begun())
+        with open(os.path.join(path, "told"), "w"):
+            pass
         stage.waits(lambda: not os.path.exists(f"/proc/{number}"), 20, "red's action is waited for")
         time.sleep(0.05)
         with of_number(stage, number) as other:
@@ -283,10 +290,18 @@ def bomb(stage, script, seconds):
     """A fork bomb as the first action of a server that may have some processes alone."""
     if stage.user is None:
         raise Skipped("a limit of processes does not bind root; it is tried with a server of a plain user")
-    limit = lambda: resource.setrlimit(resource.RLIMIT_NPROC, (MOST_PROCESSES, MOST_PROCESSES))
-    with stage.serve(slots=(1, 2), preexec_fn=limit) as (server, red):
+    limit, words, helper = {}, python(script, seconds), None
+    if stage.way.launcher:
+        # What a launcher gives a program is more than this host has room for, and Slurm needs processes itself.
+        words = ["/bin/sh", "-c", f'ulimit -u {MOST_PROCESSES} || ulimit -p {MOST_PROCESSES}; exec "$@"', "sh", *words]
+    else:
+        limit["preexec_fn"] = lambda: resource.setrlimit(resource.RLIMIT_NPROC, (MOST_PROCESSES, MOST_PROCESSES))
+    with stage.serve(slots=(1, 2), **limit) as (server, red):
+        if stage.way.launcher:
+            stage.runs(red, "true")
+            helper = stage.helper(server, programs.ENDS_SESSIONS)
         begun = time.monotonic()
-        number = red.start(stage.action(python(script, seconds), seconds=3))
+        number = red.start(stage.action(words, seconds=3))
         running = lambda: programs.running(stage.folder, server.process.pid)
         stage.waits(lambda: len(running()) > MOST_PROCESSES / 2, 20, "the bomb goes off")
         done = red.operations(number)[-1]
@@ -296,6 +311,8 @@ def bomb(stage, script, seconds):
         # what has ended counts for the limit until the host has waited for it
         stage.waits(lambda: processes_of(stage.user) < MOST_PROCESSES / 2, 60, "the bomb's processes are waited for")
         took = stage.blue_runs(server)
+        if helper:
+            expect(stage.helper(server, programs.ENDS_SESSIONS), helper, "the number of what ends sessions")
         stage.runs(red, "sleep 600 & printf abc")
         stage.nothing_left(server)
     return over, took
@@ -326,7 +343,10 @@ def long_path(stage):
             stage.blue_runs(server)
             for number in numbers:
                 done = red.operations(number)[-1]
-                expect((done.status.code, done.status.text), (13, "run failed"), "no program along the path")
+                found = done.status.code, done.status.text, done.result and done.result.code
+                # A launcher looks programs up itself, and has a code for one that is not there.
+                wanted = (0, "", 127) if stage.way.launcher else (13, "run failed", None)
+                expect(found, wanted, "no program along the path")
         for variables in [path(2_000_000), [(f"V{n}", "x" * 100_000) for n in range(100)]]:
             stage.fails(server, red, "start", ["/bin/true"], variables=variables)
         stage.fails(server, red, "start", ["/bin/echo", *("w" * 120_000 for _ in range(100))])

@@ -124,7 +124,13 @@ def odd_numbers(stage):
     script = """for n in 18446744073709551615 18446744073709551614 99999999999999999999 9223372036854775807; do
         mkdir -p ../../start-$n/x; done; : > ../../start-12; ln -s /nowhere ../../start-13"""
     with stage.serve() as (server, red):
-        stage.runs(red, script)
+        if stage.way.is_apart:
+            done = red.execute(stage.action(script))
+            expect(bool(done.result) and done.result.code != 0, True, "the program is told that they cannot be made")
+            start = os.path.basename(server.start())
+            expect(sorted(os.listdir(stage.work)), ["remoted.lock", start], "what is in the folder")
+        else:
+            stage.runs(red, script)
     with stage.serve() as (server, red):
         stage.runs(red, "printf abc > out", files=["out"])
         stage.blue_runs(server)
@@ -188,10 +194,12 @@ def full_at_its_end(stage):
     how = f"size=1m,mode=755,uid={user},gid={group}"
     if subprocess.run(["mount", "-t", "tmpfs", "-o", how, "none", stage.work], capture_output=True).returncode:
         raise Skipped("no disk can be mounted here")
+    # What has no room is what the program prints, or with which code it ended, which a launcher writes.
+    word = "launcher" if stage.way.launcher else "start"
     try:
         with stage.serve() as (server, red):
             for given in [{"files": ["out"]}, {}]:
-                stage.fails(server, red, "start", "head -c 3000000 /dev/zero >out; echo abc; exit 0", **given)
+                stage.fails(server, red, word, "head -c 3000000 /dev/zero >out; echo abc; exit 0", **given)
                 stage.waits(lambda: not server.entries(), 20, "the folder is gone")
             stage.runs(red, "printf abc > out", files=["out"])
             stage.blue_runs(server)
@@ -264,6 +272,9 @@ def no_sessions(stage):
     stage.program = program
     with stage.serve() as (server, red):
         stage.waits(lambda: any("setsid" in line for line in server.said()), 5, f"a line that says so: {server.said()}")
+        if stage.way.launcher:
+            stage.fails(server, red, "launcher", "printf abc > out", files=["out"])
+            return f"the start says `{server.said()[0]}`, and each run fails, as the launcher needs it"
         stage.runs(red, "printf abc > out", files=["out"])
         stage.blue_runs(server)
         return f"the start says `{server.said()[0]}`, and actions run"

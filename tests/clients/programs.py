@@ -95,6 +95,12 @@ def helpers(folder, server, word=""):
     return {each: text for each, text in told.items() if text and word in text and each not in actions}
 
 
+def shells(folder, server):
+    """The shells that a server keeps for its own ends, which are no launchers either."""
+    words = [ENDS_SESSIONS, OPENS_OUTPUTS, REMOVES_FOLDERS]
+    return [each for each, text in helpers(folder, server).items() if any(word in text for word in words)]
+
+
 def children(parents, word=""):
     """The children of processes whose command lines have the word."""
     found = [int(name) for name in os.listdir("/proc") if name.isdigit() and _state(name)[1] in parents]

@@ -17,6 +17,7 @@ import programs
 from execution_context import Fault, expect
 from executing import PATH, Action, Peer
 from server import Server
+from ways import Way
 
 # How long a call of blue's may wait on a quiet machine.
 LONGEST_WAIT = 0.25
@@ -89,10 +90,13 @@ class Neighbour:
 
 
 class Stage:
-    """What a case has: the program, the user of its servers, a folder of its own, and a factor for all times."""
+    """What a case has: the program, the user of its servers, a folder of its own, and a factor for all times.
 
-    def __init__(self, program, user, slow, seconds):
-        self.program, self.user, self.slow, self.seconds = program, user, slow, seconds
+    Where programs are started by a launcher, it is there, too, with what is known of it.
+    """
+
+    def __init__(self, program, user, slow, seconds, way=Way(None, None, False)):
+        self.program, self.user, self.slow, self.seconds, self.way = program, user, slow, seconds, way
         self.folder = tempfile.mkdtemp(prefix="hostile-actions-")
         os.chmod(self.folder, 0o755)
         self.work = self.make("work")
@@ -117,7 +121,8 @@ class Stage:
         """A server with both teams, a connection of red's, and blue's calls beside: all that goes on is looked at."""
         instances = [("red", 2 * 10**8, slots[0]), ("blue", 2 * 10**8, slots[1])]
         more.setdefault("environment", {"SECRET": "of the server"})
-        with Server(self.program, instances, 2**62, folder=self.work, heard=heard, **self.as_user(), **more) as server:
+        more |= {"folder": self.work, "heard": heard, "launcher": self.way.launcher, **self.as_user()}
+        with Server(self.program, instances, 2**62, **more) as server:
             neighbour = server.neighbour = self.neighbour = Neighbour(server.ports[1], self.slow)
             try:
                 with neighbour, Peer(server.ports[0], 60 * self.slow) as red:
@@ -126,6 +131,17 @@ class Stage:
                 self.longest = max(self.longest or 0, neighbour.longest)
             neighbour.check()
             expect(server.is_running() or server in self.stopped, True, "the server is running")
+            if heard:
+                expect([line for line in server.said() if line.startswith("remoted: run blue")], [], "blue's runs")
+        if self.way.launcher:
+            self.nothing_goes_on()
+
+    def nothing_goes_on(self):
+        """What a launcher started ends with its run, or with its server; of a cluster, each job does."""
+        running = lambda: programs.running(self.folder)
+        expect(programs.settled(running, 20 * self.slow), {}, "programs that go on")
+        if self.way.cluster:
+            expect(programs.settled(self.way.cluster.jobs, 20 * self.slow), [], "jobs that go on")
 
     def stop(self, server, number):
         """Ends a server by a signal."""
@@ -233,7 +249,8 @@ class Stage:
 
 def started(stage, *words, turns=2**62, seconds=20, **more):
     """What becomes of `remoted serve` with these words where it has to end by itself: status and standard error."""
-    whole = [stage.program, "serve", "--turns", str(turns), *words]
+    launched = ["--launcher", stage.way.launcher] if stage.way.launcher else []
+    whole = [stage.program, "serve", *launched, "--turns", str(turns), *words]
     process = subprocess.Popen(
         whole, stdout=subprocess.PIPE, stderr=subprocess.PIPE, text=True, **{**stage.as_user(), **more}
     )

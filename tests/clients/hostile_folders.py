@@ -710,6 +710,7 @@ def lock(inner):
 
 
 def unlock(stage, inner):
-    subprocess.run(["chattr", "-i", os.path.join(inner, "f")], capture_output=True)
+    # A start may have moved it.
+    subprocess.run(["chattr", "-R", "-f", "-i", stage.work], capture_output=True)
     if os.path.isdir(inner):
         os.chown(inner, *stage.owner())

@@ -3,8 +3,9 @@
 //! A start has a folder, and in it each run has one, and one aside. A path that is no whole path
 //! goes from the folder of the start on: its first name is that of a run's folder.
 
-ghost use Rattle.std.specs.Prelude.{◌≡◌, IfOk, string_bytes};
-ghost use Rattle.host_files.specs.Folders.{root_name, root_path};
+ghost use Rattle.std.specs.Prelude.{◌≡◌, IfOk, OnOk, string_bytes};
+ghost use Rattle.run_calls.specs.Values.{place_shown};
+ghost use Rattle.host_files.specs.Folders.{below, root_name, root_path, working_path};
 
 use run_calls::{Place, RunKey};
 use std::alloc::{AllocError, Global};
@@ -82,16 +83,13 @@ pub fn file_path(
     Ok(whole)
 }
 
-/// The path of what a run left as a whole path.
-pub fn output_path(
-    alloc: Global,
-    work: &str,
-    place: &Place,
-    path: &str,
-    names: &[String],
-) -> Result<String, AllocError> {
-    let left = left_path(alloc, place, path, names)?;
-    format!(in alloc; "{work}/{left}")
+/// The whole path of the directory in which the program of a run works.
+pub fn working_path(alloc: Global, work: &str, place: &Place) -> Result<String, AllocError>
+    ensures { IfOk result (λ path. string_bytes path ≡ working_path work.now (place_shown place.now)) }
+{
+    let mut path = root_path(alloc, work, place.run)?;
+    add(&mut path, place.directory.as_str())?;
+    Ok(path)
 }
 
 /// The path of what a path leads to is in, and its name there.
@@ -99,7 +97,9 @@ pub fn parted(path: &str) -> (&str, &str) {
     path.rsplit_once('/').unwrap_or(("", path))
 }
 
-fn add(whole: &mut String, path: &str) -> Result<(), AllocError> {
+fn add(whole: &mut String, path: &str) -> Result<(), AllocError>
+    ensures { OnOk result (string_bytes whole.new ≡ below (string_bytes whole.old) path.now) }
+{
     if !path.is_empty() {
         whole.push('/')?;
         whole.push_str(path)?;

@@ -1,1 +1,3 @@
 pub mod Launching
+pub mod Spawning
+pub mod Ways

@@ -6,6 +6,7 @@ use host_shells::SESSION;
 use std::fs;
 use std::io::{self, ErrorKind};
 use std::process::{Command, Stdio};
+use std::rt::Files;
 
 /// A program that every host has.
 const SHELL: &str = "/bin/sh";
@@ -14,7 +15,7 @@ const SHELL: &str = "/bin/sh";
 const LEASES: &str = "/proc/sys/fs/leases-enable";
 
 /// Whether programs can have sessions of their own, by which what they start is ended with them.
-pub fn has_sessions(rt: &HostRuntime) -> bool {
+pub fn has_sessions<R: Files>(rt: &R) -> bool {
     matches!(found_at(rt, SESSION), Ok(Some(_)))
 }
 
@@ -48,16 +49,4 @@ pub fn has_leases(rt: &HostRuntime) -> io::Result<bool> {
         // Where the system does not tell, it has none.
         Err(_) => Ok(false),
     }
-}
-
-/// How many files this process may have open.
-pub fn most_open() -> io::Result<u64> {
-    let mut limit = libc::types::rlimit {
-        rlim_cur: 0,
-        rlim_max: 0,
-    };
-    if libc::getrlimit(libc::RLIMIT_NOFILE, &mut limit) < 0 {
-        return Err(io::Error::from_raw_os_error(os::errno()));
-    }
-    Ok(limit.rlim_cur)
 }

@@ -11,6 +11,7 @@ use std::alloc::{AllocError, Global};
 use std::fs;
 use std::io::{self, ErrorKind};
 use std::process::Command;
+use std::rt::Files;
 
 /// Where a launcher is started: nothing of an action stands there.
 const DIRECTORY: &str = "/";
@@ -35,7 +36,7 @@ impl Launcher {
 
     /// Whether it is still there. Otherwise its absence would show as the code of what is started
     /// first.
-    pub(crate) fn check(&self, rt: &HostRuntime) -> io::Result<()> {
+    pub(crate) fn check<R: Files>(&self, rt: &R) -> io::Result<()> {
         check_program(rt, self.program.as_str())
     }
 
@@ -148,7 +149,7 @@ fn can_be_told(ordered: &Ordered) -> bool {
 }
 
 /// Whether a path is that of a file that may be executed.
-fn check_program(rt: &HostRuntime, path: &str) -> io::Result<()> {
+fn check_program<R: Files>(rt: &R, path: &str) -> io::Result<()> {
     if is_executable(&fs::metadata(rt, path)?) {
         Ok(())
     } else {

@@ -1,10 +1,13 @@
 //! Programs of this host.
 
-ghost use Rattle.std.specs.Prelude.{◌≡◌, ◌≤◌, IfOk, IfSome, length, string_bytes};
+ghost use Rattle.std.specs.Prelude.{◌≡◌, ◌≤◌, [], None, Ok, Some, IfOk, IfSome, find, length, string_bytes};
+ghost use Rattle.run_calls.specs.Calls.{Adds, bytes_of, called, end_asked, forget_asked, kill_asked, killed_of, length_asked, length_of, program_done, read_asked, start_asked, started_of, state_of};
 ghost use Rattle.run_calls.specs.Failures.{Counts};
 ghost use Rattle.run_calls.specs.Values.{IsInRange, command_shown, place_shown};
 ghost use Rattle.host_files.specs.Folders.{root_path};
 ghost use Rattle.host_programs.specs.Launching.{StartsLauncher};
+ghost use Rattle.host_programs.specs.Spawning.{IsAlike, StartsBy, StartsItself};
+ghost use Rattle.host_programs.specs.Ways.{AddsAtMost, AddsNone, KeepsWay, StartsFor, StartsFound, is_of, launcher_of, sought_for, sought_of, sought_shown};
 
 use crate::children::reap;
 use crate::exec_size::check_size;
@@ -12,61 +15,97 @@ use crate::host::has_sessions;
 use crate::launching::Launcher;
 use crate::search::{Search, search_from};
 use crate::sought::Sought;
+use crate::spawner::Spawner;
 use crate::started::{self, Started, StartedAs};
 use crate::starting::{add_variables, bare_command};
-use host_files::{output_path, root_path};
+use crate::way::Way;
+use host_files::{root_path, working_path};
 use host_shells::Sessions;
 use run_calls::{Command as Ordered, Place, Programs, RunKey, Stream};
+use std::fs::File;
 use std::io::{self, ErrorKind};
 use std::process::{Child, Command};
+use std::rt::{Clock, Files};
 use std::time::Instant;
 
-/// The programs of runs, one for each.
+/// The program of a run, among those that were started.
+fn program_of(started: &mut [Started], run: RunKey) -> io::Result<&mut Started> {
+    let place = started.iter().position(|each| each.is_of(run));
+    let found = match place {
+        Some(at) => started.get_mut(at),
+        None => None,
+    };
+    match found {
+        Some(started) => Ok(started),
+        None => Err(io::Error::from(ErrorKind::NotFound)),
+    }
+}
+
+/// Lets go of programs that have ended since, and sees to the shell.
+fn refresh<R: Clock>(
+    rt: &R,
+    has_sessions: bool,
+    sessions: &mut Sessions<'_>,
+    left: &mut Vec<Child>,
+) -> io::Result<()> {
+    reap(left);
+    if has_sessions {
+        sessions.keep(Instant::now(rt)?)?;
+    }
+    Ok(())
+}
+
+/// Makes room for a program, and for it once it is forgotten.
+fn make_room(started: &mut Vec<Started>, left: &mut Vec<Child>) -> io::Result<()> {
+    started.reserve(1)?;
+    left.reserve(started.len().saturating_add(1))?;
+    Ok(())
+}
+
+/// Counts a call that failed.
+fn count<T>(faults: &mut u64, answer: &io::Result<T>)
+    ensures { Counts answer.now faults.old faults.new }
+{
+    if answer.is_err() {
+        *faults = faults.saturating_add(1);
+    }
+}
+
+/// The programs of runs, one for each. Nothing here can start any but the spawner.
 #[derive(Drop)]
-struct Table<'a> {
-    rt: &'a HostRuntime,
+struct Table<'a, R, S> {
+    rt: &'a R,
+    spawner: S,
     work: String,
     has_sessions: bool,
-    /// What starts programs, where they are not started as they are.
-    launcher: Option<Launcher>,
+    way: Way,
     sessions: Sessions<'a>,
-    sought: Vec<Sought>,
     started: Vec<Started>,
     /// Those of which nothing but their end is awaited.
     left: Vec<Child>,
 }
 
-impl<'a> Table<'a> {
-    fn at(&mut self, run: RunKey) -> io::Result<&mut Started> {
-        let place = self.started.iter().position(|started| started.is_of(run));
-        let found = match place {
-            Some(at) => self.started.get_mut(at),
-            None => None,
-        };
-        match found {
-            Some(started) => Ok(started),
-            None => Err(io::Error::from(ErrorKind::NotFound)),
-        }
-    }
-
-    /// Lets go of programs that have ended since, and sees to the shell.
-    fn refresh(&mut self) -> io::Result<()> {
-        reap(&mut self.left);
-        if self.has_sessions {
-            self.sessions.keep(Instant::now(self.rt)?)?;
-        }
-        Ok(())
-    }
-
-    fn start(&mut self, place: &Place, ordered: &Ordered) -> io::Result<()> {
+impl<'a, R: Clock + Files<File = File> + AllocGlobal, S: Spawner> Table<'a, R, S> {
+    fn start(&mut self, place: &Place, ordered: &Ordered) -> io::Result<()>
+        ensures starts { StartsFor self.old (place_shown place.now) (command_shown ordered.now)
+            result (S.started self.old.spawner) (S.started self.new.spawner) }
+        ensures sought { AddsAtMost (sought_for self.old (place_shown place.now)
+            (command_shown ordered.now)) self.old.way self.new.way }
+        ensures same { KeepsWay self.old self.new }
+    {
         check_size(ordered)?;
-        self.refresh()?;
-        match &self.launcher {
-            Some(launcher) => {
+        refresh(
+            self.rt,
+            self.has_sessions,
+            &mut self.sessions,
+            &mut self.left,
+        )?;
+        match &self.way {
+            Way::By(launcher) => {
                 let mut command = self.told(launcher, place, ordered)?;
                 self.launch(place.run, StartedAs::Launcher, &mut command)
             }
-            None => self.seek(place, ordered),
+            Way::AsTheyAre(_) => self.seek(place, ordered),
         }
     }
 
@@ -85,22 +124,36 @@ impl<'a> Table<'a> {
 
     /// Looks for a program, and starts it where it is found at once. Otherwise its absence would
     /// show as the code of what is started first.
-    fn seek(&mut self, place: &Place, ordered: &Ordered) -> io::Result<()> {
+    fn seek(&mut self, place: &Place, ordered: &Ordered) -> io::Result<()>
+        requires { launcher_of self.old.way ≡ None }
+        ensures starts { StartsFound self.old (Some (sought_for self.old (place_shown place.now)
+            (command_shown ordered.now))) (S.started self.old.spawner)
+            (S.started self.new.spawner) }
+        ensures sought { AddsAtMost (sought_for self.old (place_shown place.now)
+            (command_shown ordered.now)) self.old.way self.new.way }
+        ensures same { KeepsWay self.old self.new }
+    {
         let alloc = self.rt.alloc();
-        let directory = output_path(alloc, self.work.as_str(), place, "", &[])?;
+        let directory = working_path(alloc, self.work.as_str(), place)?;
         match search_from(self.rt, directory.as_str(), ordered, 0)? {
             Search::Found => self.start_found(place.run, directory.as_str(), ordered),
             Search::Missing => Err(io::Error::from(ErrorKind::NotFound)),
             Search::GoesOn(from) => {
                 let sought = Sought::new(alloc, place.run, ordered, directory, from)?;
-                self.sought.push(sought)?;
+                self.way.add(sought)?;
                 Ok(())
             }
         }
     }
 
     /// Starts a program that was found.
-    fn start_found(&mut self, run: RunKey, directory: &str, ordered: &Ordered) -> io::Result<()> {
+    fn start_found(&mut self, run: RunKey, directory: &str, ordered: &Ordered) -> io::Result<()>
+        ensures starts { StartsBy (StartsItself self.old.has_sessions directory.now
+            (command_shown ordered.now)) result (S.started self.old.spawner)
+            (S.started self.new.spawner) }
+        ensures way { self.new.way ≡ self.old.way }
+        ensures same { KeepsWay self.old self.new }
+    {
         let words = &ordered.arguments;
         let mut command = bare_command(self.rt.alloc(), self.has_sessions, words, directory)?;
         add_variables(&mut command, &ordered.variables)?;
@@ -113,32 +166,33 @@ impl<'a> Table<'a> {
         run: RunKey,
         started_as: StartedAs,
         command: &mut Command,
-    ) -> io::Result<()> {
-        self.make_room()?;
-        let started = started::start(self.rt, self.work.as_str(), run, started_as, command)?;
+    ) -> io::Result<()>
+        ensures starts { StartsBy (IsAlike command.old) result (S.started self.old.spawner)
+            (S.started self.new.spawner) }
+        ensures way { self.new.way ≡ self.old.way }
+        ensures same { KeepsWay self.old self.new }
+    {
+        make_room(&mut self.started, &mut self.left)?;
+        let started = started::start(
+            self.rt,
+            self.work.as_str(),
+            run,
+            started_as,
+            &mut self.spawner,
+            command,
+        )?;
         self.started.push(started)?;
         Ok(())
     }
 
-    /// Makes room for a program, and for it once it is forgotten.
-    fn make_room(&mut self) -> io::Result<()> {
-        self.started.reserve(1)?;
-        self.left.reserve(self.started.len().saturating_add(1))?;
-        Ok(())
-    }
-
-    /// Takes out a program that is still looked for.
-    fn take_sought(&mut self, run: RunKey) -> Option<Sought> {
-        let at = self.sought.iter().position(|sought| sought.is_of(run))?;
-        if at < self.sought.len() {
-            Some(self.sought.swap_remove(at))
-        } else {
-            None
-        }
-    }
-
     /// Goes on looking for a program, and starts it where it is found.
-    fn go_on(&mut self, sought: Sought) -> io::Result<()> {
+    fn go_on(&mut self, sought: Sought) -> io::Result<()>
+        requires { launcher_of self.old.way ≡ None }
+        ensures starts { StartsFound self.old (Some (sought_shown sought))
+            (S.started self.old.spawner) (S.started self.new.spawner) }
+        ensures sought { AddsAtMost (sought_shown sought) self.old.way self.new.way }
+        ensures same { KeepsWay self.old self.new }
+    {
         let mut sought = sought;
         match sought.go_on(self.rt)? {
             Search::Found => {
@@ -146,28 +200,48 @@ impl<'a> Table<'a> {
             }
             Search::Missing => Err(io::Error::from(ErrorKind::NotFound)),
             Search::GoesOn(_) => {
-                self.sought.push(sought)?;
+                self.way.add(sought)?;
                 Ok(())
             }
         }
     }
 
     fn ask(&mut self, run: RunKey) -> io::Result<Option<i32>>
-        ensures { IfOk result (λ state. IfSome state IsInRange) }
+        ensures range { IfOk result (λ state. IfSome state IsInRange) }
+        ensures starts { StartsFound self.old (find (is_of run) (sought_of self.old.way))
+            (S.started self.old.spawner) (S.started self.new.spawner) }
+        ensures none { find (is_of run) (sought_of self.old.way) ≡ None
+            → self.new.spawner ≡ self.old.spawner }
+        ensures sought { AddsNone self.old.way self.new.way }
+        ensures same { KeepsWay self.old self.new }
     {
-        self.refresh()?;
-        match self.take_sought(run) {
+        refresh(
+            self.rt,
+            self.has_sessions,
+            &mut self.sessions,
+            &mut self.left,
+        )?;
+        match self.way.take(run) {
             Some(sought) => {
                 self.go_on(sought)?;
                 Ok(None)
             }
-            None => self.at(run)?.ask(),
+            None => program_of(&mut self.started, run)?.ask(),
         }
     }
 
-    fn kill(&mut self, run: RunKey) -> io::Result<bool> {
-        self.refresh()?;
-        if self.take_sought(run).is_some() {
+    fn kill(&mut self, run: RunKey) -> io::Result<bool>
+        ensures spawner { self.new.spawner ≡ self.old.spawner }
+        ensures sought { AddsNone self.old.way self.new.way }
+        ensures same { KeepsWay self.old self.new }
+    {
+        refresh(
+            self.rt,
+            self.has_sessions,
+            &mut self.sessions,
+            &mut self.left,
+        )?;
+        if self.way.take(run).is_some() {
             return Ok(true);
         }
         let has_sessions = self.has_sessions;
@@ -183,17 +257,24 @@ impl<'a> Table<'a> {
         }
     }
 
-    fn length(&mut self, run: RunKey) -> io::Result<u64> {
-        let length = self.at(run)?.length()?;
+    fn length(&mut self, run: RunKey) -> io::Result<u64>
+        ensures spawner { self.new.spawner ≡ self.old.spawner }
+        ensures way { self.new.way ≡ self.old.way }
+        ensures same { KeepsWay self.old self.new }
+    {
+        let length = program_of(&mut self.started, run)?.length()?;
         started::check_room(self.rt, self.work.as_str(), run)?;
         Ok(length)
     }
 
     fn read(&mut self, run: RunKey, stream: Stream, from: u64, most: u32) -> io::Result<Vec<u8>>
-        ensures { IfOk result (λ bytes. length bytes.items ≤ most) }
+        ensures within { IfOk result (λ bytes. length bytes.items ≤ most) }
+        ensures spawner { self.new.spawner ≡ self.old.spawner }
+        ensures way { self.new.way ≡ self.old.way }
+        ensures same { KeepsWay self.old self.new }
     {
         let alloc = self.rt.alloc();
-        self.at(run)?.read(alloc, stream, from, most)
+        program_of(&mut self.started, run)?.read(alloc, stream, from, most)
     }
 
     fn last_words(&self, run: RunKey, most: u32) -> io::Result<Vec<u8>>
@@ -205,8 +286,12 @@ impl<'a> Table<'a> {
         }
     }
 
-    fn forget(&mut self, run: RunKey) {
-        drop(self.take_sought(run));
+    fn forget(&mut self, run: RunKey)
+        ensures spawner { self.new.spawner ≡ self.old.spawner }
+        ensures sought { AddsNone self.old.way self.new.way }
+        ensures same { KeepsWay self.old self.new }
+    {
+        drop(self.way.take(run));
         let place = self.started.iter().position(|started| started.is_of(run));
         let Some(at) = place else {
             return;
@@ -224,74 +309,123 @@ impl<'a> Table<'a> {
 /// Programs, each in the folder of its run, and in a session of its own where the host has
 /// `setsid`; where it has not, what a program started is not ended with it.
 #[derive(Drop)]
-pub struct HostPrograms<'a> {
-    table: Table<'a>,
+pub struct HostPrograms<'a, R, S> {
+    table: Table<'a, R, S>,
     faults: u64,
 }
 
-impl<'a> HostPrograms<'a> {
+impl<'a, R: Clock + Files<File = File> + AllocGlobal, S: Spawner> HostPrograms<'a, R, S> {
     /// No programs yet. They are started in the folders of this directory, by a launcher, or as
     /// they are.
-    pub fn new(rt: &'a HostRuntime, work: String, launcher: Option<Launcher>) -> HostPrograms<'a> {
+    pub fn new(
+        rt: &'a R,
+        sessions: Sessions<'a>,
+        spawner: S,
+        work: String,
+        launcher: Option<Launcher>,
+    ) -> HostPrograms<'a, R, S>
+        ensures launcher { launcher_of result.table.way ≡ launcher }
+        ensures spawner { result.table.spawner ≡ spawner }
+        ensures work { result.table.work ≡ work }
+        ensures none { sought_of result.table.way ≡ [] }
+    {
         HostPrograms {
             table: Table {
                 rt,
+                spawner,
                 work,
                 has_sessions: has_sessions(rt),
-                launcher,
-                sessions: Sessions::new(rt),
-                sought: Vec::new(rt.alloc()),
+                way: Way::new(rt.alloc(), launcher),
+                sessions,
                 started: Vec::new(rt.alloc()),
                 left: Vec::new(rt.alloc()),
             },
             faults: 0,
         }
     }
-
-    /// Counts a call that failed.
-    fn count<T>(&mut self, answer: &io::Result<T>)
-        ensures { Counts answer.now self.old.faults self.new.faults }
-    {
-        if answer.is_err() {
-            self.faults = self.faults.saturating_add(1);
-        }
-    }
 }
 
-impl<'a> Programs for HostPrograms<'a> {
+impl<'a, R: Clock + Files<File = File> + AllocGlobal, S: Spawner> Programs
+    for HostPrograms<'a, R, S> {
     ghost failures = { λ p. p.faults };
 
-    fn start(&mut self, place: &Place, command: &Ordered) -> io::Result<()> {
+    fn start(&mut self, place: &Place, command: &Ordered) -> io::Result<()>
+        ensures adds { Adds None None (called (start_asked (place_shown place.now)
+            (command_shown command.now)) (started_of result)) }
+        ensures counts { Counts result self.old.faults self.new.faults }
+        ensures starts { StartsFor self.old.table (place_shown place.now)
+            (command_shown command.now) result (S.started self.old.table.spawner)
+            (S.started self.new.table.spawner) }
+        ensures sought { AddsAtMost (sought_for self.old.table (place_shown place.now)
+            (command_shown command.now)) self.old.table.way self.new.table.way }
+        ensures same { KeepsWay self.old.table self.new.table }
+    {
         let answer = self.table.start(place, command);
-        self.count(&answer);
+        count(&mut self.faults, &answer);
         answer
     }
 
-    fn ask(&mut self, run: RunKey) -> io::Result<Option<i32>> {
+    fn ask(&mut self, run: RunKey) -> io::Result<Option<i32>>
+        ensures adds { Adds None None (called (end_asked run) (state_of result)) }
+        ensures range { IfOk result (λ state. IfSome state IsInRange) }
+        ensures counts { Counts result self.old.faults self.new.faults }
+        ensures starts { StartsFound self.old.table (find (is_of run)
+            (sought_of self.old.table.way)) (S.started self.old.table.spawner)
+            (S.started self.new.table.spawner) }
+        ensures none { find (is_of run) (sought_of self.old.table.way) ≡ None
+            → self.new.table.spawner ≡ self.old.table.spawner }
+        ensures sought { AddsNone self.old.table.way self.new.table.way }
+        ensures same { KeepsWay self.old.table self.new.table }
+    {
         let answer = self.table.ask(run);
-        self.count(&answer);
+        count(&mut self.faults, &answer);
         answer
     }
 
-    fn kill(&mut self, run: RunKey) -> io::Result<bool> {
+    fn kill(&mut self, run: RunKey) -> io::Result<bool>
+        ensures adds { Adds None None (called (kill_asked run) (killed_of result)) }
+        ensures counts { Counts result self.old.faults self.new.faults }
+        ensures spawner { self.new.table.spawner ≡ self.old.table.spawner }
+        ensures sought { AddsNone self.old.table.way self.new.table.way }
+        ensures same { KeepsWay self.old.table self.new.table }
+    {
         let answer = self.table.kill(run);
-        self.count(&answer);
+        count(&mut self.faults, &answer);
         answer
     }
 
-    fn length(&mut self, run: RunKey) -> io::Result<u64> {
+    fn length(&mut self, run: RunKey) -> io::Result<u64>
+        ensures adds { Adds None None (called (length_asked run) (length_of result)) }
+        ensures counts { Counts result self.old.faults self.new.faults }
+        ensures spawner { self.new.table.spawner ≡ self.old.table.spawner }
+        ensures way { self.new.table.way ≡ self.old.table.way }
+        ensures same { KeepsWay self.old.table self.new.table }
+    {
         let answer = self.table.length(run);
-        self.count(&answer);
+        count(&mut self.faults, &answer);
         answer
     }
 
-    fn read(&mut self, run: RunKey, stream: Stream, from: u64, most: u32) -> io::Result<Vec<u8>> {
+    fn read(&mut self, run: RunKey, stream: Stream, from: u64, most: u32) -> io::Result<Vec<u8>>
+        ensures adds { Adds None None (called (read_asked run stream from most) (bytes_of result)) }
+        ensures within { IfOk result (λ bytes. length bytes.items ≤ most) }
+        ensures counts { Counts result self.old.faults self.new.faults }
+        ensures spawner { self.new.table.spawner ≡ self.old.table.spawner }
+        ensures way { self.new.table.way ≡ self.old.table.way }
+        ensures same { KeepsWay self.old.table self.new.table }
+    {
         let answer = self.table.read(run, stream, from, most);
-        self.count(&answer);
+        count(&mut self.faults, &answer);
         answer
     }
 
-    fn forget(&mut self, run: RunKey) {
+    fn forget(&mut self, run: RunKey)
+        ensures adds { Adds None None (called (forget_asked run) (Ok program_done)) }
+        ensures counts { self.new.faults ≡ self.old.faults }
+        ensures spawner { self.new.table.spawner ≡ self.old.table.spawner }
+        ensures sought { AddsNone self.old.table.way self.new.table.way }
+        ensures same { KeepsWay self.old.table self.new.table }
+    {
         self.table.forget(run);
     }
 

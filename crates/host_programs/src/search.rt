@@ -4,6 +4,7 @@ use host_files::is_executable;
 use run_calls::Command as Ordered;
 use std::fs;
 use std::io::{self, ErrorKind};
+use std::rt::Files;
 
 /// Where a program with no slash in its name is looked for if its environment has no `PATH`.
 const DEFAULT_PATH: &str = "/bin:/usr/bin";
@@ -26,8 +27,8 @@ pub(crate) enum Search {
 /// Goes on with the search for a program that can be executed, from this byte of its search path
 /// on, in a bounded number of folders. A name with a slash in it is one from the working directory
 /// on; any other is looked for along the command's own `PATH`.
-pub(crate) fn search_from(
-    rt: &HostRuntime,
+pub(crate) fn search_from<R: Files + AllocGlobal>(
+    rt: &R,
     directory: &str,
     ordered: &Ordered,
     from: usize,
@@ -59,7 +60,12 @@ pub(crate) fn search_from(
     })
 }
 
-fn can_execute(rt: &HostRuntime, directory: &str, folder: &str, program: &str) -> io::Result<bool> {
+fn can_execute<R: Files + AllocGlobal>(
+    rt: &R,
+    directory: &str,
+    folder: &str,
+    program: &str,
+) -> io::Result<bool> {
     if folder.len().saturating_add(program.len()) > MOST_PATH {
         return Ok(false);
     }

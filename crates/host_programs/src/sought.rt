@@ -2,11 +2,13 @@
 
 ghost use Rattle.std.specs.Prelude.{◌≡◌, IfOk, map, string_bytes};
 ghost use Rattle.run_calls.specs.Values.{command_shown, variable_shown};
+ghost use Rattle.host_programs.specs.Ways.{is_of, sought_shown};
 
 use crate::search::{Search, search_from};
 use run_calls::{Command as Ordered, RunKey, Variable};
 use std::alloc::{AllocError, Global};
 use std::io;
+use std::rt::Files;
 
 /// A program whose search path is so long that it is still looked for.
 #[derive(Drop)]
@@ -63,7 +65,12 @@ impl Sought {
         ordered: &Ordered,
         directory: String,
         from: usize,
-    ) -> Result<Sought, AllocError> {
+    ) -> Result<Sought, AllocError>
+        ensures run { IfOk result (λ sought. sought.run ≡ run) }
+        ensures directory { IfOk result (λ sought. sought.directory ≡ directory) }
+        ensures command { IfOk result (λ sought. command_shown sought.ordered
+            ≡ command_shown ordered.now) }
+    {
         Ok(Sought {
             run,
             ordered: copy_of(alloc, ordered)?,
@@ -72,24 +79,34 @@ impl Sought {
         })
     }
 
-    pub(crate) fn is_of(&self, run: RunKey) -> bool {
+    pub(crate) fn is_of(&self, run: RunKey) -> bool
+        ensures { result ≡ is_of run (sought_shown self.now) }
+    {
         self.run.instance == run.instance && self.run.job == run.job
     }
 
-    pub(crate) fn run(&self) -> RunKey {
+    pub(crate) fn run(&self) -> RunKey
+        ensures { result ≡ self.now.run }
+    {
         self.run
     }
 
-    pub(crate) fn ordered(&self) -> &Ordered {
+    pub(crate) fn ordered(&self) -> &Ordered
+        ensures { result.now ≡ self.now.ordered }
+    {
         &self.ordered
     }
 
-    pub(crate) fn directory(&self) -> &str {
+    pub(crate) fn directory(&self) -> &str
+        ensures { result.now ≡ string_bytes self.now.directory }
+    {
         self.directory.as_str()
     }
 
     /// Goes on with the search.
-    pub(crate) fn go_on(&mut self, rt: &HostRuntime) -> io::Result<Search> {
+    pub(crate) fn go_on<R: Files + AllocGlobal>(&mut self, rt: &R) -> io::Result<Search>
+        ensures { sought_shown self.new ≡ sought_shown self.old }
+    {
         let found = search_from(rt, self.directory.as_str(), &self.ordered, self.from)?;
         if let Search::GoesOn(from) = found {
             self.from = from;

@@ -1,13 +1,15 @@
 //! Programs that were started, and what they write.
 
-ghost use Rattle.std.specs.Prelude.{◌≡◌, ◌≤◌, [], None, Ok, IfOk, IfSome, IsErrAnd, length};
+ghost use Rattle.std.specs.Prelude.{◌≡◌, ◌≤◌, [], None, Ok, IfOk, IfSome, IsErrAnd, OnOk, length};
 ghost use Rattle.std.specs.IoError.{error_kind};
 ghost use Rattle.std.specs.Process.{exit_code};
 ghost use Rattle.std.specs.declared.io.ErrorKind.TheVariants.{ConnectionAborted};
 ghost use Rattle.run_calls.specs.Values.{IsInRange};
+ghost use Rattle.host_programs.specs.Spawning.{IsAlike, StartsBy};
 ghost use Rattle.host_programs.specs.declared.started.StartedAs.TheVariants.{Launcher};
 
 use crate::children::{is_reaped, kill_child};
+use crate::spawner::Spawner;
 use host_files::{beside_path, read_part};
 use host_shells::{Progress, Session, Sessions};
 use run_calls::{RunKey, Stream};
@@ -17,6 +19,7 @@ use std::io::{self, ErrorKind, Write};
 use std::os::unix::fs::OpenOptionsExt;
 use std::os::unix::process::ExitStatusExt;
 use std::process::{Child, Command, ExitStatus, Stdio};
+use std::rt::Files;
 use std::time::{Duration, Instant};
 
 /// What follows a run's name in the paths of the files that take what its program writes. They
@@ -92,7 +95,12 @@ fn most_from(end: u64, from: u64, most: u32) -> u32
 }
 
 /// A new file, to which all that is written is added.
-fn stream_file(rt: &HostRuntime, work: &str, run: RunKey, ending: &str) -> io::Result<File> {
+fn stream_file<R: Files<File = File> + AllocGlobal>(
+    rt: &R,
+    work: &str,
+    run: RunKey,
+    ending: &str,
+) -> io::Result<File> {
     let path = beside_path(rt.alloc(), work, run, ending)?;
     OpenOptions::new()
         .read(true)
@@ -102,15 +110,34 @@ fn stream_file(rt: &HostRuntime, work: &str, run: RunKey, ending: &str) -> io::R
         .open(rt, path.as_str())
 }
 
+/// The file into which a launcher writes its last words.
+fn said_file<R: Files<File = File> + AllocGlobal>(
+    rt: &R,
+    work: &str,
+    run: RunKey,
+    started_as: StartedAs,
+) -> io::Result<Option<File>> {
+    match started_as {
+        StartedAs::Itself => Ok(None),
+        StartedAs::Launcher => Ok(Some(stream_file(rt, work, run, SAID_ENDING)?)),
+    }
+}
+
 /// Finds an error where the disk is full that a program wrote to, which has ended. What it wrote
 /// last may be lost then, whatever its code says. The file that this makes is removed with the
 /// others.
-pub(crate) fn check_room(rt: &HostRuntime, work: &str, run: RunKey) -> io::Result<()> {
+pub(crate) fn check_room<R: Files<File = File> + AllocGlobal>(
+    rt: &R,
+    work: &str,
+    run: RunKey,
+) -> io::Result<()> {
     stream_file(rt, work, run, ROOM_ENDING)?.write_all(&[0; ROOM])
 }
 
 /// Makes a program write into these files, and read nothing.
-fn set_streams(command: &mut Command, stdout: &File, stderr: &File) -> io::Result<()> {
+fn set_streams(command: &mut Command, stdout: &File, stderr: &File) -> io::Result<()>
+    ensures { OnOk result (IsAlike command.old command.new) }
+{
     command
         .stdin(Stdio::null())
         .stdout(stdout.try_clone()?)
@@ -119,24 +146,24 @@ fn set_streams(command: &mut Command, stdout: &File, stderr: &File) -> io::Resul
 }
 
 /// Starts a command that lacks its streams.
-pub(crate) fn start(
-    rt: &HostRuntime,
+pub(crate) fn start<R: Files<File = File> + AllocGlobal, S: Spawner>(
+    rt: &R,
     work: &str,
     run: RunKey,
     started_as: StartedAs,
+    spawner: &mut S,
     command: &mut Command,
-) -> io::Result<Started> {
+) -> io::Result<Started>
+    ensures { StartsBy (IsAlike command.old) result (S.started spawner.old) (S.started spawner.new) }
+{
     let stdout = stream_file(rt, work, run, OUTPUT_ENDING)?;
     let stderr = stream_file(rt, work, run, ERROR_ENDING)?;
-    let said = match started_as {
-        StartedAs::Itself => None,
-        StartedAs::Launcher => Some(stream_file(rt, work, run, SAID_ENDING)?),
-    };
+    let said = said_file(rt, work, run, started_as)?;
     set_streams(command, &stdout, &stderr)?;
     Ok(Started {
         run,
         started_as,
-        child: command.spawn(rt)?,
+        child: spawner.spawn(command)?,
         stdout,
         stderr,
         said,

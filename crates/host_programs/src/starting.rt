@@ -1,8 +1,10 @@
 //! The commands by which programs are started.
 
 ghost use Rattle.std.specs.Prelude.{◌≡◌, ◌++◌, ◌∷◌, ℕ, List, None, Some, IfOk, OnOk, codes, true, map, string_bytes};
-ghost use Rattle.std.specs.Process.{clears_env, command_args, command_dir, command_program, command_var};
+ghost use Rattle.std.specs.Process.{SameDir, SameOtherVars, SameProgramAndArgs, clears_env, command_args, command_dir, command_program, command_var};
+ghost use Rattle.run_calls.specs.Values.{variable_shown};
 ghost use Rattle.host_programs.specs.Launching.{StartsBare, session_words};
+ghost use Rattle.host_programs.specs.Spawning.{set_by};
 
 use host_shells::SESSION;
 use run_calls::Variable;
@@ -76,13 +78,31 @@ fn add_words(command: &mut Command, words: &[String]) -> Result<(), AllocError>
     Ok(())
 }
 
+/// Gives a program a variable.
+fn set(command: &mut Command, name: &str, value: &str) -> Result<(), AllocError>
+    ensures call { OnOk result (SameProgramAndArgs command.old command.new) }
+    ensures cleared { OnOk result (clears_env command.new ≡ clears_env command.old) }
+    ensures set { OnOk result (command_var command.new name.now ≡ Some (Some value.now)) }
+    ensures others { OnOk result (SameOtherVars command.old command.new name.now) }
+    ensures directory { OnOk result (SameDir command.old command.new) }
+{
+    command.env(name, value)?;
+    Ok(())
+}
+
 /// Gives a program its variables: of several of one name the last.
-pub(crate) fn add_variables(
-    command: &mut Command,
-    variables: &[Variable],
-) -> Result<(), AllocError> {
-    for variable in variables {
-        command.env(variable.name.as_str(), variable.value.as_str())?;
+pub(crate) fn add_variables(command: &mut Command, variables: &[Variable]) -> Result<(), AllocError>
+    ensures program { OnOk result (command_program command.new ≡ command_program command.old) }
+    ensures arguments { OnOk result (command_args command.new ≡ command_args command.old) }
+    ensures cleared { OnOk result (clears_env command.new ≡ clears_env command.old) }
+    ensures variables { OnOk result ((name : List ℕ) → command_var command.new name
+        ≡ set_by (map variable_shown variables.now) name (command_var command.old name)) }
+    ensures directory { OnOk result (command_dir command.new ≡ command_dir command.old) }
+{
+    let mut left = variables;
+    while let [first, rest @ ..] = left {
+        set(command, first.name.as_str(), first.value.as_str())?;
+        left = rest;
     }
     Ok(())
 }

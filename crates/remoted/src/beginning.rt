@@ -2,7 +2,7 @@
 
 use crate::serve_ports::{is_memory, told};
 use host_folders::{Complaint, HostFolder, Work, WorkFault, begin_work};
-use host_programs::{has_leases, has_sessions, most_open, sees_ends};
+use host_programs::{has_leases, has_sessions, sees_ends};
 use host_sockets::LINGERING_LIMIT;
 use instance_words::Instances;
 use std::alloc::{AllocError, Global};
@@ -55,6 +55,18 @@ fn most_of_runs(instances: &Instances) -> u64 {
         }
     }
     runs.saturating_add(removals)
+}
+
+/// How many files this process may have open.
+fn most_open() -> io::Result<u64> {
+    let mut limit = libc::types::rlimit {
+        rlim_cur: 0,
+        rlim_max: 0,
+    };
+    if libc::getrlimit(libc::RLIMIT_NOFILE, &mut limit) < 0 {
+        return Err(io::Error::from_raw_os_error(os::errno()));
+    }
+    Ok(limit.rlim_cur)
 }
 
 /// Whether so many files may be open that the instances can be served at all; where these are fewer

@@ -16,7 +16,8 @@ use crate::standard_error::StandardError;
 use crate::watching::{MetricsFile, StopFile};
 use command_line::Service;
 use host_folders::{FolderCounts, HostFolder, Work};
-use host_programs::{HostPrograms, Launcher, launcher_path};
+use host_programs::{HostPrograms, HostSpawner, Launcher, launcher_path};
+use host_shells::Sessions;
 use host_sockets::{HostSockets, ListenError, SocketCounts};
 use host_wires::ThisHost;
 use instance_words::{Instances, InstancesFault, instances_of};
@@ -34,6 +35,9 @@ use std::{fs, thread};
 /// For how many milliseconds it is tried, once each, to end what runs, before the program ends. A
 /// launcher that is told to end may take ten seconds.
 const MOST_ENDING: u64 = 15_000;
+
+/// What runs actions on this host.
+type Runner<'a> = JobRunner<HostFolder<'a>, HostPrograms<'a, HostRuntime, HostSpawner<'a>>>;
 
 pub fn is_memory(error: &io::Error) -> bool {
     error.kind() == ErrorKind::OutOfMemory
@@ -171,7 +175,7 @@ fn job_runner<'a, E: Write>(
     launcher: Option<Launcher>,
     instances: &Instances,
     errors: &mut E,
-) -> io::Result<JobRunner<HostFolder<'a>, HostPrograms<'a>>>
+) -> io::Result<Runner<'a>>
     requires launcher { IfSome launcher (KnowsInstances instances.now.configs) }
 {
     let path = String::from_str(rt.alloc(), work.path())?;
@@ -179,7 +183,8 @@ fn job_runner<'a, E: Write>(
     if slots_of(instances) > 0 {
         guard_against_leases(rt, &mut folder, errors)?;
     }
-    let programs = HostPrograms::new(rt, path, launcher);
+    let (sessions, spawner) = (Sessions::new(rt), HostSpawner::new(rt));
+    let programs = HostPrograms::new(rt, sessions, spawner, path, launcher);
     Ok(JobRunner::new(rt.alloc(), folder, programs, slots_of(instances))?)
 }
 
@@ -197,7 +202,7 @@ fn end_runs(
     rt: &HostRuntime,
     configs: &Configs,
     mut sockets: HostSockets<'_, ThisHost<'_>>,
-    runs: &mut JobRunner<HostFolder<'_>, HostPrograms<'_>>,
+    runs: &mut Runner<'_>,
     lines: &mut ErrorLines<StandardError>,
 ) {
     let (began, end) = (Instant::now(rt).ok(), sockets.now());
@@ -254,7 +259,7 @@ fn serve_turns(
     key: MapKey,
     instances: &Instances,
     mut sockets: HostSockets<'_, ThisHost<'_>>,
-    runs: &mut JobRunner<HostFolder<'_>, HostPrograms<'_>>,
+    runs: &mut Runner<'_>,
     folders: &FolderCounts,
     refusals: &SocketCounts,
     service: &Service<'_>,

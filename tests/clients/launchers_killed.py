@@ -80,6 +80,8 @@ class Runs:
                 found[name] = "right"
             elif (operation.status.code, operation.status.text) == (13, "run failed"):
                 found[name] = "failed"
+            elif operation.status.code == 4:
+                found[name] = "timed out"
             else:
                 found[name] = f"status {operation.status.code}, {told}"
         return found
@@ -93,9 +95,11 @@ class Batch:
 
     def judged(self, ended, must_be_right=(), most_failed=AT_ONCE):
         """Of these runs so many may have failed, but none of those that have to be right."""
-        failed = [name for name, what in ended.items() if what == "failed"]
+        # A job that slurmctld had not saved is forgotten where that is killed: its run waits until its timeout.
+        lost = ["failed", "timed out"] if self.what == "slurmctld" else ["failed"]
+        failed = [name for name, what in ended.items() if what in lost]
         self.failed += len(failed)
-        self.wrong += [what for what in ended.values() if what not in ("right", "failed")]
+        self.wrong += [what for what in ended.values() if what not in ("right", *lost)]
         self.wrong += [f"{name} failed" for name in failed if name in must_be_right]
         if len(failed) > most_failed:
             self.wrong.append(f"{len(failed)} runs failed of {most_failed} that something was killed of")
@@ -161,7 +165,7 @@ def batch(place, what, slow):
     with place.serve() as server:
         with Peer(server.ports[0], 110) as peer:
             tries = 0
-            while made.killed < KILLS and tries < 5 * KILLS:
+            while made.killed < KILLS and tries < 10 * KILLS:
                 getattr(made, what)(server, peer)
                 tries += 1
             left, seconds, missed = place.settled(LEFT_FOR * slow, server)

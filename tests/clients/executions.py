@@ -106,9 +106,6 @@ OF_THE_HOST += ["cached", "not_cached", "cut", "side_by_side"]
 def is_wanted(name, options):
     if options.launcher and name in OF_THE_HOST:
         return False
-    # On a node a sandbox that could not do its work looks as a program that SIGKILL ended: both are failed runs.
-    if options.slurm_sandbox and name == "signals":
-        return False
     return name not in options.skip and (not options.only or name in options.only)
 
 

@@ -52,7 +52,6 @@ KNOWN = {
         "the last few kilobytes of 2 MiB of words: lines of launchers are longer",
         {"none": [(0, 0)], "slurm": [(0, 0), *FAILED], **all_of(SANDBOXED, FAILED)},
     ),
-    "killed": ("with a launcher behind Slurm the code 137 counts as a failure of that", {"both": FAILED}),
 }
 # How many actions a server knows of at a time.
 TOGETHER = 64

@@ -1,13 +1,12 @@
 """What `launchers.py` looks at of launchers that cannot do their work: scripts of its own."""
 
 import os
-import shutil
 import sys
 import tempfile
 import time
 
 from executing import Action, Peer
-from server import Server
+from server import Server, remove
 
 WELL = 'shift 3; exec /usr/bin/env -i -- "$@"'
 BEGUN = "remoted: run red {} failed: "
@@ -63,7 +62,7 @@ def lost(report, program):
         words_of_others(report, program, folder)
         not_started(report, program, folder)
     finally:
-        shutil.rmtree(folder)
+        remove(folder)
 
 
 def lost_by_itself(report, program, folder):

@@ -1,9 +1,11 @@
 """Starts `remoted serve` for a script, and looks at its process."""
 
 import os
+import shutil
 import socket
 import subprocess
 import tempfile
+import time
 
 
 def has_leases():
@@ -20,6 +22,16 @@ def free_ports(count):
     for each in sockets:
         each.close()
     return ports
+
+
+def remove(folder):
+    """Removes a folder of a server that has ended: its launchers may write there for a moment."""
+    for _ in range(50):
+        shutil.rmtree(folder, ignore_errors=True)
+        if not os.path.exists(folder):
+            return
+        time.sleep(0.1)
+    shutil.rmtree(folder)
 
 
 class Server:
@@ -86,6 +98,7 @@ class Server:
             self.process.wait()
         self.process.stdout.close()
         if self.work:
+            remove(self.work.name)
             self.work.cleanup()
 
     def is_running(self):

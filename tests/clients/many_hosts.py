@@ -114,6 +114,12 @@ class Proxy:
         kept = [line for line in self.map.read_text().splitlines() if not line.startswith(f"{team} ")]
         self.map.write_text("\n".join([*kept, f"{team} {place}"]) + "\n")
 
+    def forget(self, team):
+        """A team that is served nowhere from now on."""
+        self.tell(f"del map {self.map} {team}")
+        kept = [line for line in self.map.read_text().splitlines() if not line.startswith(f"{team} ")]
+        self.map.write_text("".join(f"{line}\n" for line in kept))
+
     def end(self):
         self.process.kill()
         self.process.wait()

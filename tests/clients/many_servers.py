@@ -115,6 +115,9 @@ def added_and_moved(program, folder, teams, hosts, proxy):
     proxy.place("added", f"{hosts[1].address}:9500")
     with Client(folder, "added") as client:
         expect(store(client, b"a new team's") and missing(client, [b"a new team's"]) == 0, "a team is added")
+        proxy.forget("added")
+        _, status = client.call(m.CAPABILITIES, m.capabilities(""))
+        expect(status is not None and status[0] != 0, "and taken away: the next call of its connection is refused")
     with Client(folder, "team0") as client:
         expect(store(client, b"before"), "a team works where it is")
         hosts[2].serve(program, f"{folder}/work-moved", {"team0": 9501})

@@ -1,12 +1,15 @@
 #!/usr/bin/env python3
 """proxy.py PROGRAM: calls through HAProxy with TLS and the file deploy/haproxy.cfg: one certificate may write and have
-actions run, one may read, and others get no connection.
+actions run, one may read, one is revoked, and others get no connection. Uploads of five clients at once, of which the
+server refuses some, are all taken through the proxy.
 
 PROGRAM is the built `remoted`. Certificates are made by openssl, in a folder that is removed. A line for each thing
 that holds; it ends with status 1 at the first that does not. Debian: haproxy, openssl, python3-grpcio; run it by
 /usr/bin/python3.
 """
 
+import collections
+import concurrent.futures
 import hashlib
 import os
 import pathlib
@@ -22,6 +25,7 @@ from executing import EXECUTE
 from server import Server, free_ports
 
 PIECE = 1_000_000
+CLIENTS, UPLOADS = 5, 20
 
 CONFIG = pathlib.Path(__file__).resolve().parents[2] / "deploy/haproxy.cfg"
 
@@ -37,16 +41,22 @@ def make_certificates(folder):
     openssl(*new, "-x509", "-days", "2", "-subj", "/CN=ci", "-keyout", "stranger.key", "-out", "stranger.pem")
     with open(os.path.join(folder, "names"), "w") as names:
         names.write("subjectAltName=DNS:localhost\n")
-    for name in ["server", "ci", "developer"]:
+    for name in ["server", "ci", "developer", "gone"]:
         openssl(*new, "-subj", f"/CN={name}", "-keyout", f"{name}.key", "-out", f"{name}.csr")
         sign = ["x509", "-req", "-in", f"{name}.csr", "-CA", "ca.pem", "-CAkey", "ca.key", "-CAcreateserial"]
         openssl(*sign, "-days", "2", "-extfile", "names", "-out", f"{name}.pem")
     with open(os.path.join(folder, "server-both.pem"), "wb") as both:
         both.write(bytes_of(folder, "server.pem") + bytes_of(folder, "server.key"))
+    told = ["openssl", "x509", "-in", "gone.pem", "-noout", "-serial"]
+    serial = subprocess.run(told, cwd=folder, check=True, capture_output=True, text=True).stdout
+    with open(os.path.join(folder, "revoked"), "w") as revoked:
+        revoked.write(serial.partition("=")[2])
 
 
 def config_here(folder, port, server):
-    """The file to install, with the ports, the certificates and the time between checks of this test."""
+    """The file to install, with its lines that are comments, and the ports, the certificates and the time between
+    checks of this test.
+    """
     told = CONFIG.read_text()
     changes = {
         "bind :8443": f"bind 127.0.0.1:{port}",
@@ -54,6 +64,9 @@ def config_here(folder, port, server):
         "/etc/haproxy/clients.pem": f"{folder}/ca.pem",
         "127.0.0.1:8980": f"127.0.0.1:{server}",
         "check inter 5s": "check inter 1s",
+        "# tune.h2.": "tune.h2.",
+        "# http-request deny": "http-request deny",
+        "/etc/haproxy/revoked": f"{folder}/revoked",
     }
     for old, new in changes.items():
         if told.count(old) != 1:
@@ -67,23 +80,24 @@ def bytes_of(folder, name):
         return file.read()
 
 
-def channel(folder, port, name):
+def channel(folder, port, name, more=()):
     key, own = (bytes_of(folder, f"{name}.{kind}") if name else None for kind in ["key", "pem"])
     credentials = grpc.ssl_channel_credentials(bytes_of(folder, "ca.pem"), key, own)
-    return grpc.secure_channel(f"localhost:{port}", credentials, [("grpc.max_receive_message_length", -1)])
+    options = [("grpc.max_receive_message_length", -1), *more]
+    return grpc.secure_channel(f"localhost:{port}", credentials, options)
 
 
-def write(calls, blob):
+def write(calls, blob, piece=PIECE):
     """Stores a blob in one stream; how many bytes are there."""
     name = f"red/uploads/{'1' * 8}-1111-1111-1111-{'1' * 12}/blobs/{hashlib.sha256(blob).hexdigest()}/{len(blob)}"
 
     def pieces():
-        for at in range(0, len(blob), PIECE):
+        for at in range(0, len(blob), piece):
             named = m.field(1, name) if at == 0 else b""
-            last = m.field(3, int(at + PIECE >= len(blob)))
-            yield named + m.field(2, at) + last + m.field(10, blob[at : at + PIECE])
+            last = m.field(3, int(at + piece >= len(blob)))
+            yield named + m.field(2, at) + last + m.field(10, blob[at : at + piece])
 
-    return m.first(calls.stream_unary(m.WRITE)(pieces(), timeout=60), 1)
+    return m.first(calls.stream_unary(m.WRITE)(pieces(), timeout=300), 1)
 
 
 def read(calls, blob):
@@ -120,9 +134,33 @@ def calls_through(folder, port):
         execute = lambda: list(calls.unary_stream(EXECUTE)(b"", timeout=10))
         refused = [code(lambda: update(calls)), code(lambda: write(calls, large)), code(execute)]
         expect(refused == ["PERMISSION_DENIED"] * 3, "a developer may not write, and have no action run")
+    with channel(folder, port, "gone") as calls:
+        expect(code(lambda: ask(calls)) == "PERMISSION_DENIED", "a certificate that is revoked may do nothing")
     for name in ["stranger", None]:
         with channel(folder, port, name) as calls:
             expect(code(lambda: ask(calls)) == "UNAVAILABLE", f"no connection with {name or 'no'} certificate")
+
+
+def refused(open_channel):
+    """How many uploads are refused, where each of some clients begins its own at once."""
+    channels = [open_channel() for _ in range(CLIENTS)]
+    try:
+        writes = [(calls, os.urandom(3 * PIECE)) for calls in channels for _ in range(UPLOADS)]
+        with concurrent.futures.ThreadPoolExecutor(len(writes)) as threads:
+            codes = collections.Counter(threads.map(lambda each: code(lambda: write(*each, piece=65_536)), writes))
+    finally:
+        for calls in channels:
+            calls.close()
+    return codes["RESOURCE_EXHAUSTED"]
+
+
+def many_uploads(folder, port, server):
+    # A connection of each channel's own.
+    own = [("grpc.use_local_subchannel_pool", 1)]
+    count = refused(lambda: grpc.insecure_channel(f"127.0.0.1:{server}", own))
+    expect(count > 0, f"{count} of {CLIENTS * UPLOADS} uploads at once are refused by the server")
+    count = refused(lambda: channel(folder, port, "ci", own))
+    expect(count == 0, "none is refused through the proxy")
 
 
 def main():
@@ -139,6 +177,7 @@ def main():
             # A check of the server comes each second.
             time.sleep(3)
             calls_through(folder, port)
+            many_uploads(folder, port, server.ports[0])
         finally:
             proxy.terminate()
             proxy.wait()

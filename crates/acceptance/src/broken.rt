@@ -3,7 +3,7 @@
 //! The script has two instances. The bytes that come to the first are cut after each byte in turn,
 //! ended after each byte by the event Closed, and changed to ff at each byte. The second has to
 //! give what it gives in the run of the script as it is, and, where bytes are just cut, so has the
-//! first.
+//! first, but that its events then have other places. So its lines are shown with place 0.
 
 use crate::runs::{outcome, shown_at};
 use crate::scripts::{configs, events, expanded};
@@ -148,15 +148,28 @@ fn bytes_of(script: &[u8], output: &mut Output) -> usize {
     count
 }
 
+/// The lines of the first instance, with place 0.
+fn first_of(outputs: &mut Outputs, output: &mut Output) -> Vec<u8> {
+    if let Some(given) = outputs.instances.get_mut(BROKEN as usize) {
+        for ordered in given.orders.iter_mut() {
+            ordered.place = 0;
+        }
+        for refused in given.refusals.iter_mut() {
+            refused.place = 0;
+        }
+    }
+    shown_at(outputs, BROKEN, output)
+}
+
 impl Case {
     /// Whether these are what the script gives where nothing is broken: the second instance's, and
     /// the first one's where bytes are only cut.
-    fn is_met(&self, outputs: &Outputs, way: Way, output: &mut Output) -> bool {
+    fn is_met(&self, outputs: &mut Outputs, way: Way, output: &mut Output) -> bool {
         let is_second = shown_at(outputs, 1, output).as_slice() == self.second.as_slice();
         match way {
             Way::Ended | Way::Changed => is_second,
             Way::Cut | Way::Apart => {
-                is_second && shown_at(outputs, 0, output).as_slice() == self.first.as_slice()
+                is_second && first_of(outputs, output).as_slice() == self.first.as_slice()
             }
         }
     }
@@ -167,7 +180,7 @@ impl Case {
         for place in 0..count {
             let events = broken(&self.script, way, place, output);
             let is_met = match outcome(&self.configs, events, output) {
-                Some(outputs) => self.is_met(&outputs, way, output),
+                Some(mut outputs) => self.is_met(&mut outputs, way, output),
                 None => false,
             };
             if !is_met {
@@ -199,8 +212,8 @@ pub fn carry_out(text: &[u8], output: &mut Output) -> Status {
         return Status::Done;
     };
     let events = events(&script, None, output);
-    if let Some(outputs) = outcome(&configs, events, output) {
-        let first = shown_at(&outputs, 0, output);
+    if let Some(mut outputs) = outcome(&configs, events, output) {
+        let first = first_of(&mut outputs, output);
         let second = shown_at(&outputs, 1, output);
         let case = Case {
             configs,

@@ -243,5 +243,5 @@ impl<'a> Sockets for Fake<'a> {
         self.faults
     }
 
-    fn rest(&mut self, _idle_turns: u64) {}
+    fn rest(&mut self, _most: u64) {}
 }

@@ -85,8 +85,9 @@ impl<'a> Sockets for WithPeers<'a> {
         self.sockets.faults()
     }
 
-    fn rest(&mut self, idle_turns: u64) {
-        self.sockets.rest(idle_turns)
+    /// The clients have their part in a millisecond at most.
+    fn rest(&mut self, most: u64) {
+        self.sockets.rest(most.min(1))
     }
 }
 

@@ -3,6 +3,7 @@ use Rattle.std.specs.Prelude.{ℕ, pos, true, ◌&&◌, ◌^◌, nat_lt, List, [
 use Rattle.std.specs.Str.{bytes_eq}
 use Rattle.std.specs.Str.Parse.{without_leading_plus}
 use Rattle.decimals.specs.Number.{decimal_value, is_decimal}
+use Rattle.sizes.specs.Size.{size_of}
 use Rattle.clap.specs.Words.{App, Row, Rule, Shape, Text, all_of, first_of, new_app, new_rule, one_of, with_rule, with_subcommand}
 use Rattle.clap.specs.declared.builder.action.ArgAction.TheVariants.{Append, Set}
 use Rattle.clap.specs.declared.builder.value_parser.ValueParser.{ValueParser}
@@ -34,8 +35,9 @@ port_rule =
 abbrev pub send_rule : Rule
 send_rule = record (long_option (codes "send")) { required = true }
 
+-- what `--want` may be is said where it is read
 abbrev pub want_rule : Rule
-want_rule = record (long_option (codes "want")) { required = true; parser = Some count_parser }
+want_rule = record (long_option (codes "want")) { required = true }
 
 abbrev pub turns_rule : Rule
 turns_rule =
@@ -151,11 +153,20 @@ number_of name given = option_and_then (number_below (2 ^ 64)) (one_of name give
 abbrev pub port_of : ℕ → Option ℕ
 port_of number = if nat_lt number (2 ^ 16) then Some number else None
 
+-- the number, if it is at most 2^63 - 1
+abbrev pub count_of : ℕ → Option ℕ
+count_of number = if nat_lt number (2 ^ 63) then Some number else None
+
+-- the number of bytes that was given under a name, if it is at most 2^63 - 1
+abbrev pub bytes_of : Text → List Row → Option ℕ
+bytes_of name given =
+    option_and_then count_of (option_and_then size_of (first_of name given))
+
 abbrev pub probe_of : List Row → Option InvocationValue
 probe_of given =
     option_and_then (λ port. option_and_then (λ send. option_and_then (λ want.
     option_map (λ turns. probe port send want turns) (number_of (codes "turns") given))
-    (number_of (codes "want") given)) (first_of (codes "send") given))
+    (bytes_of (codes "want") given)) (first_of (codes "send") given))
     (option_and_then port_of (number_of (codes "port") given))
 
 abbrev pub check_of : List Row → Option InvocationValue
@@ -164,10 +175,6 @@ check_of given =
     option_map (λ seconds. check port host (first_of (codes "instance") given) seconds)
     (number_of (codes "seconds") given)) (first_of (codes "host") given))
     (option_and_then port_of (number_of (codes "port") given))
-
--- the number, if it is at most 2^63 - 1
-abbrev pub count_of : ℕ → Option ℕ
-count_of number = if nat_lt number (2 ^ 63) then Some number else None
 
 -- for how many turns a server lasts: for as many as a number says, or for 2^64 - 1
 abbrev pub lasting_of : List Row → Option ℕ

@@ -62,21 +62,6 @@ fn optional<'a>(alloc: Global, name: &'a str, value: &'a str, help: &'a str) -> 
     long_option(alloc, name, value, help, false).value_parser(ValueParser::NonEmptyString)
 }
 
-/// An option `--NAME VALUE` whose value is a whole number from 0 to 2^63 - 1.
-fn count_option<'a>(
-    alloc: Global,
-    name: &'a str,
-    value: &'a str,
-    help: &'a str,
-    required: bool,
-) -> Arg<'a>
-    ensures { HasRule (record (long_option name.entry.now)
-        { required = required; parser = Some count_parser }) result }
-{
-    let option = long_option(alloc, name, value, help, required);
-    option.value_parser(value_parser!(u64).range(..=i64::MAX))
-}
-
 pub(crate) fn send<'a>(alloc: Global) -> Arg<'a>
     ensures { HasRule send_rule result }
 {
@@ -158,8 +143,10 @@ pub(crate) fn port<'a>(alloc: Global) -> Arg<'a>
 pub(crate) fn turns<'a>(alloc: Global) -> Arg<'a>
     ensures { HasRule turns_rule result }
 {
-    let help = "How many turns to take at most";
-    count_option(alloc, "turns", "T", help, false).default_value("1000000000")
+    let help = "How many turns to take at most: in each it tries once to send and to read";
+    long_option(alloc, "turns", "T", help, false)
+        .value_parser(value_parser!(u64).range(..=i64::MAX))
+        .default_value("1000000000")
 }
 
 /// How long a server lasts.
@@ -174,5 +161,6 @@ pub(crate) fn lasting<'a>(alloc: Global) -> Arg<'a>
 pub(crate) fn want<'a>(alloc: Global) -> Arg<'a>
     ensures { HasRule want_rule result }
 {
-    count_option(alloc, "want", "N", "How many bytes to wait for", true)
+    let help = "How many bytes to wait for, as 15 or 64K";
+    long_option(alloc, "want", "N", help, true)
 }

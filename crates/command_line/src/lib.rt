@@ -2,40 +2,26 @@
 #![tactic(auto)]
 
 mod arguments;
+mod help_texts;
 
 ghost use Rattle.std.specs.Prelude.{◌≡◌, ◌≢◌, ◌⊎◌, ℕ, List, Some, None, true, map, string_bytes, IfOk, IfErr, option_map};
 ghost use Rattle.clap.specs.Words.{App, Shape, all_of, app_of, first_of, found_of, kind_of, new_app, rows_of, subcommand_rows_of, with_subcommand};
 ghost use Rattle.clap.specs.declared.error.kind.ErrorKind.TheVariants.{DisplayHelp, DisplayVersion};
-ghost use Rattle.command_line.specs.CommandLine.{command_line, number_of, script_command, probe_command, probe_of, check_command, check_of, serve_command, lasting_of, serve_of, file_or_peer_by, invocation_by, invocation_of};
+ghost use Rattle.command_line.specs.CommandLine.{command_line, bytes_of, number_of, script_command, probe_command, probe_of, check_command, check_of, serve_command, lasting_of, serve_of, file_or_peer_by, invocation_by, invocation_of};
 ghost use Rattle.command_line.specs.Shown.{invocation_value, invocation_asked, HasApp, HasNoFault, HasShape, IsFaultOf, IsFrom};
 
 use crate::arguments::{
     INSTANCES, file, host, instance, instances, lasting, launcher, listen, metrics, port, seconds,
     send, stop, turns, want, work,
 };
+use crate::help_texts::{
+    ABOUT, AFTER, CHECK_ABOUT, CHECK_AFTER, PROBE_ABOUT, PROBE_AFTER, REPLAY_ABOUT, REPLAY_AFTER,
+    REPLAY_LINES, SERVE_ABOUT, SERVE_AFTER, UNARY_ABOUT, UNARY_AFTER, UNARY_LINES,
+};
 use clap::error::ErrorKind;
 use clap::{ArgMatches, Command, Error};
+use sizes::size;
 use std::alloc::{AllocError, Global};
-
-const UNARY_ABOUT: &str =
-    "Carry out a script of calls on instances of its own, without connections";
-
-const UNARY_LINES: &str =
-    "The script: lines `instance NAME QUOTA`, `put NAME HEX` and `call NAME METHOD HEX`";
-
-const REPLAY_ABOUT: &str =
-    "Carry out a script of events on a server of its own, and print what it sends";
-
-const REPLAY_LINES: &str =
-    "The script: lines `instance NAME QUOTA SLOTS [PARENT]`, and then one line for each event";
-
-const PROBE_ABOUT: &str =
-    "Send a file's bytes to a server, and print the first bytes that come back";
-
-const CHECK_ABOUT: &str =
-    "Ask a server on a port what it can do: status 0 where it answers in time, else 4";
-
-const SERVE_ABOUT: &str = "Serve instances on ports of this host";
 
 /// The version of the program.
 pub const VERSION: &str = "0.2.0";
@@ -43,8 +29,8 @@ pub const VERSION: &str = "0.2.0";
 /// The value of `--turns` that stands for more turns than a server ever takes.
 const ENDLESS: &str = "endless";
 
-/// The most turns that a number asks for.
-const MOST_TURNS: u64 = 9_223_372_036_854_775_807;
+/// The most turns, or bytes, that are asked for.
+const MOST: u64 = 9_223_372_036_854_775_807;
 
 /// What is served, where, and for how long.
 #[derive(Drop)]
@@ -100,11 +86,11 @@ pub enum Invocation<'a> {
     Check(Question<'a>),
 }
 
-/// A command that has no arguments yet.
-fn described<'a>(alloc: Global, name: &'a str, about: &'a str) -> Command<'a>
+/// A command that has no arguments yet, with what its help begins and ends with.
+fn described<'a>(alloc: Global, name: &'a str, about: &'a str, after: &'a str) -> Command<'a>
     ensures { HasApp (new_app name.entry.now) result }
 {
-    Command::new(alloc, name).about(about)
+    Command::new(alloc, name).about(about).after_help(after)
 }
 
 /// A command that carries out the script of a file.
@@ -113,24 +99,25 @@ fn script_command<'a>(
     name: &'a str,
     about: &'a str,
     lines: &'a str,
+    after: &'a str,
 ) -> Result<Command<'a>, AllocError>
     ensures { IfOk result (HasShape (script_command name.entry.now)) }
 {
-    described(alloc, name, about).arg(file(alloc, lines))
+    described(alloc, name, about, after).arg(file(alloc, lines))
 }
 
 fn probe<'a>(alloc: Global) -> Result<Command<'a>, AllocError>
     ensures { IfOk result (HasShape probe_command) }
 {
     let args = vec![in alloc; port(alloc), send(alloc), want(alloc), turns(alloc)]?;
-    described(alloc, "probe", PROBE_ABOUT).args(args)
+    described(alloc, "probe", PROBE_ABOUT, PROBE_AFTER).args(args)
 }
 
 fn check<'a>(alloc: Global) -> Result<Command<'a>, AllocError>
     ensures { IfOk result (HasShape check_command) }
 {
     let args = vec![in alloc; port(alloc), host(alloc), instance(alloc), seconds(alloc)]?;
-    described(alloc, "check", CHECK_ABOUT).args(args)
+    described(alloc, "check", CHECK_ABOUT, CHECK_AFTER).args(args)
 }
 
 fn serve<'a>(alloc: Global) -> Result<Command<'a>, AllocError>
@@ -145,7 +132,7 @@ fn serve<'a>(alloc: Global) -> Result<Command<'a>, AllocError>
         stop(alloc),
         instances(alloc),
     ]?;
-    described(alloc, "serve", SERVE_ABOUT).args(args)
+    described(alloc, "serve", SERVE_ABOUT, SERVE_AFTER).args(args)
 }
 
 /// The command with one more below it, where both were made.
@@ -176,12 +163,10 @@ fn with_command<'a>(
 fn command<'a>(alloc: Global) -> Result<Command<'a>, AllocError>
     ensures { IfOk result (λ c. app_of c ≡ command_line) }
 {
-    let command = Command::new(alloc, "remoted").version(VERSION).about(
-        "A remote build cache for Bazel. Without a command it carries out the script on standard input",
-    );
-    let unary = script_command(alloc, "unary", UNARY_ABOUT, UNARY_LINES);
+    let command = described(alloc, "remoted", ABOUT, AFTER).version(VERSION);
+    let unary = script_command(alloc, "unary", UNARY_ABOUT, UNARY_LINES, UNARY_AFTER);
     let command = with_command(Ok(command), unary);
-    let replay = script_command(alloc, "replay", REPLAY_ABOUT, REPLAY_LINES);
+    let replay = script_command(alloc, "replay", REPLAY_ABOUT, REPLAY_LINES, REPLAY_AFTER);
     let command = with_command(command, replay);
     let command = with_command(command, probe(alloc));
     let command = with_command(command, check(alloc));
@@ -201,6 +186,14 @@ fn number(found: &ArgMatches<'_>, name: &str) -> Option<u64>
     found.get_one::<u64>(name)
 }
 
+/// The number of bytes that was given under a name, from 0 to 2^63 - 1.
+fn bytes(found: &ArgMatches<'_>, name: &str) -> Option<u64>
+    ensures { result ≡ bytes_of name.now (rows_of (found_of found.now)) }
+{
+    let bytes = size(text(found, name)?.as_bytes())?;
+    if bytes <= MOST { Some(bytes) } else { None }
+}
+
 fn requested_probe<'a>(found: &ArgMatches<'a>) -> Option<Invocation<'a>>
     ensures { option_map invocation_value result ≡ probe_of (rows_of (found_of found.now)) }
 {
@@ -208,7 +201,7 @@ fn requested_probe<'a>(found: &ArgMatches<'a>) -> Option<Invocation<'a>>
     Some(Invocation::Probe {
         port: u16::try_from(port).ok()?,
         send: text(found, "send")?,
-        want: number(found, "want")?,
+        want: bytes(found, "want")?,
         turns: number(found, "turns")?,
     })
 }
@@ -233,11 +226,7 @@ fn lasting_turns(found: &ArgMatches<'_>) -> Option<u64>
         return Some(u64::MAX);
     }
     let turns = number(found, "turns")?;
-    if turns <= MOST_TURNS {
-        Some(turns)
-    } else {
-        None
-    }
+    if turns <= MOST { Some(turns) } else { None }
 }
 
 fn texts<'a>(
@@ -359,11 +348,23 @@ impl From<Error> for CommandLineError {
     }
 }
 
-/// The one value that `clap` does not look at is that of a server's turns.
-fn bad_turns(command: &mut Command<'_>) -> CommandLineError
+const BAD_TURNS: &str = "--turns is not a number from 0 to 9223372036854775807, and not endless";
+
+const BAD_WANT: &str =
+    "--want is not a number of bytes from 0 to 9223372036854775807, as 1000, 64K, 500M or 8G";
+
+/// What is told of a value that `clap` does not look at: a server's turns, or the bytes of a probe.
+fn bad_value_text(matches: &ArgMatches<'_>) -> &'static str {
+    match matches.subcommand() {
+        Some((name, _)) if name == "serve" => BAD_TURNS,
+        _ => BAD_WANT,
+    }
+}
+
+/// The fault of a value that `clap` does not look at.
+fn bad_value(command: &mut Command<'_>, text: &str) -> CommandLineError
     ensures { (words : List (List ℕ)) → invocation_asked words ≡ None → IsFaultOf words result }
 {
-    let text = "--turns is not a number from 0 to 9223372036854775807, and not endless";
     match command.error(ErrorKind::ValueValidation, text) {
         Ok(error) => CommandLineError::from(error),
         Err(_) => CommandLineError::NoMemory,
@@ -387,10 +388,11 @@ fn asked<'a>(
         Err(error) => return Err(CommandLineError::from(error)),
     };
     let requested = requested(alloc, &matches);
+    let text = bad_value_text(&matches);
     drop(matches);
     match requested? {
         Some(invocation) => Ok(invocation),
-        None => Err(bad_turns(command)),
+        None => Err(bad_value(command, text)),
     }
 }
 

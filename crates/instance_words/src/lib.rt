@@ -1,12 +1,16 @@
 //! The words for instances on the command line of `serve`.
 #![tactic(auto)]
 
-ghost use Rattle.std.specs.Prelude.{◌≡◌, ◌++◌, IfOk, IfSome, Some, codes, map, option_map, string_bytes};
+mod mistakes;
+
+ghost use Rattle.std.specs.Prelude.{◌≡◌, ◌++◌, ◌+◌, IfNone, IfOk, IfSome, Some, codes, map, option_map, string_bytes};
 ghost use Rattle.decimals.specs.Number.{decimal_of};
 ghost use Rattle.server_events.specs.Shown.{config_value};
+ghost use Rattle.instance_words.specs.Mistakes.{colons};
 ghost use Rattle.instance_words.specs.Words.{AreWordsOf, IsWordOf, parent_part, written};
 
 use decimals::decimal;
+pub use mistakes::{Mistake, Part, mistake_of};
 use server_events::{ConfigFault, Configs, InstanceConfig};
 use std::alloc::{AllocError, Global};
 use thiserror::Error;
@@ -63,7 +67,10 @@ struct Parts<'a> {
 
 /// What stands before the first colon of a text, and behind it.
 fn cut(text: &str) -> Option<(&str, &str)>
-    ensures { IfSome result (λ parts. text.now ≡ parts.0.now ++ (codes ":" ++ parts.1.now)) }
+    ensures parts { IfSome result (λ parts. text.now
+        ≡ parts.0.now ++ (codes ":" ++ parts.1.now)) }
+    ensures first { IfSome result (λ parts. colons text.now ≡ colons parts.1.now + 1) }
+    ensures none { IfNone result (colons text.now ≡ 0) }
 {
     text.split_once(':')
 }
@@ -111,6 +118,9 @@ fn port_of(digits: &str) -> Option<u16>
         _ => None,
     }
 }
+
+/// The largest quota, in bytes.
+const MOST_QUOTA: u64 = 1 << 40;
 
 /// The most actions that an instance may be asked to run at a time.
 const MOST_SLOTS: u32 = 64;

@@ -1,6 +1,7 @@
 //! The tests, by the crates that they try.
 
 mod cases;
+mod command_line_help;
 mod command_line_mistakes;
 mod command_line_tests;
 mod command_lines;

@@ -6,8 +6,8 @@ use Rattle.command_line.proofs.command.Goals as goal
 
 pub returns : goal.returns
 returns c =
-    let named : app_of c.about-command.result ≡ with_version (new_app (codes "remoted")) =
-    ap app_of_fields c.about-command.ensures ∙ ap app_of_fields c.version.ensures ∙ ap with_version c.new.ensures.app in
+    let named : app_of c.version-command.result ≡ with_version (new_app (codes "remoted")) =
+    ap app_of_fields c.version-command.ensures ∙ ap with_version c.described.ensures.0 in
     let calls = c.with_command-command.ensures _ (script_command (codes "unary")) named c.script_command-unary.ensures in
     let events = c.with_command-command-2.ensures _ (script_command (codes "replay")) calls c.script_command-replay.ensures in
     let probing = c.with_command-command-3.ensures _ probe_command events c.probe.ensures in

@@ -1,10 +1,10 @@
-//! Which command lines are refused, and what is said then, as what help is given.
+//! Which command lines are refused, and what is said then.
 
 use crate::tests::cases::all_hold;
 use crate::tests::command_lines::Wanted::{self, Ends};
 use std::test::*;
 
-static MISTAKES_AND_HELP: [(&str, Wanted); 36] = [
+static MISTAKES: [(&str, Wanted); 29] = [
     (
         "remoted unary",
         Ends(
@@ -103,15 +103,6 @@ static MISTAKES_AND_HELP: [(&str, Wanted); 36] = [
             2,
             "error: unexpected argument '-1' found\n\n\
             Usage: remoted probe [OPTIONS] --port <P> --send <FILE> --want <N>\n\n\
-            For more information, try '--help'.\n",
-        ),
-    ),
-    (
-        "remoted probe --port 1 --send in.bin --want 9223372036854775808",
-        Ends(
-            2,
-            "error: invalid value '9223372036854775808' for '--want <N>': 9223372036854775808 is \
-            not in 0..=9223372036854775807\n\n\
             For more information, try '--help'.\n",
         ),
     ),
@@ -273,98 +264,60 @@ static MISTAKES_AND_HELP: [(&str, Wanted); 36] = [
             For more information, try '--help'.\n",
         ),
     ),
+];
+
+/// What is told where `--want` is no number of bytes.
+const NO_BYTES: &str =
+    "error: --want is not a number of bytes from 0 to 9223372036854775807, as 1000, \
+    64K, 500M or 8G\n\n\
+    Usage: remoted [COMMAND]\n\n\
+    For more information, try '--help'.\n";
+
+static NO_NUMBERS_OF_BYTES: [(&str, Wanted); 10] = [
     (
-        "remoted check --help",
-        Ends(
-            0,
-            "Ask a server on a port what it can do: status 0 where it answers in time, else 4\n\n\
-            Usage: remoted check [OPTIONS] --port <P>\n\n\
-            Options:\n      \
-            --port <P>         The port to connect to\n      \
-            --host <ADDRESS>   The address of the server, IPv4 or IPv6 [default: 127.0.0.1]\n      \
-            --instance <NAME>  The instance that is asked; that of the port if none is named\n      \
-            --seconds <N>      For how many seconds the answer is waited for, 1 to 3600 \
-            [default: 5]\n  \
-            -h, --help             Print help\n",
-        ),
+        "remoted probe --port 1 --send in.bin --want 9223372036854775808",
+        Ends(2, NO_BYTES),
     ),
     (
-        "remoted --help",
-        Ends(
-            0,
-            "A remote build cache for Bazel. Without a command it carries out the script on \
-            standard input\n\n\
-            Usage: remoted [COMMAND]\n\n\
-            Commands:\n  \
-            unary   Carry out a script of calls on instances of its own, without connections\n  \
-            replay  Carry out a script of events on a server of its own, and print what it sends\n  \
-            probe   Send a file's bytes to a server, and print the first bytes that come back\n  \
-            check   Ask a server on a port what it can do: status 0 where it answers in time, \
-            else 4\n  \
-            serve   Serve instances on ports of this host\n  \
-            help    Print this message or the help of the given subcommand(s)\n\n\
-            Options:\n  \
-            -h, --help     Print help\n  \
-            -V, --version  Print version\n",
-        ),
-    ),
-    ("remoted --version", Ends(0, "remoted 0.2.0\n")),
-    (
-        "remoted probe --help",
-        Ends(
-            0,
-            "Send a file's bytes to a server, and print the first bytes that come back\n\n\
-            Usage: remoted probe [OPTIONS] --port <P> --send <FILE> --want <N>\n\n\
-            Options:\n      \
-            --port <P>     The port to connect to\n      \
-            --send <FILE>  The file whose bytes are sent\n      \
-            --want <N>     How many bytes to wait for\n      \
-            --turns <T>    How many turns to take at most [default: 1000000000]\n  \
-            -h, --help         Print help\n",
-        ),
+        "remoted probe --port 1 --send in.bin --want 8388608T",
+        Ends(2, NO_BYTES),
     ),
     (
-        "remoted help replay",
-        Ends(
-            0,
-            "Carry out a script of events on a server of its own, and print what it sends\n\n\
-            Usage: remoted replay <FILE>\n\n\
-            Arguments:\n  \
-            <FILE>  The script: lines `instance NAME QUOTA SLOTS [PARENT]`, and then one line \
-            for each event\n\n\
-            Options:\n  \
-            -h, --help  Print help\n",
-        ),
+        "remoted probe --port 1 --send in.bin --want 16777216T",
+        Ends(2, NO_BYTES),
     ),
     (
-        "remoted serve --help",
-        Ends(
-            0,
-            "Serve instances on ports of this host\n\n\
-            Usage: remoted serve [OPTIONS] --work <DIR> <NAME:PORT:QUOTA:SLOTS[:PARENT]>...\n\n\
-            Arguments:\n  \
-            <NAME:PORT:QUOTA:SLOTS[:PARENT]>...  An instance: name, port, quota in bytes, most \
-            actions at once, and perhaps its parent\n\n\
-            Options:\n      \
-            --work <DIR>          The folder for the work of actions; it is made if it is not \
-            there\n      \
-            --launcher <PROGRAM>  The program that starts the program of each action, as in a \
-            sandbox or elsewhere\n      \
-            --turns <T>           How many turns to take at most, or endless: a busy server \
-            takes the 1000000000 in a day [default: 1000000000]\n      \
-            --listen <ADDRESS>    The address to listen on, IPv4 or IPv6. Whoever can reach a \
-            port there has all of its instance: may read every blob, store results and, with \
-            slots, run programs [default: 127.0.0.1]\n      \
-            --metrics <FILE>      The file to which the server's figures are written every 10 \
-            seconds, for Prometheus\n      \
-            --stop <FILE>         The file that ends the server once it is there; it must not \
-            be there at the start\n  \
-            -h, --help                Print help\n",
-        ),
+        "remoted probe --port 1 --send in.bin --want 8g",
+        Ends(2, NO_BYTES),
+    ),
+    (
+        "remoted probe --port 1 --send in.bin --want 8GB",
+        Ends(2, NO_BYTES),
+    ),
+    (
+        "remoted probe --port 1 --send in.bin --want 8G1",
+        Ends(2, NO_BYTES),
+    ),
+    (
+        "remoted probe --port 1 --send in.bin --want G",
+        Ends(2, NO_BYTES),
+    ),
+    (
+        "remoted probe --port 1 --send in.bin --want=",
+        Ends(2, NO_BYTES),
+    ),
+    (
+        "remoted probe --port 1 --send in.bin --want 1.5G",
+        Ends(2, NO_BYTES),
+    ),
+    (
+        "remoted probe --port 1 --send in.bin --want +8G",
+        Ends(2, NO_BYTES),
     ),
 ];
 
 #[test]
-fn mistakes_and_help(rt: HostRuntime) {
-    all_hold(&rt, &rt, &MISTAKES_AND_HELP);
+fn mistakes(rt: HostRuntime) {
+    all_hold(&rt, &rt, &MISTAKES);
+    all_hold(&rt, &rt, &NO_NUMBERS_OF_BYTES);
 }

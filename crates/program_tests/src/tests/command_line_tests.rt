@@ -5,7 +5,7 @@ use crate::tests::command_lines::Task;
 use crate::tests::command_lines::Wanted::{self, Asks};
 use std::test::*;
 
-static TASKS: [(&str, Wanted); 12] = [
+static TASKS: [(&str, Wanted); 15] = [
     (
         "remoted",
         Asks(Task {
@@ -52,6 +52,36 @@ static TASKS: [(&str, Wanted); 12] = [
             kind: "probe",
             file: Some("in.bin"),
             numbers: (65535, 9223372036854775807, 0),
+            others: &[],
+            instances: &[],
+        }),
+    ),
+    (
+        "remoted probe --port 1 --send in.bin --want 64K",
+        Asks(Task {
+            kind: "probe",
+            file: Some("in.bin"),
+            numbers: (1, 65536, 1000000000),
+            others: &[],
+            instances: &[],
+        }),
+    ),
+    (
+        "remoted probe --port 1 --send in.bin --want 0500M",
+        Asks(Task {
+            kind: "probe",
+            file: Some("in.bin"),
+            numbers: (1, 524288000, 1000000000),
+            others: &[],
+            instances: &[],
+        }),
+    ),
+    (
+        "remoted probe --port 1 --send in.bin --want 8388607T",
+        Asks(Task {
+            kind: "probe",
+            file: Some("in.bin"),
+            numbers: (1, 9223370937343148032, 1000000000),
             others: &[],
             instances: &[],
         }),

@@ -88,9 +88,11 @@ fn unremoved(wrong: Option<Deed>) -> Option<RunKey> {
     }
 }
 
-/// Runs over fakes, at which nothing has happened yet.
+/// Runs over fakes, at which nothing has happened yet. There is room to note so many starts by
+/// themselves.
 fn new_runs(
     alloc: Global,
+    room: usize,
     of_folder: Failing,
     of_programs: Failing,
 ) -> Result<LoggedRuns<FakeRunner>, AllocError>
@@ -98,7 +100,7 @@ fn new_runs(
 {
     let folder = LoggedFolder::new(alloc, FakeFolder::new(alloc, of_folder));
     let programs = LoggedPrograms::new(alloc, FakePrograms::new(alloc, of_programs));
-    let runner = JobRunner::new(alloc, folder, programs, NAMES.len())?;
+    let runner = JobRunner::new(alloc, folder, programs, room)?;
     Ok(LoggedRuns::new(alloc, runner))
 }
 
@@ -138,13 +140,15 @@ fn tell<'a>(
     }
 }
 
-/// A run of the case, in which one call of a fake goes wrong.
+/// A run of the case, in which one call of a fake goes wrong. There is room to note so many starts
+/// by themselves.
 pub fn carry_out<'a>(
     alloc: Global,
     configs: &Configs,
     texts: &'a [Vec<u8>],
     fake: Fake,
     failing: Failing,
+    room: usize,
 ) -> Result<Told<'a>, AllocError> {
     let never = Failing { at: 0, ..failing };
     let (of_folder, of_programs, of_sockets) = match fake {
@@ -154,7 +158,7 @@ pub fn carry_out<'a>(
     };
     let fake_sockets = FakeSockets::new(clients(alloc, texts)?, of_sockets);
     let mut sockets = LoggedSockets::new(alloc, fake_sockets);
-    let mut runs = new_runs(alloc, of_folder, of_programs)?;
+    let mut runs = new_runs(alloc, room, of_folder, of_programs)?;
     let mut errors = ErrorLines::new(alloc, Vec::new(alloc), NAMES.len())?;
     serve(
         alloc,
@@ -205,7 +209,7 @@ fn cut_short(
     };
     let fake_sockets = FakeSockets::new(clients(alloc, texts)?, never);
     let mut sockets = LoggedSockets::new(alloc, fake_sockets);
-    let mut runs = new_runs(alloc, Failing { at, ..never }, never)?;
+    let mut runs = new_runs(alloc, NAMES.len(), Failing { at, ..never }, never)?;
     let mut errors = ErrorLines::new(alloc, Vec::new(alloc), NAMES.len())?;
     serve(
         alloc,

@@ -137,5 +137,5 @@ impl<'a> Sockets for FakeSockets<'a> {
         self.calls.faults
     }
 
-    fn rest(&mut self, _idle_turns: u64) {}
+    fn rest(&mut self, _most: u64) {}
 }

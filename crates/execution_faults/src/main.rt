@@ -4,8 +4,8 @@
 //! Each line of standard input is what a client sends, in hexadecimal. Written is what each client
 //! is sent, where nothing goes wrong and where the run of a job fails; and then for each way to go
 //! wrong how many calls there are, how many runs of the whole there were, how many of these came to
-//! something that is not right, and what the others came to; and last what is left where only a few
-//! turns are taken, and what then, once all that is left was ended, also where the first removal of
+//! something that is not right, and what the others came to, the first of them once more where no
+//! start is noted by itself; and last what is left where only a few turns are taken, and what then, once all that is left was ended, also where the first removal of
 //! these fails. Behind that stand lines that were written to an output which takes some in part, or
 //! not at once.
 #![tactic(auto)]
@@ -154,17 +154,19 @@ fn configs(output: &mut Output) -> Option<Configs> {
     }
 }
 
-/// A run of the whole in which the call of this number goes wrong, counted from 1.
+/// A run of the whole in which the call of this number goes wrong, counted from 1. There is room to
+/// note so many starts by themselves.
 fn try_one(
     configs: &Configs,
     texts: &[Vec<u8>],
     pass: Pass,
+    room: usize,
     at: u64,
     judge: &mut Judge,
     output: &mut Output,
 ) -> Ran {
     let (alloc, (name, fake, fault, word)) = (output.alloc, pass);
-    let Ok(told) = carry_out(alloc, configs, texts, fake, Failing { at, fault }) else {
+    let Ok(told) = carry_out(alloc, configs, texts, fake, Failing { at, fault }, room) else {
         output.fail(Fault::OutOfMemory);
         return Ran {
             is_right: false,
@@ -183,11 +185,13 @@ fn try_one(
     }
 }
 
-/// Lets each call of a fake go wrong in turn, and tells what came of it.
+/// Lets each call of a fake go wrong in turn, and tells what came of it. There is room to note so
+/// many starts by themselves.
 fn carry_out_pass(
     configs: &Configs,
     texts: &[Vec<u8>],
     pass: Pass,
+    room: usize,
     judge: &mut Judge,
     output: &mut Output,
 ) {
@@ -195,7 +199,7 @@ fn carry_out_pass(
     let mut tallies = Vec::new(alloc);
     let (mut calls, mut runs, mut differing): (u64, u64, u64) = (0, 0, 0);
     for at in 1..MOST_CALLS {
-        let ran = try_one(configs, texts, pass, at, judge, output);
+        let ran = try_one(configs, texts, pass, room, at, judge, output);
         (calls, runs) = (ran.calls, at);
         differing = differing.saturating_add(u64::from(!ran.is_right));
         match ran.wrong {
@@ -220,10 +224,13 @@ fn carry_out_all(input: &[u8], output: &mut Output) {
     let texts = texts(input, output);
     let mut judge = Judge::new(output);
     // In the first run nothing goes wrong.
-    let _ = try_one(&configs, &texts, PASSES[0], 0, &mut judge, output);
+    let room = NAMES.len();
+    let _ = try_one(&configs, &texts, PASSES[0], room, 0, &mut judge, output);
     for pass in &PASSES {
-        carry_out_pass(&configs, &texts, *pass, &mut judge, output);
+        carry_out_pass(&configs, &texts, *pass, room, &mut judge, output);
     }
+    output.print(b"no room for starts, ");
+    carry_out_pass(&configs, &texts, PASSES[0], 0, &mut judge, output);
     for turns in [4, 8, 12] {
         let told = cut_short_each(&configs, &texts, turns, output);
         output.expect(told);

@@ -1,10 +1,14 @@
 -- What becomes of the connections of a port when a table of them changes.
-use Rattle.std.proofs.Common.{◌≡◌, ◌==◌, ap, sym, subst, ◌∙◌, ℕ, Bool, true, false, if◌then◌else◌, ◌++◌, inl, inr, nat_eq, List, [], ◌∷◌, Option, Some, None, is_some, IsSomeAnd}
+use Rattle.std.proofs.Common.{◌≡◌, ◌==◌, ◌||◌, refl, ap, sym, subst, ◌∙◌, ℕ, Bool, true, false, if◌then◌else◌, ◌++◌, inl, inr, nat_eq, List, [], ◌∷◌, Option, Some, None, is_some, IfSome, IsSomeAnd}
 use Rattle.std.specs.HashMap.{HashMap, IsReordered, Updates, WritesThrough}
-use Rattle.std.proofs.lemmas.Bool.{ne_eqb}
+use Rattle.std.proofs.lemmas.Bool.{ne_eqb, true≢false}
+use Rattle.std.proofs.lemmas.Bool.Decides.{eqb_tells}
 use Rattle.host_sockets.specs.declared.lingering.Lingering.{Lingering}
+use Rattle.host_sockets.specs.declared.watched.Watched.{Watched}
 use Rattle.wires.specs.Wires.{WireEvent, Adds, IsNew, shut}
-use Rattle.host_sockets.specs.Ports.{Closes, HappensOn, IsKept, OthersHold, Turns, wire_at}
+use Rattle.wires.specs.declared.News.{News}
+use Rattle.host_sockets.specs.Told.{IsTold}
+use Rattle.host_sockets.specs.Ports.{Closes, HappensOn, IsKept, OthersHold, Turns, on, wire_at}
 
 module _ {W S : Type 0} (happened : W → Option (List WireEvent)) (c : ℕ) where
   -- one is written to through what the table lent
@@ -21,34 +25,113 @@ module _ {W S : Type 0} (happened : W → Option (List WireEvent)) (c : ℕ) whe
         λ d apart. updates.2 d (ne_eqb c d (λ same. apart (sym same))),
       )
 
+module _ {W S : Type 0} (happened : W → Option (List WireEvent)) (c : ℕ) where
   -- one is put in
-  pub put_in : (old room new : HashMap ℕ W S) (w : W) (before after : Option (List W))
-      → IsReordered nat_eq old room → Updates nat_eq room new c (Some w)
-      → Adds before after (w ∷ []) → IsNew (happened w)
-      → IsSomeAnd (wire_at c new.entries) (λ v. Adds before after (v ∷ []) × IsNew (happened v))
+  pub put_in : (old room new : HashMap ℕ (Watched W) S) (w : Watched W) (x : W)
+      (before after : Option (List W))
+      → IsReordered nat_eq old room → Updates nat_eq room new c (Some w) → w.wire ≡ x
+      → Adds before after (x ∷ []) → IsNew (happened x)
+      → IsSomeAnd (wire_at c new.entries)
+      (λ v. Adds before after (v.wire ∷ []) × IsNew (on happened v))
       × OthersHold c old.entries new.entries
-  put_in old room new w before after reordered updates adds fresh = (
-    subst (λ (o : Option W). IsSomeAnd o (λ v. Adds before after (v ∷ []) × IsNew (happened v)))
-        (sym updates.1) (adds, fresh),
+  put_in old room new w x before after reordered updates is adds fresh = (
+    subst (λ (o : Option (Watched W)). IsSomeAnd o
+        (λ v. Adds before after (v.wire ∷ []) × IsNew (on happened v))) (sym updates.1)
+        (subst (λ (y : W). Adds before after (y ∷ []) × IsNew (happened y)) (sym is) (adds, fresh)),
     λ d apart. updates.2 d (ne_eqb c d (λ same. apart (sym same))) ∙ reordered.2 d,
   )
 
   -- one is taken out, of which this is kept
-  pub taken_out : (old new : HashMap ℕ W S) (w : W) (lingered lingering : List (Lingering W))
+  pub taken_out : (old new : HashMap ℕ (Watched W) S) (w : Watched W)
+      (lingered lingering : List (Lingering W))
       → Updates nat_eq old new c None → Some w ≡ wire_at c old.entries
       → IsKept happened (Some w) lingered lingering
       → Closes happened c old.entries lingered new.entries lingering
   taken_out old new w lingered lingering updates was is_kept = (
     updates.1,
-    subst (λ (o : Option W). IsKept happened o lingered lingering) was is_kept,
+    subst (λ (o : Option (Watched W)). IsKept happened o lingered lingering) was is_kept,
     λ d apart. updates.2 d (ne_eqb c d (λ same. apart (sym same))),
   )
 
+-- one becomes this, through what the table lent
+pub lent : {V S : Type 0} (Becomes : V → V → Type 0) (c : ℕ) (old new : HashMap ℕ V S) (w v : V)
+    → WritesThrough nat_eq (λ n. c == n) old v new → Some w ≡ wire_at c old.entries → Becomes w v
+    → Turns Becomes (wire_at c old.entries) (wire_at c new.entries)
+lent {V} B c old new w v through was so =
+    subst (λ (o : Option V). Turns B o (wire_at c new.entries)) was
+    (subst (λ (o : Option V). IsSomeAnd o (B w)) (sym (through.3 (ap is_some (sym was))).1) so)
+
+is_told : {W : Type 0} (w : Watched W) → IsTold w w
+is_told w = record { wire = refl; reads = λ so. so; writes = λ so. so }
+
+pub still_told : {W : Type 0} (o : Option (Watched W)) → Turns IsTold o o
+still_told None = refl
+still_told (Some w) = is_told w
+
+or_true : (a b : Bool) → a ≡ true → (a || b) ≡ true
+or_true true b is = refl
+or_true false b is = absurd (true≢false (sym is))
+
+or_other : (a b : Bool) → b ≡ true → (a || b) ≡ true
+or_other true b is = refl
+or_other false b is = is
+
+module _ {W S : Type 0} (c : ℕ) (news : News) (old new : HashMap ℕ (Watched W) S)
+    (w v : Watched W) (through : WritesThrough nat_eq (λ n. c == n) old v new)
+    (was : Some w ≡ wire_at c old.entries) where
+  -- one is told, and all stay
+  pub told_one : v.wire ≡ w.wire → v.may_read ≡ (w.may_read || news.may_read)
+      → v.may_write ≡ (w.may_write || news.may_write)
+      → (d : ℕ) → Turns IsTold (wire_at d old.entries) (wire_at d new.entries)
+  told_one same reads writes d = elim (eqb_tells d c) [
+    | inl t ↦ subst (λ (n : ℕ). Turns IsTold (wire_at n old.entries) (wire_at n new.entries))
+        (sym t.1) (lent IsTold c old new w v through was record {
+          wire = same;
+          reads = λ so. reads ∙ or_true w.may_read news.may_read so;
+          writes = λ so. writes ∙ or_true w.may_write news.may_write so;
+        })
+    | inr t ↦ subst (λ (o : Option (Watched W)). Turns IsTold (wire_at d old.entries) o)
+        (sym ((through.3 (ap is_some (sym was))).2 d (ne_eqb c d (λ is. t.1 (sym is)))))
+        (still_told (wire_at d old.entries))
+  ]
+
+  -- the news is told of it
+  pub told_so : v.may_read ≡ (w.may_read || news.may_read)
+      → v.may_write ≡ (w.may_write || news.may_write)
+      → IfSome (wire_at c new.entries) (λ x. (news.may_read ≡ true → x.may_read ≡ true)
+      × (news.may_write ≡ true → x.may_write ≡ true))
+  told_so reads writes = subst (λ (o : Option (Watched W)). IfSome o
+      (λ x. (news.may_read ≡ true → x.may_read ≡ true)
+      × (news.may_write ≡ true → x.may_write ≡ true)))
+      (sym (through.3 (ap is_some (sym was))).1) (
+        λ so. reads ∙ or_other w.may_read news.may_read so,
+        λ so. writes ∙ or_other w.may_write news.may_write so,
+      )
+
+-- of none nothing is told
+pub none_is_told : {W : Type 0} (o : Option (Watched W)) (P : Watched W → Type 0) → o ≡ None
+    → IfSome o P
+none_is_told None P is = tt
+none_is_told (Some w) P is = absurd (true≢false (ap is_some is))
+
+-- one that was put in is told
+pub put_is_told : {W S : Type 0} (c : ℕ) (room new : HashMap ℕ (Watched W) S) (w : Watched W)
+    → Updates nat_eq room new c (Some w) → w.may_read ≡ true
+    → IsSomeAnd (wire_at c new.entries) (λ v. v.may_read ≡ true)
+put_is_told {W} c room new w updates is =
+    subst (λ (o : Option (Watched W)). IsSomeAnd o (λ v. v.may_read ≡ true)) (sym updates.1) is
+
 module _ {W : Type 0} (happened : W → Option (List WireEvent)) where
   -- what was shut is put among those that linger, where there is room
-  pub pushed : (w v : W) (kept : Lingering W) (lingered lingering : List (Lingering W)) (b : Bool)
+  pub pushed : (w : Watched W) (v : W) (kept : Lingering W)
+      (lingered lingering : List (Lingering W)) (b : Bool)
       → lingering ≡ (if b then lingered ++ kept ∷ [] else lingered) → kept.wire ≡ v
-      → Adds (happened w) (happened v) (shut ∷ []) → IsKept happened (Some w) lingered lingering
+      → Adds (on happened w) (happened v) (shut ∷ []) → IsKept happened (Some w) lingered lingering
   pushed w v kept lingered lingering true is same adds =
-      inr (kept, is, subst (λ (x : W). Adds (happened w) (happened x) (shut ∷ [])) (sym same) adds)
+      inr (
+        kept,
+        is,
+        subst (λ (x : W). Adds (on happened w) (happened x) (shut ∷ []))
+            (sym same) adds,
+      )
   pushed w v kept lingered lingering false is same adds = inl is

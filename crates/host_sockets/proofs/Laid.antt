@@ -5,7 +5,7 @@ use Rattle.std.specs.Prelude.{is_some, IfSome}
 use Rattle.std.proofs.lemmas.Bool.{true≢false}
 use Rattle.std.proofs.lemmas.Bool.Decides.{eqb_tells}
 use Rattle.std.proofs.lemmas.List.Sums.{fold-append}
-use Rattle.serve.specs.SocketEvents.{PortEvent, SocketEvent, port, accepted, read, written, shut}
+use Rattle.serve.specs.SocketEvents.{PortEvent, SocketEvent, port, failed, accepted, read, written, shut}
 use Rattle.wires.specs.Wires.{WireEvent, Adds, IsNew, came, sent}
 use Rattle.wires.specs.Wires as wire
 use Rattle.host_sockets.specs.Laid.{at_number, on_wire, wire_events}
@@ -153,6 +153,14 @@ module _ {W : Type 0} (happened : W → Option (List WireEvent)) where
     still_laid others own = goes old new j d h (h ++ []) []
         (λ i c apart. ap (wire_events i c) (append-nil h))
         (ap (wire_events j d) (append-nil h) ∙ sym (append-nil (wire_events j d h))) others own
+
+    -- a call on it failed
+    pub failed_laid : OthersAre j d old new → Goes j d [] old new → Laid old h
+        → Laid new (h ++ failed j d ∷ [])
+    failed_laid others own = goes old new j d h (h ++ failed j d ∷ []) []
+        (λ i c apart. fold-append (on_wire i c) [] h (failed j d ∷ []))
+        (fold-append (on_wire j d) [] h (failed j d ∷ []) ∙ sym (append-nil (wire_events j d h)))
+        others own
 
     -- a new client has a number
     pub accepted_laid : OthersAre j d old new

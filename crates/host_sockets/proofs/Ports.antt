@@ -1,12 +1,11 @@
 -- Where one port changes, and stays where it was, the others stay.
 use Rattle.std.proofs.Common.{◌≡◌, ◌≢◌, ◌∙◌, refl, ap, subst, ℕ, zero, suc, List, [], ◌∷◌, map, slice_get, slice_set, slice_index_or, Option, Some, None, is_some}
 use Rattle.std.proofs.lemmas.Bool.{true≢false}
-use Rattle.wires.specs.Wires.{WireEvent}
-use Rattle.host_sockets.proofs.Left.{stay_again}
+use Rattle.std.specs.List.{AllZip}
 use Rattle.std.proofs.Math.Seq.{map-set_same}
 use Rattle.std.specs.declared.net.socket_addr.SocketAddr.{SocketAddr}
 use Rattle.host_sockets.specs.declared.port.Port.{Port}
-use Rattle.host_sockets.specs.Ports.{BecomesAt, OnlyClosedGo, OpenStay, OthersStay, Turns}
+use Rattle.host_sockets.specs.Ports.{BecomesAt, OthersStay, Turns}
 
 slice_get-set_other : {X : Type 0} (xs : List X) (i j : ℕ) (w : X) → j ≢ i
     → slice_get (slice_set xs i w) j ≡ slice_get xs j
@@ -54,16 +53,16 @@ module _ {D W : Type 0} where
       → BecomesAt i Becomes old (slice_set old i after)
   one_becomes Becomes old i port after was so = becomes Becomes old i port after was so
 
-  module _ (happened : W → Option (List WireEvent)) where
-    -- of one more port closed ones went
-    pub still_open : (old ports : List (Port D W)) (i : ℕ) (port after : Port D W)
-        → port ≡ slice_index_or ports i port
-        → OnlyClosedGo happened (slice_index_or ports i port) after
-        → OpenStay happened old ports → OpenStay happened old (slice_set ports i after)
-    still_open [] [] i port after is goes stay = tt
-    still_open [] (q ∷ qs) i port after is goes bad = absurd bad
-    still_open (p ∷ ps) [] i port after is goes bad = absurd bad
-    still_open (p ∷ ps) (q ∷ qs) zero port after is goes stay =
-        (stay_again happened p q after stay.0 goes, stay.1)
-    still_open (p ∷ ps) (q ∷ qs) (suc i) port after is goes stay =
-        (stay.0, still_open ps qs i port after is goes stay.1)
+  -- of one more port this came next, where what comes in turn is alike
+  pub one_more : (Becomes : Port D W → Port D W → Type 0)
+      → ((p q r : Port D W) → Becomes p q → Becomes q r → Becomes p r)
+      → (old ports : List (Port D W)) (i : ℕ) (port after : Port D W)
+      → port ≡ slice_index_or ports i port → Becomes (slice_index_or ports i port) after
+      → AllZip Becomes old ports → AllZip Becomes old (slice_set ports i after)
+  one_more B again [] [] i port after is goes stay = tt
+  one_more B again [] (q ∷ qs) i port after is goes bad = absurd bad
+  one_more B again (p ∷ ps) [] i port after is goes bad = absurd bad
+  one_more B again (p ∷ ps) (q ∷ qs) zero port after is goes stay =
+      (again p q after stay.0 goes, stay.1)
+  one_more B again (p ∷ ps) (q ∷ qs) (suc i) port after is goes stay =
+      (stay.0, one_more B again ps qs i port after is goes stay.1)

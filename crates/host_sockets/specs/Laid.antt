@@ -1,8 +1,9 @@
 -- What a list of what happened at sockets says of each connection.
 use Rattle.std.specs.Prelude.{◌≡◌, ◌==◌, ℕ, if◌then◌else◌, List, [], ◌∷◌, ◌++◌, fold, Option, Some}
-use Rattle.serve.specs.SocketEvents.{PortEvent, SocketEvent, clock, port, accepted, read, written, shut}
+use Rattle.serve.specs.SocketEvents.{PortEvent, SocketEvent, clock, port, failed, accepted, read, written, shut}
 use Rattle.host_sockets.specs.declared.port.Port.{Port}
-use Rattle.host_sockets.specs.Ports.{wires_of}
+use Rattle.host_sockets.specs.declared.watched.Watched.{Watched}
+use Rattle.host_sockets.specs.Ports.{on, wires_of}
 use Rattle.wires.specs.Wires.{WireEvent, came, sent}
 use Rattle.wires.specs.Wires as wire
 
@@ -17,6 +18,7 @@ at_number c so (shut d) = if d == c then so ++ wire.shut ∷ [] else so
 abbrev pub on_wire : ℕ → ℕ → List WireEvent → SocketEvent → List WireEvent
 on_wire i c so (clock n) = so
 on_wire i c so (port j x) = if j == i then at_number c so x else so
+on_wire i c so (failed j d) = so
 
 abbrev pub wire_events : ℕ → ℕ → List SocketEvent → List WireEvent
 wire_events i c h = fold (on_wire i c) [] h
@@ -25,5 +27,5 @@ wire_events i c h = fold (on_wire i c) [] h
 -- known
 abbrev pub AreLaid : {D W : Type 0} → (W → Option (List WireEvent)) → List (Port D W) →
     List SocketEvent → Type 0
-AreLaid {D} {W} happened ports h = (i c : ℕ) (w : W) (on : List WireEvent)
-    → wires_of ports i c ≡ Some w → happened w ≡ Some on → on ≡ wire_events i c h
+AreLaid {D} {W} happened ports h = (i c : ℕ) (w : Watched W) (so : List WireEvent)
+    → wires_of ports i c ≡ Some w → on happened w ≡ Some so → so ≡ wire_events i c h

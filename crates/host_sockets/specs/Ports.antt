@@ -9,6 +9,7 @@ use Rattle.std.specs.declared.net.socket_addr.SocketAddr.{SocketAddr}
 use Rattle.host_sockets.specs.declared.HostSockets.{HostSockets}
 use Rattle.host_sockets.specs.declared.lingering.Lingering.{Lingering}
 use Rattle.host_sockets.specs.declared.port.Port.{Port}
+use Rattle.host_sockets.specs.declared.watched.Watched.{Watched}
 use Rattle.host_sockets.specs.Came.{OnlyCame}
 use Rattle.wires.specs.Wires.{WireEvent, Adds, IsNew, shut}
 
@@ -38,27 +39,31 @@ HappensOn happened c more old new =
     Turns (λ w v. Adds (happened w) (happened v) more) (wire_at c old) (wire_at c new)
     × OthersHold c old new
 
+-- what happened on a connection, as far as it is known
+abbrev pub on : {W : Type 0} → (W → Option (List WireEvent)) → Watched W → Option (List WireEvent)
+on happened watched = happened watched.wire
+
 -- the client with this number is the one that the door let in next, and new; without an answer the
 -- door let nobody in
 abbrev pub LetsIn : {W E : Type 0} → (W → Option (List WireEvent)) → ℕ → Result ⊤ E →
-    Option (List W) → List (ℕ × W) → Option (List W) → List (ℕ × W) → Type 0
+    Option (List W) → List (ℕ × Watched W) → Option (List W) → List (ℕ × Watched W) → Type 0
 LetsIn happened c (Ok x) before old after new =
-    IsSomeAnd (wire_at c new) (λ w. Adds before after (w ∷ []) × IsNew (happened w))
+    IsSomeAnd (wire_at c new) (λ w. Adds before after (w.wire ∷ []) × IsNew (on happened w))
     × OthersHold c old new
 LetsIn happened c (Err e) before old after new =
     Adds before after [] × ((d : ℕ) → wire_at d new ≡ wire_at d old)
 
 -- what is kept of a connection, among those that linger, was shut; where there was none, none is
-abbrev pub IsKept : {W : Type 0} → (W → Option (List WireEvent)) → Option W →
+abbrev pub IsKept : {W : Type 0} → (W → Option (List WireEvent)) → Option (Watched W) →
     List (Lingering W) → List (Lingering W) → Type 0
 IsKept happened None old new = new ≡ old
 IsKept {W} happened (Some w) old new = (new ≡ old)
     ⊎ ((kept : Lingering W) × (new ≡ old ++ kept ∷ [])
-    × Adds (happened w) (happened kept.wire) (shut ∷ []))
+    × Adds (on happened w) (happened kept.wire) (shut ∷ []))
 
 -- the connection of this number is gone, and no other
-abbrev pub Closes : {W : Type 0} → (W → Option (List WireEvent)) → ℕ → List (ℕ × W) →
-    List (Lingering W) → List (ℕ × W) → List (Lingering W) → Type 0
+abbrev pub Closes : {W : Type 0} → (W → Option (List WireEvent)) → ℕ → List (ℕ × Watched W) →
+    List (Lingering W) → List (ℕ × Watched W) → List (Lingering W) → Type 0
 Closes happened c old lingered new lingering =
     (wire_at c new ≡ None) × IsKept happened (wire_at c old) lingered lingering
     × OthersHold c old new
@@ -89,7 +94,7 @@ AreAt at ports =
     AllByRecursion (λ port. IfSome (at port.door) (λ address. address ≡ port.address)) ports
 
 -- the connection of a number at the port of an instance, if there is one
-abbrev pub wires_of : {D W : Type 0} → List (Port D W) → ℕ → ℕ → Option W
+abbrev pub wires_of : {D W : Type 0} → List (Port D W) → ℕ → ℕ → Option (Watched W)
 wires_of ports instance connection =
     option_and_then (λ port. wire_at connection port.wires.entries) (slice_get ports instance)
 
@@ -117,7 +122,7 @@ BecomesAt instance Becomes old new =
 abbrev pub HappensAt : {D W : Type 0} → (W → Option (List WireEvent)) → ℕ → List WireEvent →
     Port D W → Port D W → Type 0
 HappensAt happened connection more old new =
-    HappensOn happened connection more old.wires.entries new.wires.entries
+    HappensOn (on happened) connection more old.wires.entries new.wires.entries
     × (new.door ≡ old.door) × (new.lingering ≡ old.lingering)
 
 -- a client is let in by the port's own door, as `LetsIn` says, which is where it was; what lingers

@@ -7,11 +7,13 @@ ghost use Rattle.serve.specs.SocketEvents.{Adds, Carries, accept_events, clock, 
 ghost use Rattle.wires.specs.Wires as wires;
 ghost use Rattle.host_sockets.specs.Ports.{AreAt, BecomesAt, ClosesAt, HappensAt, IsOpen, LetsInAt, ListensAt, NoneIsOpen, OpenStay, OthersStay, addresses};
 ghost use Rattle.host_sockets.specs.Laid.{AreLaid};
+ghost use Rattle.host_sockets.specs.Told.{ArePassedOn, AreTold, StaysToldAt, wait_of};
 
 mod counts;
 mod laws;
 mod lingering;
 mod port;
+mod watched;
 
 use crate::port::Port;
 pub use counts::SocketCounts;
@@ -27,17 +29,13 @@ use wires::{Door, Host, Wire};
 /// The most bytes that are dropped of a closed connection at a time.
 const DROP_LIMIT: usize = 16_384;
 
-/// How many ports are looked at a time at which clients wait. Any further one is found the next
-/// time.
-const WAITING_LIMIT: usize = 256;
-
 /// Why there are no sockets.
 #[derive(Debug, Drop, Error)]
 pub enum ListenError {
     /// There is no listening on this port.
     #[error("cannot listen on {0}: {1}")]
     Port(SocketAddr, io::Error),
-    /// The system has no clock, or nothing that finds who waits, or no memory.
+    /// The system has no clock, or nothing that tells what came, or no memory.
     #[error("{0}")]
     Host(#[from] io::Error),
 }
@@ -159,6 +157,8 @@ impl<'a, H: Host> HostSockets<'a, H> {
         ensures own { BecomesAt socket.instance (HappensAt H.Door.Wire.happened
             socket.connection (wires.read_events result room.new)) self.old.ports.items
             self.new.ports.items }
+        ensures told { BecomesAt socket.instance (StaysToldAt socket.connection result)
+            self.old.ports.items self.new.ports.items }
         ensures others { OthersStay socket.instance self.old.ports.items self.new.ports.items }
     {
         match self.ports.get_mut(socket.instance as usize) {
@@ -181,13 +181,12 @@ impl<'a, H: Host> HostSockets<'a, H> {
         }
     }
 
-    /// Reads the clock, drops what closed connections bring, and looks at which ports clients wait.
+    /// Reads the clock, and drops what closed connections bring.
     fn go_on(&mut self)
         ensures { OpenStay H.Door.Wire.happened self.old.ports.items self.new.ports.items }
     {
         self.moment = self.moment.max(self.passed());
         port::drop_rest(&mut self.ports, self.moment, &mut self.room);
-        self.find_waiting();
     }
 
     /// Sends no more on a connection, and keeps it for what its client still sends.
@@ -206,7 +205,8 @@ impl<'a, H: Host> HostSockets<'a, H> {
 
     /// Counts a fault.
     fn count<T: Drop>(&mut self, outcome: &io::Result<T>)
-        ensures { self.new.ports ≡ self.old.ports }
+        ensures ports { self.new.ports ≡ self.old.ports }
+        ensures host { self.new.host ≡ self.old.host }
     {
         if let Err(error) = outcome {
             if !is_not_ready(error) {
@@ -215,32 +215,34 @@ impl<'a, H: Host> HostSockets<'a, H> {
         }
     }
 
-    /// Finds the ports to which clients came. Where that fails, one may wait at each.
-    fn find_waiting(&mut self)
-        ensures { self.new.ports ≡ self.old.ports }
+    /// For how many milliseconds it waits that may wait for so many: for one at most where there is
+    /// something to do of which nothing more is told.
+    fn wait_of(&self, most: u64) -> u64
+        ensures { result ≡ wait_of most self.now.ports.items }
     {
-        let found = self.host.find();
-        self.count(&found);
-        if found.is_err() {
-            for port in &self.ports {
-                port.may_have_come();
-            }
+        if port::have_more(&self.ports) {
+            most.min(1)
+        } else {
+            most
         }
-        for nth in 0..WAITING_LIMIT {
-            let Some(place) = self.host.found(nth) else {
-                return;
-            };
-            if let Some(port) = self.ports.get(place) {
-                port.may_have_come();
-            }
-        }
+    }
+
+    /// Learns what came, and waits for it for at most so many milliseconds. Where that fails, the
+    /// next time tells it.
+    fn look(&mut self, most: u64)
+        ensures stay { AreTold self.old.ports.items self.new.ports.items }
+        ensures told { ArePassedOn (H.learned self.new.host) self.new.ports.items }
+        ensures waits { wires.Adds (H.waits self.old.host) (H.waits self.new.host) (most ∷ []) }
+    {
+        let looked = self.host.look(most);
+        self.count(&looked);
+        port::tell(&self.host, &mut self.ports);
     }
 }
 
 impl<'a, H: Host> Sockets for HostSockets<'a, H> {
     ghost carries = { λ s h. AreLaid H.Door.Wire.happened s.ports.items h };
 
-    /// It also looks at which ports clients wait, once for all of them.
     fn now(&mut self) -> u64
         ensures open { OpenStay H.Door.Wire.happened self.old.ports.items
             self.new.ports.items }
@@ -278,6 +280,8 @@ impl<'a, H: Host> Sockets for HostSockets<'a, H> {
         ensures own { BecomesAt socket.instance (HappensAt H.Door.Wire.happened
             socket.connection (wires.read_events result room.new)) self.old.ports.items
             self.new.ports.items }
+        ensures told { BecomesAt socket.instance (StaysToldAt socket.connection result)
+            self.old.ports.items self.new.ports.items }
         ensures others { OthersStay socket.instance self.old.ports.items self.new.ports.items }
         ensures adds { Adds None None (read_events socket result room.new) }
         ensures carries { Carries (AreLaid H.Door.Wire.happened self.old.ports.items)
@@ -323,18 +327,16 @@ impl<'a, H: Host> Sockets for HostSockets<'a, H> {
         self.faults
     }
 
-    fn rest(&mut self, idle_turns: u64)
-        ensures ports { self.new.ports ≡ self.old.ports }
+    /// It waits for a millisecond at most where something came that was not taken.
+    fn rest(&mut self, most: u64)
+        ensures stay { AreTold self.old.ports.items self.new.ports.items }
+        ensures told { ArePassedOn (H.learned self.new.host) self.new.ports.items }
+        ensures waits { wires.Adds (H.waits self.old.host) (H.waits self.new.host)
+            (wait_of most self.old.ports.items ∷ []) }
         ensures adds { Adds None None [] }
         ensures carries { Carries (AreLaid H.Door.Wire.happened self.old.ports.items)
             (AreLaid H.Door.Wire.happened self.new.ports.items) [] }
     {
-        if idle_turns < 100 {
-            self.host.rest(0);
-        } else if idle_turns < 300 {
-            self.host.rest(50);
-        } else {
-            self.host.rest(1_000);
-        }
+        self.look(self.wait_of(most));
     }
 }

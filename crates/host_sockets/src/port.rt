@@ -1,19 +1,21 @@
 //! The port of an instance.
 
-ghost use Rattle.std.specs.Prelude.{◌≡◌, [], IfOk, OnOk, true};
+ghost use Rattle.std.specs.Prelude.{◌≡◌, ◌≤◌, [], IfOk, IfSome, IsSomeAnd, OnOk, Some, length, true};
+ghost use Rattle.std.specs.List.{list_any};
 ghost use Rattle.std.specs.Io.{ReadsAtMost, WritesAtMost};
 ghost use Rattle.wires.specs.Wires.{read_events, write_events};
-ghost use Rattle.host_sockets.specs.Ports.{Closes, HappensOn, LetsIn, OnlyClosedGo, OpenStay, has_open};
+ghost use Rattle.host_sockets.specs.Ports.{Closes, HappensOn, LetsIn, OnlyClosedGo, OpenStay, has_open, on, wire_at};
+ghost use Rattle.host_sockets.specs.Told.{ArePassedOn, AreTold, IsPassedOn, IsToldOf, OnlyTold, StaysToldAt, has_more, may_read};
 
 use crate::counts::SocketCounts;
 use crate::lingering::{LINGERING_LIMIT, Lingering};
+use crate::watched::Watched;
 use keyed_maps::{KeyedTable, MapKey};
 use serve::is_not_ready;
 use std::alloc::Global;
-use std::cell::Cell;
 use std::io::{self, ErrorKind};
 use std::net::SocketAddr;
-use wires::{Door, Wire};
+use wires::{Door, Host, NEWS_LIMIT, News, Wire};
 
 /// The port of an instance, and the connections to its clients.
 #[derive(Drop)]
@@ -22,9 +24,9 @@ pub(crate) struct Port<D: Door> {
     pub(crate) address: SocketAddr,
     door: D,
     /// Whether a client may wait at it: one came since the port was found empty.
-    may_wait: Cell<bool>,
+    may_wait: bool,
     /// By their numbers.
-    wires: KeyedTable<u32, D::Wire>,
+    wires: KeyedTable<u32, Watched<D::Wire>>,
     /// Those that were closed.
     lingering: Vec<Lingering<D::Wire>>,
 }
@@ -39,7 +41,7 @@ impl<D: Door> Port<D> {
         Ok(Port {
             address,
             door,
-            may_wait: Cell::new(true),
+            may_wait: true,
             wires: KeyedTable::with_hasher(alloc, MapKey::known()),
             lingering: Vec::with_capacity(alloc, LINGERING_LIMIT)?,
         })
@@ -50,9 +52,40 @@ impl<D: Door> Port<D> {
         self.door.number()
     }
 
-    /// A client may wait from now on.
-    pub(crate) fn may_have_come(&self) {
-        self.may_wait.set(true);
+    /// This came at it, or on a connection to one of its clients.
+    pub(crate) fn tell(&mut self, news: &News)
+        ensures stays { OnlyTold self.old self.new }
+        ensures told { IsToldOf news.now.number news.now self.new }
+    {
+        match news.number {
+            None => self.may_wait = true,
+            Some(connection) => self.tell_of(connection, news),
+        }
+    }
+
+    /// This came on a connection, if there is one.
+    fn tell_of(&mut self, connection: u32, news: &News)
+        ensures stays { OnlyTold self.old self.new }
+        ensures told { IsToldOf (Some connection) news.now self.new }
+    {
+        if let Some(watched) = self.wires.get_mut(&connection) {
+            watched.tell(news);
+        }
+    }
+
+    /// Whether there is something to do at it of which nothing more is told: a client may wait, a
+    /// closed connection lingers, or something may have come on an open one.
+    pub(crate) fn has_more(&self) -> bool
+        ensures { result ≡ has_more self.now }
+    {
+        self.may_wait || !self.lingering.is_empty() || self.may_read()
+    }
+
+    /// Whether something may have come on an open connection.
+    fn may_read(&self) -> bool
+        ensures { result ≡ may_read self.now }
+    {
+        self.wires.values().any(|watched| watched.may_read())
     }
 
     /// Gives the next client that waits this number. `WouldBlock` says that none waits. Any other
@@ -65,6 +98,8 @@ impl<D: Door> Port<D> {
         ensures open { OnOk result (has_open connection self.new.wires.entries ≡ true) }
         ensures own { LetsIn D.Wire.happened connection result (D.given self.old.door)
             self.old.wires.entries (D.given self.new.door) self.new.wires.entries }
+        ensures told { IfOk result (λ _. IsSomeAnd (wire_at connection self.new.wires.entries)
+            (λ w. w.may_read ≡ true)) }
         ensures at { D.at self.new.door ≡ D.at self.old.door }
         ensures address { self.new.address ≡ self.old.address }
         ensures lingering { self.new.lingering ≡ self.old.lingering }
@@ -73,18 +108,18 @@ impl<D: Door> Port<D> {
         if self.wires.reserve(1).is_err() {
             return Err(io::Error::from(ErrorKind::OutOfMemory));
         }
-        if !self.may_wait.get() {
+        if !self.may_wait {
             return Err(io::Error::from(ErrorKind::WouldBlock));
         }
-        let wire = match self.door.next() {
+        let wire = match self.door.next(connection) {
             Ok(wire) => wire,
             Err(error) => {
-                self.may_wait.set(error.kind() != ErrorKind::WouldBlock);
+                self.may_wait = error.kind() != ErrorKind::WouldBlock;
                 count_refusal(refusals, &error);
                 return Err(error);
             }
         };
-        match self.wires.insert(connection, wire) {
+        match self.wires.insert(connection, Watched::new(wire)) {
             Ok(_) => Ok(()),
             Err(_) => unreachable!(),
         }
@@ -94,14 +129,15 @@ impl<D: Door> Port<D> {
     pub(crate) fn read(&mut self, connection: u32, room: &mut [u8]) -> io::Result<usize>
         ensures bound { ReadsAtMost result room.new }
         ensures open { OnOk result (has_open connection self.old.wires.entries ≡ true) }
-        ensures own { HappensOn D.Wire.happened connection (read_events result room.new)
+        ensures own { HappensOn (on D.Wire.happened) connection (read_events result room.new)
             self.old.wires.entries self.new.wires.entries }
+        ensures told { StaysToldAt connection result self.old self.new }
         ensures door { self.new.door ≡ self.old.door }
         ensures address { self.new.address ≡ self.old.address }
         ensures lingering { self.new.lingering ≡ self.old.lingering }
     {
         match self.wires.get_mut(&connection) {
-            Some(wire) => wire.read(room),
+            Some(watched) => watched.read(room),
             None => Err(io::Error::from(ErrorKind::NotConnected)),
         }
     }
@@ -111,14 +147,14 @@ impl<D: Door> Port<D> {
     pub(crate) fn write(&mut self, connection: u32, bytes: &[u8]) -> io::Result<usize>
         ensures bound { WritesAtMost result bytes.now }
         ensures open { OnOk result (has_open connection self.old.wires.entries ≡ true) }
-        ensures own { HappensOn D.Wire.happened connection (write_events result bytes.now)
+        ensures own { HappensOn (on D.Wire.happened) connection (write_events result bytes.now)
             self.old.wires.entries self.new.wires.entries }
         ensures door { self.new.door ≡ self.old.door }
         ensures address { self.new.address ≡ self.old.address }
         ensures lingering { self.new.lingering ≡ self.old.lingering }
     {
         match self.wires.get_mut(&connection) {
-            Some(wire) => wire.write(bytes),
+            Some(watched) => watched.write(bytes),
             None => Err(io::Error::from(ErrorKind::NotConnected)),
         }
     }
@@ -131,9 +167,10 @@ impl<D: Door> Port<D> {
         ensures door { self.new.door ≡ self.old.door }
         ensures address { self.new.address ≡ self.old.address }
     {
-        let Some(mut wire) = self.wires.remove(&connection) else {
+        let Some(watched) = self.wires.remove(&connection) else {
             return Err(io::Error::from(ErrorKind::NotConnected));
         };
+        let mut wire = watched.wire;
         wire.shut()?;
         if self.lingering.len() < LINGERING_LIMIT {
             let kept: Result<(), _> = self.lingering.push(Lingering::new(wire, now));
@@ -159,6 +196,37 @@ pub(crate) fn drop_rest<D: Door>(ports: &mut [Port<D>], now: u64, room: &mut [u8
     for port in ports.iter_mut() {
         port.drop_rest(now, room);
     }
+}
+
+/// Tells one of these ports what came there, or on a connection to one of its clients.
+fn tell_one<D: Door>(ports: &mut [Port<D>], news: &News)
+    ensures stay { AreTold ports.old ports.new }
+    ensures told { IsPassedOn news.now ports.new }
+{
+    if news.place < ports.len() {
+        ports[news.place].tell(news);
+    }
+}
+
+/// Tells the ports what their host learned last.
+pub(crate) fn tell<H: Host>(host: &H, ports: &mut [Port<H::Door>])
+    requires few { IfSome (H.learned host.now) (λ all. length all ≤ 256) }
+    ensures stay { AreTold ports.old ports.new }
+    ensures told { ArePassedOn (H.learned host.now) ports.new }
+{
+    for nth in 0..NEWS_LIMIT {
+        let Some(news) = host.news(nth) else {
+            return;
+        };
+        tell_one(ports, &news);
+    }
+}
+
+/// Whether there is something to do at one of these of which nothing more is told.
+pub(crate) fn have_more<D: Door>(ports: &[Port<D>]) -> bool
+    ensures { result ≡ list_any has_more ports.now }
+{
+    ports.iter().any(|port| port.has_more())
 }
 
 /// Counts that the system does not give a client that waits: one that went meanwhile is none.

@@ -5,19 +5,45 @@
 //! connection, that those which count as sent went to it and to no other, that who is let in came to
 //! this very port, and that it was opened where it was asked for. These are some forty lines:
 //! `HostWire`, `HostDoor`, and `open` of `ThisHost`.
+//!
+//! That the system tells all that came is believed of some twenty more: what registers, `look`,
+//! `news` and the tokens. Where they are wrong somebody waits, and nothing goes to another.
 
 use crate::options::{ask_after_clients, give_up_later};
+use mio::event::Event;
 use mio::net::{TcpListener, TcpStream};
-use mio::{Events, Interest, Poll, Token};
+use mio::{Events, Interest, Poll, Registry, Token};
 use std::io::{self, Read, Write};
 use std::net::{Shutdown, SocketAddr};
-use std::thread;
+use std::rc::Rc;
 use std::time::{Duration, Instant};
-use wires::{Door, Host, Wire};
+use wires::{Door, Host, NEWS_LIMIT, News, Wire};
 
-/// How many doors are found at a time at which clients wait. Any further one is found the next
-/// time.
-const WAITING_LIMIT: usize = 256;
+/// Under what the system tells of a door.
+fn door_token(place: usize) -> Token {
+    Token(place)
+}
+
+/// Under what it tells of a wire: that of the door is in the upper half, which is 0 of doors.
+fn wire_token(place: usize, number: u32) -> Token {
+    Token(place.wrapping_add(1) << 32 | number as usize)
+}
+
+/// What the system tells.
+fn news_of(event: &Event) -> News {
+    let token = event.token().0;
+    let has_failed = event.is_error();
+    let (place, number) = match token >> 32 {
+        0 => (token, None),
+        upper => (upper - 1, Some((token & 0xffff_ffff) as u32)),
+    };
+    News {
+        place,
+        number,
+        may_read: event.is_readable() || event.is_read_closed() || has_failed,
+        may_write: event.is_writable() || event.is_write_closed() || has_failed,
+    }
+}
 
 /// A connection of this host.
 #[derive(Drop)]
@@ -44,16 +70,21 @@ impl Wire for HostWire {
 #[derive(Drop)]
 pub struct HostDoor {
     listener: TcpListener,
+    place: usize,
+    registry: Rc<Registry>,
 }
 
 impl Door for HostDoor {
     type Wire = HostWire;
 
-    fn next(&mut self) -> io::Result<HostWire> {
-        let (stream, _) = self.listener.accept()?;
+    fn next(&mut self, number: u32) -> io::Result<HostWire> {
+        let (mut stream, _) = self.listener.accept()?;
         // Otherwise the end of a response waits for the client's acknowledgement of what was before
         // it.
         stream.set_nodelay(true)?;
+        let token = wire_token(self.place, number);
+        let both = Interest::READABLE | Interest::WRITABLE;
+        self.registry.as_ref().register(&mut stream, token, both)?;
         Ok(HostWire { stream })
     }
 
@@ -66,20 +97,24 @@ impl Door for HostDoor {
 #[derive(Drop)]
 pub struct ThisHost<'a> {
     rt: &'a HostRuntime,
-    /// Finds the ports to which clients came.
+    /// Tells what came at ports and on connections.
     poll: Poll,
-    /// Those that it found.
-    found: Events,
+    registry: Rc<Registry>,
+    /// What it told last.
+    told: Events,
     start: Instant,
 }
 
 impl<'a> ThisHost<'a> {
     /// Its clock starts now.
     pub fn new(rt: &'a HostRuntime) -> io::Result<ThisHost<'a>> {
+        let poll = Poll::new(rt)?;
+        let registry = poll.registry().try_clone()?;
         Ok(ThisHost {
             rt,
-            poll: Poll::new(rt)?,
-            found: Events::with_capacity(rt.alloc(), WAITING_LIMIT)?,
+            registry: Rc::new(rt.alloc(), registry)?,
+            poll,
+            told: Events::with_capacity(rt.alloc(), NEWS_LIMIT)?,
             start: Instant::now(rt)?,
         })
     }
@@ -91,31 +126,31 @@ impl<'a> Host for ThisHost<'a> {
     fn open(&mut self, address: SocketAddr, place: usize) -> io::Result<HostDoor> {
         let mut listener = TcpListener::bind(self.rt, address)?;
         ask_after_clients(&listener)?;
-        let registry = self.poll.registry();
-        registry.register(&mut listener, Token(place), Interest::READABLE)?;
-        Ok(HostDoor { listener })
+        let registry = self.registry.clone()?;
+        let token = door_token(place);
+        registry
+            .as_ref()
+            .register(&mut listener, token, Interest::READABLE)?;
+        Ok(HostDoor {
+            listener,
+            place,
+            registry,
+        })
     }
 
-    fn find(&mut self) -> io::Result<()> {
-        self.poll.poll(&mut self.found, Some(Duration::ZERO))
+    fn look(&mut self, most: u64) -> io::Result<()> {
+        self.poll
+            .poll(&mut self.told, Some(Duration::from_millis(most)))
     }
 
-    fn found(&self, nth: usize) -> Option<usize> {
-        let event = self.found.iter().nth(nth)?;
-        Some(event.token().0)
+    fn news(&self, nth: usize) -> Option<News> {
+        let event = self.told.iter().nth(nth)?;
+        Some(news_of(event))
     }
 
     fn passed(&self) -> io::Result<u64> {
         let passed = self.start.elapsed(self.rt)?;
         let seconds = passed.as_secs().saturating_mul(1000);
         Ok(seconds.saturating_add(passed.subsec_millis() as u64))
-    }
-
-    fn rest(&mut self, micros: u64) {
-        if micros == 0 {
-            thread::yield_now();
-        } else {
-            thread::sleep(self.rt, Duration::from_micros(micros));
-        }
     }
 }

@@ -1,6 +1,7 @@
 -- Keys that stand once, as runs begin and end and jobs are noted and taken out.
 use Rattle.std.proofs.Common.{inl, inr, ◌≡◌, ℕ, Bool, true, false, List, [], ◌∷◌, ◌++◌, refl, sym, ap, subst, ◌∙◌, append-nil, append_assoc}
 use Rattle.std.specs.Prelude.{◌||◌, ◌&&◌, ◌==◌, ⊤, Option, Some, None, option_map, Result}
+use Rattle.std.specs.List.{list_any}
 use Rattle.std.proofs.lemmas.Bool.{eqb-true, eq-eqb, true≢false}
 use Rattle.run_calls.specs.declared.task.RunKey.{RunKey}
 use Rattle.run_calls.specs.declared.folder.Place.{Place}
@@ -10,7 +11,7 @@ use Rattle.runner.specs.declared.stage.State.{State}
 use Rattle.runner.specs.declared.stage.State.TheVariants.{Live, Over}
 use Rattle.runner.specs.declared.stage.Run.{Run}
 use Rattle.run_calls.specs.Calls.{FolderCall, ProgramCall}
-use Rattle.runner.specs.Runs.{run_of, run_kept, still_left, Ends, GoesOn, IsAsked, IsKilled}
+use Rattle.runner.specs.Runs.{HasNone, is_run_of, run_of, run_kept, still_left, Ends, GoesOn, IsAsked, IsKilled}
 use Rattle.job_runs.specs.Keys.{is_key, has_key, without_key, run_keys, all_keys, AreOnce}
 
 or-false : (a b : Bool) → (a || b) ≡ false → (a ≡ false) × (b ≡ false)
@@ -89,26 +90,6 @@ same-both a b h = go (is_key b a) refl where
       let there : is_key a b ≡ true = and-both (b.instance == a.instance) (b.job == a.job) (eq-eqb b.instance a.instance (sym (eqb-true a.instance b.instance both.0))) (eq-eqb b.job a.job (sym (eqb-true a.job b.job both.1))) in
       absurd (true≢false (sym there ∙ h))
 
-key-same : (a b k : RunKey) → is_key a b ≡ true → is_key a k ≡ is_key b k
-key-same a b k h =
-    let both = and-true (b.instance == a.instance) (b.job == a.job) h in
-    let instance : a.instance ≡ b.instance = sym (eqb-true b.instance a.instance both.0) in
-    let job : a.job ≡ b.job = sym (eqb-true b.job a.job both.1) in
-    ap (λ (n : ℕ). (k.instance == n && k.job == a.job)) instance ∙ ap (λ (n : ℕ). (k.instance == b.instance && k.job == n)) job
-
-has-same : (a b : RunKey) (ks : List RunKey) → is_key a b ≡ true → has_key a ks ≡ has_key b ks
-has-same a b [] h = refl
-has-same a b (k ∷ ks) h = ap (λ (t : Bool). t || has_key a ks) (key-same a b k h) ∙ ap (λ (t : Bool). is_key b k || t) (has-same a b ks h)
-
-none-beside : (key : RunKey) (xs ys : List RunKey) → AreOnce (xs ++ ys) → has_key key ys ≡ true → has_key key xs ≡ false
-none-beside key [] ys h is = refl
-none-beside key (x ∷ xs) ys h is = or-both (is_key key x) (has_key key xs) (go (is_key key x) refl) (none-beside key xs ys h.1 is) where
-  go : (b : Bool) → is_key key x ≡ b → is_key key x ≡ false
-  go false other = other
-  go true same =
-      let there : has_key x ys ≡ true = sym (has-same key x ys same) ∙ is in
-      absurd (true≢false (sym there ∙ none-back x xs ys h.0))
-
 pub once-insert : (xs : List RunKey) (k : RunKey) (ys : List RunKey) → has_key k (xs ++ ys) ≡ false → AreOnce (xs ++ ys) → AreOnce (xs ++ k ∷ ys)
 once-insert [] k ys new h = (new, h)
 once-insert (x ∷ xs) k ys new h =
@@ -170,11 +151,17 @@ begun-once key old new run to_begin added same none h =
     (subst AreOnce (sym (behind old run to_begin))
     (subst (λ (k : RunKey). AreOnce (run_keys old ++ k ∷ to_begin)) (sym same) (once-insert (run_keys old) key to_begin none h)))
 
--- one that was noted begins, and is noted no more
-pub first-once : (key : RunKey) (old new : List Run) (run : Run) (to_begin : List RunKey) → new ≡ old ++ run ∷ [] → run.place.run ≡ key → has_key key to_begin ≡ true → AreOnce (all_keys old to_begin) → AreOnce (all_keys new (without_key key to_begin))
-first-once key old new run to_begin added same is h =
-    let none : has_key key (all_keys old (without_key key to_begin)) ≡ false = none-append key (run_keys old) (without_key key to_begin) (none-beside key (run_keys old) to_begin h is) (none-left key to_begin) in
-    begun-once key old new run (without_key key to_begin) added same none (once-without key (run_keys old) to_begin h)
+none-of : (key : RunKey) (runs : List Run) → HasNone key runs → has_key key (run_keys runs) ≡ false
+none-of key [] h = refl
+none-of key (r ∷ rs) h =
+    let both = or-false (is_run_of key r) (list_any (is_run_of key) rs) h in
+    or-both (is_key key r.place.run) (has_key key (run_keys rs)) both.0 (none-of key rs both.1)
+
+-- one that was not there begins, and is noted no more
+pub first-once : (key : RunKey) (old new : List Run) (run : Run) (to_begin : List RunKey) → new ≡ old ++ run ∷ [] → run.place.run ≡ key → HasNone key old → AreOnce (all_keys old to_begin) → AreOnce (all_keys new (without_key key to_begin))
+first-once key old new run to_begin added same none h =
+    let apart : has_key key (all_keys old (without_key key to_begin)) ≡ false = none-append key (run_keys old) (without_key key to_begin) (none-of key old none) (none-left key to_begin) in
+    begun-once key old new run (without_key key to_begin) added same apart (once-without key (run_keys old) to_begin h)
 
 pub noted-once : (key : RunKey) (runs : List Run) (to_begin : List RunKey) → has_key key (all_keys runs to_begin) ≡ false → AreOnce (all_keys runs to_begin) → AreOnce (all_keys runs (to_begin ++ key ∷ []))
 noted-once key runs to_begin none h =

@@ -4,3 +4,4 @@ pub mod Once
 pub mod Killed
 mod Numbering
 mod Parts
+mod Spans

@@ -1,7 +1,5 @@
 -- How the runs of a server's jobs are those of a runner.
-use Rattle.std.specs.Prelude.{◌≡◌, ◌≤◌, ◌⊎◌, ⊤, ℕ, zero, suc, List, [], ◌∷◌, ◌++◌, slice_get, vec_capacity, vec_len, Option, Some, None, Result, Ok, Err}
-use Rattle.std.specs.declared.alloc.Global.{Global}
-use Rattle.std.specs.declared.vec.Vec.{Vec}
+use Rattle.std.specs.Prelude.{◌≡◌, ◌≤◌, ◌⊎◌, ⊤, ℕ, zero, suc, List, [], ◌∷◌, ◌++◌, slice_get, Option, Some, None, Result, Ok, Err}
 use Rattle.run_outcomes.specs.declared.outcome.Outcome.{Outcome}
 use Rattle.execution.specs.Job.{TaskValue}
 use Rattle.runner.specs.declared.fault.RunFault.{RunFault}
@@ -25,13 +23,7 @@ pub record IsBegun (run : RunKey) (task : TaskValue) (old new : List Run) : Type
   pub started : IsStarted run made begun
   pub added : new ≡ old ++ begun ∷ []
 
--- that a run is to begin is noted, unless as many are noted as there is room for
-abbrev pub IsNoted : RunKey → Vec RunKey Global → Vec RunKey Global → Type 0
-IsNoted run before now =
-    (now.items ≡ before.items ++ run ∷ [])
-    ⊎ ((now.items ≡ before.items) × (vec_capacity before ≤ vec_len before))
-
--- a run that was to begin was begun with the task that is lent, and nothing is told of it yet; or
+-- a run that was not there was begun with the task that is lent, and nothing is told of it yet; or
 -- memory was refused, which is told, and none was begun. Where no task is lent none was begun
 -- either: the job that it was noted for does not run
 abbrev pub IsBegunIf : Option TaskValue → RunKey → Result (Option Outcome) RunFault →

@@ -1,17 +1,20 @@
 //! Runs that a runner carries out.
 
-ghost use Rattle.std.specs.Prelude.{◌≡◌, ◌≤◌, ◌⊎◌, ◌+◌, ◌++◌, ◌∷◌, ◌||◌, [], true, false, None, Ok, OnOk, OnErr, IfOk, length, nat_lt, slice_get, vec_capacity, vec_len};
+ghost use Rattle.std.specs.Prelude.{◌≡◌, ◌≤◌, ◌<◌, ◌⊎◌, ◌+◌, ◌++◌, ◌∷◌, ◌||◌, [], true, false, Some, None, Ok, OnOk, OnErr, IfOk, length, nat_lt, slice_get, vec_capacity, vec_len};
 ghost use Rattle.std.specs.List.{list_any};
-ghost use Rattle.std.specs.Option.{option_map};
+ghost use Rattle.std.specs.Option.{is_some, option_map};
 ghost use Rattle.runner.specs.Faults.{Counted};
-ghost use Rattle.runner.specs.Runs.{IsAsked, IsOver, can_go_on};
+ghost use Rattle.runner.specs.Runs.{HasNone, IsAsked, IsOver, can_go_on, is_run_of};
 ghost use Rattle.runner.specs.declared.stage.Run.{Run};
 ghost use Rattle.job_runs.specs.Texts.{numbered_text};
 ghost use Rattle.server_core.specs.Lent.{lent_shown};
-ghost use Rattle.job_runs.specs.Keys.{AreOnce, all_keys, count_of, has_key, is_key, turn_in, without_key};
-ghost use Rattle.job_runs.specs.Runs.{AreKilled, IsAnsweredFor, IsBegun, IsBegunIf, IsEnded, IsKilledAt, IsNoted, IsOnlyEnded};
+ghost use Rattle.run_calls.specs.declared.task.RunKey.{RunKey};
+ghost use Rattle.job_runs.specs.Spans.{IsAmong};
+ghost use Rattle.job_runs.specs.Keys.{AreOnce, IsToBegin, all_keys, asked_keys, count_of, has_key, is_key, next_in, turn_in, without_key};
+ghost use Rattle.job_runs.specs.Runs.{AreKilled, IsAnsweredFor, IsBegun, IsBegunIf, IsEnded, IsKilledAt, IsOnlyEnded};
 
 use crate::lent::LentTexts;
+use crate::span::{Span, span_with};
 use crate::tasks::run_task;
 use run_calls::{Folder, Programs, RunKey};
 use run_outcomes::Outcome;
@@ -29,12 +32,15 @@ pub struct JobRunner<F: Folder + Drop, P: Programs + Drop> {
     runner: Runner<F, P>,
     /// Jobs whose run was ordered, and is begun when it is asked for the first time.
     to_begin: Vec<RunKey>,
+    /// More of them, which there was no room to note one by one.
+    together: Option<Span>,
     /// The place of the run that is to be asked next.
     next: usize,
 }
 
 impl<F: Folder + Drop, P: Programs + Drop> JobRunner<F, P> {
-    /// No runs. At most so many jobs run at a time.
+    /// No runs. So many jobs whose run is to begin are noted one by one. Of more it is only noted
+    /// between which instances and jobs they lie, so that each job that is between these is asked.
     pub fn new(
         alloc: Global,
         folder: F,
@@ -45,12 +51,14 @@ impl<F: Folder + Drop, P: Programs + Drop> JobRunner<F, P> {
         ensures programs { IfOk result (λ r. r.runner.programs ≡ programs) }
         ensures runs { IfOk result (λ r. r.runner.runs.items ≡ []) }
         ensures to_begin { IfOk result (λ r. r.to_begin.items ≡ []) }
+        ensures together { IfOk result (λ r. r.together ≡ None) }
         ensures room { IfOk result (λ r. most ≤ vec_capacity r.to_begin) }
     {
         Ok(JobRunner {
             alloc,
             runner: Runner::new(alloc, folder, programs),
             to_begin: Vec::with_capacity(alloc, most)?,
+            together: None,
             next: 0,
         })
     }
@@ -87,9 +95,11 @@ impl<F: Folder + Drop, P: Programs + Drop> JobRunner<F, P> {
               backlog = errors.new.backlog;
             }) }
         ensures to_begin { self.new.to_begin.items ≡ [] }
+        ensures together { self.new.together ≡ None }
         ensures left { result ≡ vec_len self.new.runner.runs }
     {
         self.to_begin.clear();
+        self.together = None;
         kill_each(&mut self.runner, configs, moment, errors);
         self.runner.count()
     }
@@ -103,15 +113,16 @@ impl<F: Folder + Drop, P: Programs + Drop> JobRunner<F, P> {
         ensures folder { self.new.runner.folder ≡ self.old.runner.folder }
         ensures programs { self.new.runner.programs ≡ self.old.runner.programs }
         ensures to_begin { self.new.to_begin ≡ self.old.to_begin }
+        ensures together { self.new.together ≡ self.old.together }
         ensures next { self.new.next ≡ self.old.next }
     {
         let made = run_task(self.alloc, task.pool, task.task)?;
         self.runner.start(run.instance, run.job, made)
     }
 
-    /// Begins a run that was noted, where its task is lent. There is nothing to tell of it then.
+    /// Begins a run that is not there, where its task is lent. There is nothing to tell of it then.
     /// Where none is lent the job that it was noted for does not run any more.
-    fn begin_noted(
+    fn begin_lent(
         &mut self,
         run: RunKey,
         task: Option<LentTask<'_>>,
@@ -121,6 +132,7 @@ impl<F: Folder + Drop, P: Programs + Drop> JobRunner<F, P> {
         ensures folder { self.new.runner.folder ≡ self.old.runner.folder }
         ensures programs { self.new.runner.programs ≡ self.old.runner.programs }
         ensures to_begin { self.new.to_begin ≡ self.old.to_begin }
+        ensures together { self.new.together ≡ self.old.together }
         ensures next { self.new.next ≡ self.old.next }
     {
         if let Some(task) = task {
@@ -140,6 +152,7 @@ impl<F: Folder + Drop, P: Programs + Drop> JobRunner<F, P> {
             (P.failures self.old.runner.programs) (P.failures self.new.runner.programs)
             ⊎ (IsOver run self.old.runner.runs.items × (result ≡ Ok None)) }
         ensures to_begin { self.new.to_begin ≡ self.old.to_begin }
+        ensures together { self.new.together ≡ self.old.together }
         ensures next { self.new.next ≡ self.old.next }
     {
         self.runner.ask(run.instance, run.job, &texts_of(task))
@@ -150,6 +163,16 @@ fn is_key(key: RunKey, other: &RunKey) -> bool
     ensures { result ≡ is_key key other.now }
 {
     other.instance == key.instance && other.job == key.job
+}
+
+/// How many runs are asked in a circle for those that are noted together: one.
+fn count_in(together: &Option<Span>) -> usize
+    ensures { result ≡ length (next_in together.now) }
+{
+    match together {
+        Some(_) => 1,
+        None => 0,
+    }
 }
 
 /// Takes a job out of those whose run is to begin. Whether it was among them.
@@ -233,16 +256,24 @@ fn texts_of<'a>(task: LentTask<'a>) -> LentTexts<'a>
 
 impl<F: Folder + Drop, P: Programs + Drop> Runs for JobRunner<F, P> {
     fn start(&mut self, run: RunKey, _task: LentTask<'_>)
-        ensures noted { IsNoted run self.old.to_begin self.new.to_begin }
-        ensures room { vec_capacity self.old.to_begin ≤ vec_capacity self.new.to_begin }
+        ensures noted { IsToBegin run self.new.to_begin.items self.new.together }
+        ensures others { (key : RunKey) → IsToBegin key self.old.to_begin.items self.old.together
+            → IsToBegin key self.new.to_begin.items self.new.together }
+        ensures one_by_one { vec_len self.old.to_begin < vec_capacity self.old.to_begin →
+            (self.new.to_begin.items ≡ self.old.to_begin.items ++ run ∷ [])
+            × (self.new.together ≡ self.old.together) }
+        ensures room { vec_capacity self.new.to_begin ≡ vec_capacity self.old.to_begin }
         ensures runner { self.new.runner ≡ self.old.runner }
         ensures next { self.new.next ≡ self.old.next }
         ensures once { has_key run (all_keys self.old.runner.runs.items self.old.to_begin.items)
             ≡ false → AreOnce (all_keys self.old.runner.runs.items self.old.to_begin.items)
             → AreOnce (all_keys self.new.runner.runs.items self.new.to_begin.items) }
     {
-        // There is room for each job that may run at a time.
-        let _room_is_there = self.to_begin.push(run);
+        if self.to_begin.len() < self.to_begin.capacity() {
+            self.to_begin.push_reserved(run);
+        } else {
+            self.together = Some(span_with(self.together, run));
+        }
     }
 
     fn kill(&mut self, run: RunKey)
@@ -253,6 +284,7 @@ impl<F: Folder + Drop, P: Programs + Drop> Runs for JobRunner<F, P> {
             (F.asked self.old.runner.folder) (F.asked self.new.runner.folder)
             (P.asked self.old.runner.programs) (P.asked self.new.runner.programs) }
         ensures to_begin { self.new.to_begin.items ≡ without_key run self.old.to_begin.items }
+        ensures together { self.new.together ≡ self.old.together }
         ensures room { vec_capacity self.new.to_begin ≡ vec_capacity self.old.to_begin }
         ensures next { self.new.next ≡ self.old.next }
         ensures once { AreOnce (all_keys self.old.runner.runs.items self.old.to_begin.items)
@@ -265,39 +297,52 @@ impl<F: Folder + Drop, P: Programs + Drop> Runs for JobRunner<F, P> {
     }
 
     fn count(&self) -> usize
-        ensures { result ≡ count_of (all_keys self.now.runner.runs.items self.now.to_begin.items) }
+        ensures { result ≡ count_of (asked_keys self.now.runner.runs.items
+            self.now.to_begin.items self.now.together) }
     {
-        self.runner.count().saturating_add(self.to_begin.len())
+        let noted = self.to_begin.len().saturating_add(count_in(&self.together));
+        self.runner.count().saturating_add(noted)
     }
 
     fn next(&mut self) -> Option<RunKey>
-        ensures key { let keys = all_keys self.old.runner.runs.items self.old.to_begin.items in
+        ensures key { let keys = asked_keys self.old.runner.runs.items
+            self.old.to_begin.items self.old.together in
             result ≡ slice_get keys (turn_in (count_of keys) self.old.next) }
-        ensures next { let keys = all_keys self.old.runner.runs.items self.old.to_begin.items in
+        ensures next { let keys = asked_keys self.old.runner.runs.items
+            self.old.to_begin.items self.old.together in
             self.new.next ≡ turn_in (count_of keys) self.old.next + 1 }
         ensures runner { self.new.runner ≡ self.old.runner }
         ensures to_begin { self.new.to_begin ≡ self.old.to_begin }
+        ensures together { (key : RunKey) → IsAmong key self.old.together
+            → (result ≡ Some key) ⊎ IsAmong key self.new.together }
     {
-        if self.next >= self.count() {
-            self.next = 0;
-        }
-        let place = self.next;
-        self.next = self.next.saturating_add(1);
+        let place = if self.next < self.count() {
+            self.next
+        } else {
+            0
+        };
+        self.next = place.saturating_add(1);
         let of_runner = self.runner.count();
         if place < of_runner {
             return self.runner.run(place);
         }
-        self.to_begin.get(place - of_runner).copied()
+        let behind = place - of_runner;
+        if behind < self.to_begin.len() {
+            return Some(self.to_begin[behind]);
+        }
+        let span = self.together?;
+        self.together = span.rest();
+        Some(span.at)
     }
 
     fn ask(&mut self, run: RunKey, task: Option<LentTask<'_>>) -> Result<Option<Outcome>, RunFault>
-        ensures begun { has_key run self.old.to_begin.items ≡ true →
+        ensures begun { HasNone run self.old.runner.runs.items →
             IsBegunIf (option_map lent_shown task.entry) run result
             self.old.runner.runs.items self.new.runner.runs.items }
-        ensures only_begun { has_key run self.old.to_begin.items ≡ true →
+        ensures only_begun { HasNone run self.old.runner.runs.items →
             (self.new.runner.folder ≡ self.old.runner.folder)
             × (self.new.runner.programs ≡ self.old.runner.programs) }
-        ensures answered { has_key run self.old.to_begin.items ≡ false →
+        ensures answered { list_any (is_run_of run) self.old.runner.runs.items ≡ true →
             IsAnsweredFor (option_map lent_shown task.entry) run result
             self.old.runner.runs.items self.new.runner.runs.items
             (F.asked self.old.runner.folder) (F.asked self.new.runner.folder)
@@ -308,13 +353,15 @@ impl<F: Folder + Drop, P: Programs + Drop> Runs for JobRunner<F, P> {
             ⊎ (IsOnlyEnded (option_map lent_shown task.entry) run self.old.runner.runs.items
             × (result ≡ Ok None)) }
         ensures to_begin { self.new.to_begin.items ≡ without_key run self.old.to_begin.items }
+        ensures together { self.new.together ≡ self.old.together }
         ensures room { vec_capacity self.new.to_begin ≡ vec_capacity self.old.to_begin }
         ensures next { self.new.next ≡ self.old.next }
         ensures once { AreOnce (all_keys self.old.runner.runs.items self.old.to_begin.items)
             → AreOnce (all_keys self.new.runner.runs.items self.new.to_begin.items) }
     {
-        if take(&mut self.to_begin, run) {
-            return self.begin_noted(run, task);
+        let _was_noted = take(&mut self.to_begin, run);
+        if !self.runner.has(run.instance, run.job) {
+            return self.begin_lent(run, task);
         }
         match task {
             Some(task) => self.ask_run(run, task),
@@ -332,8 +379,8 @@ impl<F: Folder + Drop, P: Programs + Drop> Runs for JobRunner<F, P> {
 
     fn is_busy(&self) -> bool
         ensures { result ≡ (list_any (λ (run : Run). can_go_on run.state) self.now.runner.runs.items
-            || nat_lt 0 (length self.now.to_begin.items)) }
+            || (nat_lt 0 (length self.now.to_begin.items) || is_some self.now.together)) }
     {
-        self.runner.is_busy() || !self.to_begin.is_empty()
+        self.runner.is_busy() || !self.to_begin.is_empty() || self.together.is_some()
     }
 }

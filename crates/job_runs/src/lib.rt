@@ -7,6 +7,7 @@ mod job_runner;
 mod laws;
 mod lent;
 mod nodes;
+mod span;
 mod tasks;
 
 pub use job_runner::JobRunner;

@@ -1,8 +1,8 @@
 -- More that happens.
-use Rattle.std.proofs.Common.{◌≡◌, ◌≢◌, ℕ, ◌<◌, ◌≤◌, List, [], ◌∷◌, ◌++◌, map, refl, ap, ◌∙◌, sym, subst, inl, inr, append-nil}
-use Rattle.std.specs.Prelude.{fold, Bool, true, false, Option, Some, None, IfSome}
-use Rattle.std.specs.List.{AllByRecursion, range_with_len}
-use Rattle.std.proofs.lemmas.List.Elements.{filter_map-append}
+use Rattle.std.proofs.Common.{◌≡◌, ◌≢◌, ℕ, ◌+◌, ◌<◌, ◌≤◌, List, [], ◌∷◌, ◌++◌, map, length, refl, ap, ◌∙◌, sym, subst, inl, inr, arith, append-nil, append_assoc, length-append}
+use Rattle.std.specs.Prelude.{fold, filter, Bool, true, false, Option, Some, None}
+use Rattle.std.specs.List.{filter_map, flat_map, range_with_len}
+use Rattle.std.proofs.lemmas.List.Elements.{filter-append, filter_map-append}
 use Rattle.std.proofs.lemmas.List.Sums.{fold-append}
 use Rattle.execution.specs.Orders.{OrderValue}
 use Rattle.instance_core.specs.Calls.{CallEventValue, tick as time_passes}
@@ -14,13 +14,26 @@ use Rattle.served_instance.specs.Lone.{LoneInstance, lone_at_moment}
 use Rattle.served_instance.specs.Short.{IsCutShort, IsCutEffect}
 use Rattle.served_instance.proofs.Moments.{step_within}
 use Rattle.instance_core.specs.Visible.{Blob}
-use Rattle.serve.specs.SocketEvents.{SocketEvent, clock, port, moment_after, moment_of}
+use Rattle.serve.specs.SocketEvents.{SocketEvent, clock, port, failed, moment_after, moment_of}
 use Rattle.serve.specs.RunEvents.{RunEvent, ordered}
-use Rattle.serve.specs.Happenings.{Happening, MarkedHappening, IsOfOne, at_sockets, told, at_runs, timed_event, run_event, timed_events, run_events, cut_on, cuts, all_told, all_timed, moment_then, moment_on}
-use Rattle.serve.specs.KeepsServing.{ran, moment_behind}
-use Rattle.serve.specs.Served.{AtWork, FamilyAtWork, with_orders, MayStep, MayServe, ParentMayHappen, HappenedTogether}
+use Rattle.serve.specs.Happenings.{Happening, MarkedHappening, at_sockets, told, at_runs, timed_event, run_event, cuts, with_times, moment_then, sockets_then, sockets_on, sockets_in}
+use Rattle.serve.specs.KeepsServing.{ran, moment_on, moment_behind}
+use Rattle.serve.specs.Served.{AtWork, with_orders, MayStep, MayServe, HappenedTogether}
 
--- ---- what happens at the runs
+-- ---- what happened at the runs, and what not
+
+abbrev pub run_events : List MarkedHappening → List RunEvent
+run_events h = filter_map run_event h
+
+abbrev pub timed_events : List MarkedHappening → List Happening
+timed_events h = filter_map timed_event h
+
+-- each of so many instances is told the time, in order
+abbrev pub all_told : ℕ → List Happening
+all_told count = map told (range_with_len 0 count)
+
+abbrev pub all_timed : ℕ → List SocketEvent → List Happening
+all_timed count sockets = flat_map (with_times count) sockets
 
 pub runs_moment : (more : List RunEvent) (m : ℕ) → fold moment_on m (map ran more) ≡ m
 runs_moment [] m = refl
@@ -34,9 +47,9 @@ pub all_runs : (more : List RunEvent) → run_events (map ran more) ≡ more
 all_runs [] = refl
 all_runs (r ∷ more) = ap (λ (rs : List RunEvent). r ∷ rs) (all_runs more)
 
-runs_cut : (more : List RunEvent) (n : ℕ) → fold cut_on n (map ran more) ≡ n
-runs_cut [] n = refl
-runs_cut (r ∷ more) n = runs_cut more n
+runs_cut : (more : List RunEvent) → cuts (map ran more) ≡ 0
+runs_cut [] = refl
+runs_cut (r ∷ more) = runs_cut more
 
 -- ---- the clock
 
@@ -57,87 +70,86 @@ sockets_moment count (clock n ∷ sockets) m =
     fold-append moment_then n (all_told count) (all_timed count sockets)
     ∙ ap (λ (k : ℕ). fold moment_then k (all_timed count sockets)) (told_moment (range_with_len 0 count) n) ∙ sockets_moment count sockets n
 sockets_moment count (port j p ∷ sockets) m = sockets_moment count sockets m
+sockets_moment count (failed j c ∷ sockets) m = sockets_moment count sockets m
 
 pub moment_together : (count : ℕ) (sockets : List SocketEvent) (runs : List RunEvent) (h : List MarkedHappening) → HappenedTogether count sockets runs h → moment_behind h ≡ moment_of sockets
 moment_together count sockets runs h t = timed_moment h 0 ∙ ap (fold moment_then 0) t.at_sockets_so ∙ sockets_moment count sockets 0
 
+-- ---- what happened at the sockets
+
+pub runs_sockets : (more : List RunEvent) (before : List SocketEvent) → fold sockets_on before (map ran more) ≡ before
+runs_sockets [] before = refl
+runs_sockets (r ∷ more) before = runs_sockets more before
+
+told_sockets : (is : List ℕ) (before : List SocketEvent) → fold sockets_then before (map told is) ≡ before
+told_sockets [] before = refl
+told_sockets (i ∷ is) before = told_sockets is before
+
+timed_sockets : (h : List MarkedHappening) (before : List SocketEvent) → fold sockets_on before h ≡ fold sockets_then before (timed_events h)
+timed_sockets [] before = refl
+timed_sockets ((at_sockets s, b) ∷ h) before = timed_sockets h (before ++ s ∷ [])
+timed_sockets ((told i, b) ∷ h) before = timed_sockets h before
+timed_sockets ((at_runs r, b) ∷ h) before = timed_sockets h before
+
+all_sockets : (count : ℕ) (sockets before : List SocketEvent) → fold sockets_then before (all_timed count sockets) ≡ before ++ sockets
+all_sockets count [] before = sym (append-nil before)
+all_sockets count (clock n ∷ sockets) before =
+    fold-append sockets_then (before ++ clock n ∷ []) (all_told count) (all_timed count sockets)
+    ∙ ap (λ (g : List SocketEvent). fold sockets_then g (all_timed count sockets)) (told_sockets (range_with_len 0 count) (before ++ clock n ∷ []))
+    ∙ all_sockets count sockets (before ++ clock n ∷ []) ∙ append_assoc before (clock n ∷ []) sockets
+all_sockets count (port j p ∷ sockets) before = all_sockets count sockets (before ++ port j p ∷ []) ∙ append_assoc before (port j p ∷ []) sockets
+all_sockets count (failed j c ∷ sockets) before = all_sockets count sockets (before ++ failed j c ∷ []) ∙ append_assoc before (failed j c ∷ []) sockets
+
+pub sockets_together : (count : ℕ) (sockets : List SocketEvent) (runs : List RunEvent) (h : List MarkedHappening) → HappenedTogether count sockets runs h → sockets_in h ≡ sockets
+sockets_together count sockets runs h t = timed_sockets h [] ∙ ap (fold sockets_then []) t.at_sockets_so ∙ all_sockets count sockets []
+
 -- ---- what happened, by its two parts
 
-pub record AreOf (count : ℕ) (timed : List Happening) (runs : List RunEvent) (h : List MarkedHappening) : Type 0 where
+pub record AreOf (timed : List Happening) (runs : List RunEvent) (h : List MarkedHappening) : Type 0 where
   pub timed_so : timed_events h ≡ timed
   pub runs_so : run_events h ≡ runs
-  pub of_these : AllByRecursion (IsOfOne count) h
 
-pub parts_of : (count : ℕ) (sockets : List SocketEvent) (runs : List RunEvent) (h : List MarkedHappening) → HappenedTogether count sockets runs h → AreOf count (all_timed count sockets) runs h
-parts_of count sockets runs h t = record { timed_so = t.at_sockets_so; runs_so = t.at_runs_so; of_these = t.of_these }
+pub parts_of : (count : ℕ) (sockets : List SocketEvent) (runs : List RunEvent) (h : List MarkedHappening) → HappenedTogether count sockets runs h → AreOf (all_timed count sockets) runs h
+parts_of count sockets runs h t = record { timed_so = t.at_sockets_so; runs_so = t.at_runs_so }
 
-both_of : (count : ℕ) (h g : List MarkedHappening) → AllByRecursion (IsOfOne count) h → AllByRecursion (IsOfOne count) g → AllByRecursion (IsOfOne count) (h ++ g)
-both_of count [] g a b = b
-both_of count (x ∷ h) g a b = (a.0, both_of count h g a.1 b)
-
-pub parts_on : (count : ℕ) (timed more_timed : List Happening) (runs more_runs : List RunEvent) (h g : List MarkedHappening) → AreOf count timed runs h → AreOf count more_timed more_runs g → AreOf count (timed ++ more_timed) (runs ++ more_runs) (h ++ g)
-parts_on count timed more_timed runs more_runs h g t u = record {
+pub parts_on : (timed more_timed : List Happening) (runs more_runs : List RunEvent) (h g : List MarkedHappening) → AreOf timed runs h → AreOf more_timed more_runs g → AreOf (timed ++ more_timed) (runs ++ more_runs) (h ++ g)
+parts_on timed more_timed runs more_runs h g t u = record {
   timed_so = filter_map-append timed_event h g ∙ ap (λ (xs : List Happening). xs ++ timed_events g) t.timed_so ∙ ap (λ (ys : List Happening). timed ++ ys) u.timed_so;
   runs_so = filter_map-append run_event h g ∙ ap (λ (xs : List RunEvent). xs ++ run_events g) t.runs_so ∙ ap (λ (ys : List RunEvent). runs ++ ys) u.runs_so;
-  of_these = both_of count h g t.of_these u.of_these;
 }
 
--- orders of one of these
-orders_of_these : (count j : ℕ) (orders : List OrderValue) → j < count → AllByRecursion (IsOfOne count) (map ran (map (ordered j) orders))
-orders_of_these count j [] lt = tt
-orders_of_these count j (o ∷ orders) lt = ((lt, refl), orders_of_these count j orders lt)
-
 -- .. behind which orders are carried out
-pub parts_ordered : (count j : ℕ) (timed : List Happening) (runs : List RunEvent) (orders : List OrderValue) (x : MarkedHappening) → j < count → AreOf count timed runs (x ∷ []) → AreOf count timed (runs ++ map (ordered j) orders) (x ∷ map ran (map (ordered j) orders))
-parts_ordered count j timed runs orders x lt t =
+pub parts_ordered : (j : ℕ) (timed : List Happening) (runs : List RunEvent) (orders : List OrderValue) (x : MarkedHappening) → AreOf timed runs (x ∷ []) → AreOf timed (runs ++ map (ordered j) orders) (x ∷ map ran (map (ordered j) orders))
+parts_ordered j timed runs orders x t =
     let more : List RunEvent = map (ordered j) orders in
-    subst (λ (ts : List Happening). AreOf count ts (runs ++ more) (x ∷ map ran more)) (append-nil timed)
-    (parts_on count timed [] runs more (x ∷ []) (map ran more) t (record { timed_so = no_times more; runs_so = all_runs more; of_these = orders_of_these count j orders lt }))
+    subst (λ (ts : List Happening). AreOf ts (runs ++ more) (x ∷ map ran more)) (append-nil timed)
+    (parts_on timed [] runs more (x ∷ []) (map ran more) t (record { timed_so = no_times more; runs_so = all_runs more }))
 
 pub moment_more : (h : List MarkedHappening) (x : MarkedHappening) (more : List RunEvent) → moment_behind (h ++ x ∷ map ran more) ≡ moment_on (moment_behind h) x
 moment_more h x more = fold-append moment_on 0 h (x ∷ map ran more) ∙ runs_moment more (moment_on (moment_behind h) x)
 
-pub cuts_more : (h : List MarkedHappening) (x : MarkedHappening) (more : List RunEvent) → cuts (h ++ x ∷ map ran more) ≡ cut_on (cuts h) x
-cuts_more h x more = fold-append cut_on 0 h (x ∷ map ran more) ∙ runs_cut more (cut_on (cuts h) x)
+cuts_both : (h g : List MarkedHappening) → cuts (h ++ g) ≡ cuts h + cuts g
+cuts_both h g =
+    let is_cut : MarkedHappening → Bool = λ x. x.1 in
+    ap length (filter-append is_cut h g) ∙ length-append (filter is_cut h) (filter is_cut g)
+
+pub cut_more : (h : List MarkedHappening) (x : Happening) (more : List RunEvent) → cuts (h ++ (x, true) ∷ map ran more) ≡ cuts h + 1
+cut_more h x more = cuts_both h ((x, true) ∷ map ran more) ∙ omega (arith, runs_cut more)
+
+pub none_cut : (h : List MarkedHappening) (x : Happening) (more : List RunEvent) → cuts (h ++ (x, false) ∷ map ran more) ≡ cuts h
+none_cut h x more = cuts_both h ((x, false) ∷ map ran more) ∙ omega (arith, runs_cut more)
 
 -- ---- one part behind the other
 
-pub may_serve_on : (h g : List MarkedHappening) (i : ℕ) (p : Option ℕ) (m : ℕ) (f k q : FamilyAtWork) → MayServe i p m f h k → MayServe i p (fold moment_on m h) k g q → MayServe i p m f (h ++ g) q
-may_serve_on [] g i p m f k q s t = subst (λ (x : FamilyAtWork). MayServe i p m x g q) s t
-may_serve_on (x ∷ h) g i p m f k q s t = (s.0, s.1, may_serve_on h g i p (moment_on m x) s.0 k q s.2 t)
+pub may_serve_on : (parents : List (Option ℕ)) (h g : List MarkedHappening) (before : List SocketEvent) (m : ℕ) (w k v : AtWork) → MayServe parents before m w h k → MayServe parents (fold sockets_on before h) (fold moment_on m h) k g v → MayServe parents before m w (h ++ g) v
+may_serve_on parents [] g before m w k v s t = subst (λ (x : AtWork). MayServe parents before m x g v) s t
+may_serve_on parents (x ∷ h) g before m w k v s t = (s.0, s.1, s.2, may_serve_on parents h g (sockets_then before x.0) (moment_then m x.0) s.0 k v s.3 t)
 
--- no parent has this number
-abbrev pub IsNot : Option ℕ → ℕ → Type 0
-IsNot p i = IfSome p (λ n. n ≢ i)
-
-abbrev pub both : AtWork → Option AtWork → FamilyAtWork
-both own parent = record { own = own; parent = parent }
-
--- an order of another one changes nothing of a parent
-order_passes : (p : Option ℕ) (j m : ℕ) (w : Option AtWork) (o : OrderValue) → IsNot p j → ParentMayHappen p m w (ran (ordered j o)) w
-order_passes p j m None o not = refl
-order_passes None j m (Some w) o not = tt
-order_passes (Some n) j m (Some w) o not = ((λ same. absurd (not (sym same))), (λ other. refl))
-
--- an instance's own orders, one after another
-pub carried : (i : ℕ) (p : Option ℕ) (m : ℕ) (l : LoneInstance) (parent : Option AtWork) (orders : List OrderValue) → IsNot p i
-    → MayServe i p m (both (with_orders l orders) parent) (map ran (map (ordered i) orders)) (both (with_orders l []) parent)
-carried i p m l parent [] not = refl
-carried i p m l parent (o ∷ orders) not =
-    (both (with_orders l orders) parent, record { own = ((λ same. refl), (λ ne. absurd (ne refl))); parent = order_passes p i m parent o not }, carried i p m l parent orders not)
-
--- those of its parent
-pub parent_carried : (i n m : ℕ) (own : AtWork) (l : LoneInstance) (orders : List OrderValue) → n ≢ i
-    → MayServe i (Some n) m (both own (Some (with_orders l orders))) (map ran (map (ordered n) orders)) (both own (Some (with_orders l [])))
-parent_carried i n m own l [] ne = refl
-parent_carried i n m own l (o ∷ orders) ne =
-    (both own (Some (with_orders l orders)), record { own = ((λ same. absurd (ne same)), (λ other. refl)); parent = ((λ same. refl), (λ other. absurd (other refl))) }, parent_carried i n m own l orders ne)
-
--- orders of another one change nothing of either
-pub passed : (i : ℕ) (p : Option ℕ) (j m : ℕ) (f : FamilyAtWork) (orders : List OrderValue) → i ≢ j → IsNot p j → MayServe i p m f (map ran (map (ordered j) orders)) f
-passed i p j m f [] ne not = refl
-passed i p j m f (o ∷ orders) ne not =
-    (f, record { own = ((λ same. absurd (ne (sym same))), (λ other. refl)); parent = order_passes p j m f.parent o not }, passed i p j m f orders ne not)
+-- orders are carried out, one after another
+pub carried : (parents : List (Option ℕ)) (before : List SocketEvent) (m j : ℕ) (ls : List LoneInstance) (orders : List OrderValue)
+    → MayServe parents before m (with_orders ls (map (ordered j) orders)) (map ran (map (ordered j) orders)) (with_orders ls [])
+carried parents before m j ls [] = refl
+carried parents before m j ls (o ∷ orders) = (with_orders ls (map (ordered j) orders), (refl, refl), (λ i l at. tt), carried parents before m j ls orders)
 
 -- ---- moments
 
@@ -175,6 +187,6 @@ cut_effect_moment (ended job outcome) l m h =
     ap (λ (x : LoneInstance). x.state.moment) h.gone ∙ made_moment _ l.state h.left h.made
 
 -- after an event an instance is not later than the event and than it was
-pub may_within : (parent : List Blob) (e : EventValue) (marked : Bool) (l : LoneInstance) (w : AtWork) (m : ℕ) → MayStep parent e marked l w → e.moment ≤ m → l.state.moment ≤ m → w.instance.state.moment ≤ m
-may_within parent e false l w m alone le late = subst (λ (x : AtWork). x.instance.state.moment ≤ m) (sym alone) (step_within parent e l m le late)
-may_within parent e true l w m short le late = subst (λ (n : ℕ). n ≤ m) (sym (cut_effect_moment e.what (lone_at_moment e.moment parent l) w.instance short.1)) le
+pub may_within : (parent : List Blob) (e : EventValue) (marked : Bool) (l k : LoneInstance) (orders : List OrderValue) (m : ℕ) → MayStep parent e marked l k orders → e.moment ≤ m → l.state.moment ≤ m → k.state.moment ≤ m
+may_within parent e false l k orders m alone le late = subst (λ (x : LoneInstance). x.state.moment ≤ m) (sym alone.0) (step_within parent e l m le late)
+may_within parent e true l k orders m short le late = subst (λ (n : ℕ). n ≤ m) (sym (cut_effect_moment e.what (lone_at_moment e.moment parent l) k short.1)) le

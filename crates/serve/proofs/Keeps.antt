@@ -1,18 +1,18 @@
 -- What the calls of the sockets, of the runs and of the server keep.
-use Rattle.std.proofs.Common.{◌≡◌, ◌≢◌, ℕ, ◌≤◌, ◌<◌, List, [], ◌∷◌, ◌++◌, map, length, take, drop, get_or, ◌-◌, refl, ap, ◌∙◌, sym, subst, arith, inl, inr, append-nil, append_assoc}
-use Rattle.std.specs.Prelude.{◌⊎◌, ◌↔◌, ◌+◌, min, Bool, true, false, cond, Option, Some, None, IsSomeAnd, IfSome, IfErr, Result, Ok, Err}
+use Rattle.std.proofs.Common.{◌≡◌, ◌≢◌, ℕ, zero, suc, ◌≤◌, ◌<◌, List, [], ◌∷◌, ◌++◌, map, length, take, drop, get_or, ◌-◌, refl, ap, ◌∙◌, sym, subst, arith, inl, inr, append-nil, append_assoc}
+use Rattle.std.specs.Prelude.{◌⊎◌, ◌↔◌, ◌+◌, min, Bool, true, false, slice_set, Option, Some, None, IsSomeAnd, IfSome, IfErr, Result, Ok, Err}
 use Rattle.std.specs.Option.{option_map, option_map_or, option_and_then}
 use Rattle.std.specs.List.{slice_get}
 use Rattle.std.specs.Io.{StartsWith}
 use Rattle.std.specs.declared.alloc.Global.{Global}
 use Rattle.std.specs.declared.vec.Vec.{Vec}
-use Rattle.std.proofs.lemmas.Bool.{cases_eq, cases_lt, eq-eqb, ne_eqb}
+use Rattle.std.proofs.lemmas.Bool.{cases_eq, cases_lt}
 use Rattle.std.proofs.Math.ListN.{drop_of_length-le}
-use Rattle.std.proofs.lemmas.List.{length-take-le, map-append, take_all}
+use Rattle.std.proofs.lemmas.List.{length-map, length-set, length-take-le, map-append, take_all}
 use Rattle.std.proofs.lemmas.Grind.{flat_map-append}
 use Rattle.std.proofs.lemmas.List.Elements.{filter_map-append}
 use Rattle.std.proofs.lemmas.List.Sums.{fold_push}
-use Rattle.std.proofs.lemmas.Option.{none-some, same_Some, slice_get_cases, slice_get-map}
+use Rattle.std.proofs.lemmas.Option.{none-some, same_Some, slice_get_cases, slice_get_within}
 use Rattle.runner.proofs.Lists.{first_and_rest, no_rest}
 use Rattle.run_outcomes.specs.Outcomes.{OutcomeValue}
 use Rattle.execution.specs.declared.orders.Order.{Order}
@@ -24,7 +24,7 @@ use Rattle.served_instance.specs.Bytes.{pending_bytes}
 use Rattle.served_instance.specs.Past.{Past}
 use Rattle.instance_core.specs.State.{InstanceState}
 use Rattle.instance_core.specs.Visible.{Blob}
-use Rattle.server_events.specs.Configs.{ConfigValue, parent_of}
+use Rattle.server_events.specs.Configs.{ConfigValue, parent_of, parents_of}
 use Rattle.server_events.specs.Faults.{AreParents}
 use Rattle.server_events.specs.Events.{EventValue, WhatValue, took, tick, ended}
 use Rattle.served_instance.specs.Connections.{open_at}
@@ -34,22 +34,20 @@ use Rattle.served_instance.specs.Lone.{LoneInstance}
 use Rattle.served_instance.specs.Refusals.{refusal_of, lone_orders, lone_step, orders_unless, IsRefusalOutcome}
 use Rattle.served_instance.specs.StandsFor.{ServedState}
 use Rattle.server_core.specs.Marked.{StandsShortAt}
-use Rattle.server_core.specs.Families.{Family, family_in}
-use Rattle.server_core.specs.LoneOutput.{config_at}
 use Rattle.server_core.specs.Parents.{parent_at, parent_texts, texts_at, texts_of_one}
 use Rattle.server_core.specs.StandsFor.{ServerState, OrdersStand, StandsAt, instance_at}
 use Rattle.serve.specs.SocketEvents.{SocketEvent, PortEvent, port, what_of, moment_after, moment_of, Adds, AddsAll}
 use Rattle.serve.specs.declared.carrying.Counting.{Counting}
 use Rattle.serve.specs.RunEvents.{RunEvent, ordered, gave, AddsRuns, AddsAllRuns}
-use Rattle.serve.specs.Happenings.{Happening, MarkedHappening, IsOfOne, at_sockets, told, at_runs, timed_events, run_events, cuts, with_times, all_timed, moment_then, moment_on, own_event, event_for}
-use Rattle.serve.specs.Served.{AtWork, with_orders, Comes, MayHappen, MayHappenTo, ParentMayHappen, MayStep, MayTake, IsFaithful, Serves, WasServed, IsCount, most_counted, at_rest, begun, texts_of}
+use Rattle.serve.specs.Happenings.{Happening, MarkedHappening, at_sockets, told, at_runs, cuts, with_times, moment_then, sockets_then, sockets_in, event_told, event_then}
+use Rattle.serve.specs.Closings.{IsShutRightly, MayBeShut, own_past}
+use Rattle.serve.specs.KeepsOpen.{MayClose}
+use Rattle.serve.specs.declared.sockets.Socket.{Socket}
+use Rattle.serve.specs.Served.{AtWork, with_orders, texts_beside, IsTaken, IsTakenIf, Comes, Happens, MayStep, IsFaithful, WasServed, begun}
 use Rattle.serve.specs.declared.counts.ServeCounts.{ServeCounts}
-use Rattle.serve.specs.KeepsServing.{ran, moment_behind, AreCarriedOut, HasParents, StandsBeside, StandsServing, IsServerAt, IsServing, TakesEvent, cut_after, is_for_memory}
+use Rattle.serve.specs.KeepsServing.{IsCount, most_counted, ran, moment_on, moment_behind, AreCarriedOut, HasParents, StandsServing, AllServing, IsServerAt, IsServing, TakesEvent, cut_after, is_for_memory}
 use Rattle.served_instance.proofs.Moments.{took_taken}
-use Rattle.serve.proofs.Happenings.{AreOf, IsNot, both, parts_of, parts_on, parts_ordered, moment_more, cuts_more, moment_together, may_serve_on, carried, parent_carried, passed, may_within}
-
-abbrev pub event_told : ℕ → ℕ → WhatValue → EventValue
-event_told m j what = record { moment = m; instance = j; what = what }
+use Rattle.serve.proofs.Happenings.{run_events, timed_events, all_timed, AreOf, parts_of, parts_on, parts_ordered, moment_more, cut_more, none_cut, moment_together, sockets_together, may_serve_on, carried, may_within}
 
 abbrev pub event_at : ℕ → ℕ → PortEvent → EventValue
 event_at m j p = event_told m j (what_of p)
@@ -103,7 +101,7 @@ first_order (o ∷ left) d le = refl
 pub none_left : (i : ℕ) (v : ServedState) (left : List Order) (known : Option (List RunEvent)) → length left < 1 → AddsRuns known known (map (ordered i) (orders_meant v.state.jobs left))
 none_left i v left known lt = subst (λ (os : List Order). AddsRuns known known (map (ordered i) (orders_meant v.state.jobs os))) (sym (no_rest left lt)) (nothing_added known)
 
-abbrev refused_with : (A : Type 0) → EventRefusal → Result A EventRefusal
+abbrev pub refused_with : (A : Type 0) → EventRefusal → Result A EventRefusal
 refused_with A r = Err r
 
 abbrev IsOther : EventRefusal → Type 0
@@ -120,6 +118,14 @@ reason A NoSuchJob o other is = is
 reason A TimeWentBack o other is = is
 reason A TookTooMuch o other is = is
 reason A NoMemory o other is = absurd other
+
+abbrev refusal_in : {A : Type 0} → Result A EventRefusal → EventRefusal
+refusal_in (Ok x) = NoMemory
+refusal_in (Err r) = r
+
+-- a refusal is the same of another result
+pub as_other : (A B : Type 0) (r s : EventRefusal) → refused_with A r ≡ refused_with A s → refused_with B r ≡ refused_with B s
+as_other A B r s is = ap (refused_with B) (ap refusal_in is)
 
 memory_or : (r : EventRefusal) → (r ≡ NoMemory) ⊎ IsOther r
 memory_or NoSuchInstance = inr tt
@@ -170,14 +176,14 @@ refused_taken A r e server next known own short gave_reason others parents count
         | inl memory ↦
             let t = short (ap Err memory) l s in
             let accepted : refusal_of e l ≡ None = subst (λ (x : EventRefusal). IsRefusalOutcome (refused_with A x) (refusal_of e l)) memory (gave_reason l s) in
-            let may : MayStep parent e true l (with_orders t.left []) = (accepted, t.short, refl) in
-            record { now = t.left; may = subst (λ (b : Bool). MayStep parent e b l (with_orders t.left [])) (sym (ap is_for_memory memory)) may; stands = t.stands }
+            let may : MayStep parent e true l t.left [] = (accepted, t.short, refl) in
+            record { now = t.left; may = subst (λ (b : Bool). MayStep parent e b l t.left []) (sym (ap is_for_memory memory)) may; stands = t.stands }
         | inr other ↦
             let no_orders : lone_orders parent e l ≡ [] = ap (orders_unless parent e l) (reason A r (refusal_of e l) other (gave_reason l s)) in
-            let may : MayStep parent e false l (with_orders (lone_step parent e l) []) = ap (with_orders (lone_step parent e l)) (sym no_orders) in
+            let may : MayStep parent e false l (lone_step parent e l) [] = (refl, sym no_orders) in
             record {
               now = lone_step parent e l;
-              may = subst (λ (b : Bool). MayStep parent e b l (with_orders (lone_step parent e l) [])) (sym (other_unmarked r other)) may;
+              may = subst (λ (b : Bool). MayStep parent e b l (lone_step parent e l) []) (sym (other_unmarked r other)) may;
               stands = own (other_is A r other) l s;
             }
       ];
@@ -194,7 +200,7 @@ accepted_taken e server next orders before after v is own given others parents c
   carried = so v is;
   own = λ l s. record {
     now = lone_step (parent_texts e.instance server.server) e l;
-    may = ap (with_orders (lone_step (parent_texts e.instance server.server) e l)) (all_meant v.state.jobs orders.items (lone_orders (parent_texts e.instance server.server) e l) (given l s v is));
+    may = (refl, all_meant v.state.jobs orders.items (lone_orders (parent_texts e.instance server.server) e l) (given l s v is));
     stands = own l s;
   };
   others = others;
@@ -208,7 +214,10 @@ IsOkOutcome (Err e) = ⊥
 ok_not_err : {A E : Type 0} (x : A) (e : E) (r : Result A E) → r ≡ Ok x → r ≢ Err e
 ok_not_err x e r is_ok is_err = subst IsOkOutcome (sym is_ok ∙ is_err) tt
 
-there_is : (vs : List ServedState) (i : ℕ) → i < length vs → (v : ServedState) × (instance_at i vs ≡ Some v)
+pub ok_never : {A E : Type 0} (x : A) (e : E) → Ok x ≡ Err e → ⊥
+ok_never x e is = subst IsOkOutcome is tt
+
+there_is : {A : Type 0} (vs : List A) (i : ℕ) → i < length vs → (v : A) × (slice_get vs i ≡ Some v)
 there_is vs i lt = elim (slice_get_cases vs i).1 [
   | inl t ↦ (t.0, t.2)
   | inr none ↦ absurd (omega (arith, lt, none.0))
@@ -226,201 +235,123 @@ accepted_by x e server next orders before after own given others stray count par
 
 -- ---- what is an event of one instance
 
--- what happens is this event of instance j, and nothing to any other
+-- what happens is this event of instance j
 pub record IsFor (j : ℕ) (what : WhatValue) (x : Happening) : Type 0 where
-  pub event : (i m : ℕ) → event_for i m x ≡ own_event i m j what
-  pub comes : (parent : List Blob) (i m : ℕ) (w v : AtWork) (b : Bool) → Comes parent i m w (x, b) v → MayHappen parent i m w (x, b) v
+  pub event : (m : ℕ) → event_then m x ≡ Some (event_told m j what)
+  pub comes : (parents : List (Option ℕ)) (m : ℕ) (w v : AtWork) (b : Bool) → Comes parents m w (x, b) v → Happens parents m w (x, b) v
   pub stays : (m : ℕ) → moment_then m x ≡ m
-  pub of_one : (count : ℕ) (b : Bool) → j < count → IsOfOne count (x, b)
 
 port_for : (j : ℕ) (p : PortEvent) → IsFor j (what_of p) (at_sockets (port j p))
-port_for j p = record { event = λ i m. refl; comes = λ parent i m w v b so. so; stays = λ m. refl; of_one = λ count b lt. lt }
+port_for j p = record { event = λ m. refl; comes = λ parents m w v b so. so; stays = λ m. refl }
 
 gave_for : (j job : ℕ) (outcome : OutcomeValue) → IsFor j (ended job outcome) (at_runs (gave j job outcome))
-gave_for j job outcome = record { event = λ i m. refl; comes = λ parent i m w v b so. so; stays = λ m. refl; of_one = λ count b lt. lt }
+gave_for j job outcome = record { event = λ m. refl; comes = λ parents m w v b so. so; stays = λ m. refl }
 
 pub told_for : (j : ℕ) → IsFor j tick (told j)
-told_for j = record { event = λ i m. refl; comes = λ parent i m w v b so. so; stays = λ m. refl; of_one = λ count b lt. lt }
+told_for j = record { event = λ m. refl; comes = λ parents m w v b so. so; stays = λ m. refl }
 
 -- the orders of instance j
 abbrev pub orders_of_one : ℕ → List OrderValue → List MarkedHappening
 orders_of_one j orders = map ran (map (ordered j) orders)
 
--- the instance itself takes it
-takes_it : (parent : List Blob) (i m : ℕ) (l n : LoneInstance) (what : WhatValue) (x : Happening) (b : Bool) (orders : List OrderValue) → IsFor i what x → IsFaithful i m l x → MayStep parent (event_told m i what) b l (with_orders n orders) → MayHappen parent i m (with_orders l []) (x, b) (with_orders n orders)
-takes_it parent i m l n what x b orders fits faithful may =
-    let e : EventValue = event_told m i what in
-    let own : event_for i m x ≡ Some e = fits.event i m ∙ ap (λ (t : Bool). cond t (Some e) None) (eq-eqb i i refl) in
-    fits.comes parent i m (with_orders l []) (with_orders n orders) b (refl, faithful, subst (λ (o : Option EventValue). MayTake parent o b l (with_orders n orders)) (sym own) may)
-
--- any other one passes it by
-passes_it : (parent : List Blob) (i j m : ℕ) (l : LoneInstance) (what : WhatValue) (x : Happening) (b : Bool) → i ≢ j → IsFor j what x → IsFaithful i m l x → MayHappen parent i m (with_orders l []) (x, b) (with_orders l [])
-passes_it parent i j m l what x b ne fits faithful =
-    let none : event_for i m x ≡ None = fits.event i m ∙ ap (λ (t : Bool). cond t (Some (event_told m j what)) None) (ne_eqb j i (λ same. ne (sym same))) in
-    fits.comes parent i m (with_orders l []) (with_orders l []) b (refl, faithful, subst (λ (o : Option EventValue). MayTake parent o b l (with_orders l [])) (sym none) refl)
-
--- the premise that a happening is faithful
-abbrev pub Premise : List ServedState → Happening → Type 0
-Premise vs x = (m n : ℕ) (l : LoneInstance) → StandsAt n vs l → l.state.moment ≤ m → IsFaithful n m l x
-
-abbrev pub rests : Option LoneInstance → Option AtWork
-rests l = option_map (λ (n : LoneInstance). with_orders n []) l
-
-parent_passes : (p : Option ℕ) (j m : ℕ) (l : Option LoneInstance) (vs : List ServedState) (what : WhatValue) (x : Happening) (b : Bool) → IsNot p j → IsFor j what x → StandsBeside p vs m l → Premise vs x → ParentMayHappen p m (rests l) (x, b) (rests l)
-parent_passes None j m None vs what x b not fits stands premise = refl
-parent_passes None j m (Some l) vs what x b not fits stands premise = tt
-parent_passes (Some n) j m None vs what x b not fits stands premise = absurd stands
-parent_passes (Some n) j m (Some l) vs what x b not fits stands premise = passes_it [] n j m l what x b not fits (premise m n l stands.0 stands.1)
-
-later : (n : ℕ) (h : List MarkedHappening) (j : ℕ) (what : WhatValue) (x : Happening) (b : Bool) (orders : List OrderValue) → IsFor j what x → n ≤ moment_behind h → n ≤ moment_behind (h ++ (x, b) ∷ orders_of_one j orders)
-later n h j what x b orders fits le = subst (λ (m : ℕ). n ≤ m) (sym (moment_more h (x, b) (map (ordered j) orders) ∙ fits.stays (moment_behind h))) le
-
--- a parent that stands where it stood
-beside_on : (p : Option ℕ) (vs ws : List ServedState) (m n j : ℕ) (l : Option LoneInstance) → IsNot p j → m ≤ n → ((k : ℕ) → k ≢ j → instance_at k ws ≡ instance_at k vs) → StandsBeside p vs m l → StandsBeside p ws n l
-beside_on None vs ws m n j l not le others stands = stands
-beside_on (Some p) vs ws m n j None not le others stands = absurd stands
-beside_on (Some p) vs ws m n j (Some l) not le others stands =
-    ((stands.0.0, others p not ∙ stands.0.1, stands.0.2), (let late = stands.1 in omega (arith, le, late)))
+-- the premise that a happening is faithful, and that what it closes may be closed
+abbrev pub Premise : List SocketEvent → List ServedState → Happening → Type 0
+Premise before vs x = (m n : ℕ) (l : LoneInstance) → StandsAt n vs l → l.state.moment ≤ m → IsFaithful n m l x × IsShutRightly n before l x
 
 -- ---- what a parent has
 
--- the parents of an instance of this number
-pub record HasParent (i : ℕ) (p : Option ℕ) (server : ServerState) : Type 0 where
-  pub at : parent_at i server.parents ≡ p
-  pub apart : IsNot p i
-  pub root : IfSome p (λ n. parent_at n server.parents ≡ None)
+-- the parent of an instance is there
+parent_within : (parents : List (Option ℕ)) (i p : ℕ) → AreParents parents → parent_at i parents ≡ Some p → p < length parents
+parent_within parents i p good at = go (slice_get parents i) refl at
+  where
+    go : (o : Option (Option ℕ)) → slice_get parents i ≡ o → option_and_then (λ (x : Option ℕ). x) o ≡ Some p → p < length parents
+    go None is here = absurd (none-some p here)
+    go (Some q) is here = (good i p (is ∙ ap Some here)).within
 
 read_at : (n : ℕ) (vs : List ServedState) (l : LoneInstance) → StandsAt n vs l → texts_at n vs ≡ l.state.visible
 read_at n vs l stands =
     ap (λ (o : Option ServedState). option_map_or (λ v. v.state.visible) o []) stands.1
     ∙ ap (λ (s : InstanceState). s.visible) stands.2.state
 
-read_beside : (p : Option ℕ) (vs : List ServedState) (m : ℕ) (l : Option LoneInstance) → StandsBeside p vs m l → texts_of_one p vs ≡ texts_of (rests l)
-read_beside None vs m None stands = refl
-read_beside None vs m (Some l) stands = let clash : Some l ≡ None = stands in absurd (none-some l (sym clash))
-read_beside (Some p) vs m None stands = absurd stands
-read_beside (Some p) vs m (Some l) stands = read_at p vs l stands.0
+-- what an instance reads of its parent is what the parent has come to
+own_read : (i : ℕ) (configs : List ConfigValue) (h : List MarkedHappening) (server : ServerState) → HasParents configs server → (a : AllServing configs h server.instances) → parent_texts i server ≡ texts_beside i (parents_of configs) a.ls
+own_read i configs h server has a = go (parent_at i server.parents) refl ∙ ap (λ (ps : List (Option ℕ)). texts_beside i ps a.ls) has.same
+  where
+    there : (p : ℕ) → parent_at i server.parents ≡ Some p → texts_at p server.instances ≡ option_map_or (λ (l : LoneInstance). l.state.visible) (slice_get a.ls p) []
+    there p at =
+        let within : p < length server.parents = parent_within server.parents i p has.good at in
+        let same : length server.parents ≡ length configs = ap length has.same ∙ length-map configs (parent_of configs) in
+        let found = there_is a.ls p (omega (arith, within, same, a.count)) in
+        read_at p server.instances found.0 (a.each p found.0 found.1).stands
+        ∙ ap (λ (o : Option LoneInstance). option_map_or (λ (l : LoneInstance). l.state.visible) o []) (sym found.1)
 
-own_read : (i : ℕ) (p : Option ℕ) (server : ServerState) (m : ℕ) (l : Option LoneInstance) → HasParent i p server → StandsBeside p server.instances m l → parent_texts i server ≡ texts_of (rests l)
-own_read i p server m l has stands =
-    ap (λ (o : Option ℕ). texts_of_one o server.instances) has.at ∙ read_beside p server.instances m l stands
+    go : (p : Option ℕ) → parent_at i server.parents ≡ p → parent_texts i server ≡ texts_beside i server.parents a.ls
+    go None at =
+        ap (λ (o : Option ℕ). texts_of_one o server.instances) at
+        ∙ ap (λ (o : Option ℕ). option_map_or (λ (l : LoneInstance). l.state.visible) (option_and_then (slice_get a.ls) o) []) (sym at)
+    go (Some p) at =
+        ap (λ (o : Option ℕ). texts_of_one o server.instances) at ∙ there p at
+        ∙ ap (λ (o : Option ℕ). option_map_or (λ (l : LoneInstance). l.state.visible) (option_and_then (slice_get a.ls) o) []) (sym at)
 
--- ---- an event of an instance, of its parent, and of another one
+-- ---- an event that an instance takes
 
-own_more : (family : Family) (i : ℕ) (p : Option ℕ) (h : List MarkedHappening) (server next : Counting) (before after : Option (List RunEvent)) (what : WhatValue) (x : Happening) → IsFor i what x → (t : TakesEvent (event_told (moment_behind h) i what) server next before after) → HasParent i p server.server → Premise server.server.instances x → StandsServing family i p h server.server.instances → StandsServing family i p (h ++ (x, t.marked) ∷ orders_of_one i t.orders) next.server.instances
-own_more family i p h server next before after what x fits t has premise a =
+pub set_other : {A : Type 0} (xs : List A) (i j : ℕ) (x : A) → j ≢ i → slice_get (slice_set xs i x) j ≡ slice_get xs j
+set_other [] i j x ne = refl
+set_other (y ∷ xs) zero zero x ne = absurd (ne refl)
+set_other (y ∷ xs) zero (suc j) x ne = refl
+set_other (y ∷ xs) (suc i) zero x ne = refl
+set_other (y ∷ xs) (suc i) (suc j) x ne = set_other xs i j x (λ e. ne (ap suc e))
+
+pub set_here : {A : Type 0} (xs : List A) (i : ℕ) (x y : A) → slice_get xs i ≡ Some y → slice_get (slice_set xs i x) i ≡ Some x
+set_here [] i x y is = absurd (none-some y is)
+set_here (z ∷ xs) zero x y is = refl
+set_here (z ∷ xs) (suc i) x y is = set_here xs i x y is
+
+later : (n : ℕ) (h : List MarkedHappening) (j : ℕ) (what : WhatValue) (x : Happening) (b : Bool) (orders : List OrderValue) → IsFor j what x → n ≤ moment_behind h → n ≤ moment_behind (h ++ (x, b) ∷ orders_of_one j orders)
+later n h j what x b orders fits le = subst (λ (m : ℕ). n ≤ m) (sym (moment_more h (x, b) (map (ordered j) orders) ∙ fits.stays (moment_behind h))) le
+
+pub event_more : (configs : List ConfigValue) (h : List MarkedHappening) (server next : Counting) (before after : Option (List RunEvent)) (j : ℕ) (what : WhatValue) (x : Happening) → j < length configs → IsFor j what x → (t : TakesEvent (event_told (moment_behind h) j what) server next before after) → HasParents configs server.server → Premise (sockets_in h) server.server.instances x → AllServing configs h server.server.instances → AllServing configs (h ++ (x, t.marked) ∷ orders_of_one j t.orders) next.server.instances
+event_more configs h server next before after j what x lt fits t has premise a =
     let m : ℕ = moment_behind h in
-    let here = t.own a.now a.stands in
-    let parent : Option AtWork = rests a.beside in
-    let may : MayStep (texts_of parent) (event_told m i what) t.marked a.now (with_orders here.now t.orders) =
-    subst (λ (ts : List Blob). MayStep ts (event_told m i what) t.marked a.now (with_orders here.now t.orders)) (own_read i p server.server m a.beside has a.stands_beside) here.may in
-    let stepped : MayHappenTo i p m (at_rest a.now a.beside) (x, t.marked) (both (with_orders here.now t.orders) parent) = record {
-      own = takes_it (texts_of parent) i m a.now here.now what x t.marked t.orders fits (premise m i a.now a.stands a.times) may;
-      parent = parent_passes p i m a.beside server.server.instances what x t.marked has.apart fits a.stands_beside premise;
-    } in
+    let e : EventValue = event_told m j what in
+    let parents : List (Option ℕ) = parents_of configs in
+    let was = there_is a.ls j (omega (arith, lt, a.count)) in
+    let stood = a.each j was.0 was.1 in
+    let here = t.own was.0 stood.stands in
+    let ks : List LoneInstance = slice_set a.ls j here.now in
+    let step : MayStep (texts_beside j parents a.ls) e t.marked was.0 here.now t.orders =
+    subst (λ (ts : List Blob). MayStep ts e t.marked was.0 here.now t.orders) (own_read j configs h server.server has a) here.may in
+    let taken : IsTaken parents e t.marked a.ls (with_orders ks (map (ordered j) t.orders)) = record { was = was.0; there = was.1; now = here.now; orders = t.orders; step = step; so = refl } in
+    let comes : Comes parents m (with_orders a.ls []) (x, t.marked) (with_orders ks (map (ordered j) t.orders)) = (
+      refl,
+      (λ i l at. (premise m i l (a.each i l at).stands (a.each i l at).times).0),
+      subst (λ (o : Option EventValue). IsTakenIf parents o t.marked a.ls (with_orders ks (map (ordered j) t.orders))) (sym (fits.event m)) taken,
+    ) in
     record {
-      now = here.now;
-      beside = a.beside;
-      serves = may_serve_on h ((x, t.marked) ∷ orders_of_one i t.orders) i p 0 (at_rest (begun family.own) (option_map begun family.parent)) (at_rest a.now a.beside) (at_rest here.now a.beside) a.serves
-          (both (with_orders here.now t.orders) parent, stepped, carried i p (moment_on m (x, t.marked)) here.now parent t.orders has.apart);
-      times = later here.now.state.moment h i what x t.marked t.orders fits (may_within (texts_of parent) (event_told m i what) t.marked a.now (with_orders here.now t.orders) m may (omega arith) a.times);
-      stands = here.stands;
-      stands_beside = beside_on p server.server.instances next.server.instances m (moment_behind (h ++ (x, t.marked) ∷ orders_of_one i t.orders)) i a.beside has.apart (later m h i what x t.marked t.orders fits (omega arith)) t.others a.stands_beside;
+      ls = ks;
+      serves = may_serve_on parents h ((x, t.marked) ∷ orders_of_one j t.orders) [] 0 (with_orders (map begun configs) []) (with_orders a.ls []) (with_orders ks []) a.serves
+          (with_orders ks (map (ordered j) t.orders), fits.comes parents m (with_orders a.ls []) (with_orders ks (map (ordered j) t.orders)) t.marked comes, (λ i l at. (premise m i l (a.each i l at).stands (a.each i l at).times).1), carried parents (sockets_then (sockets_in h) x) (moment_then m x) j ks t.orders);
+      count = length-set a.ls j here.now ∙ a.count;
+      each = λ i l at. elim (cases_eq i j) [
+        | inl same ↦
+            let now : here.now ≡ l = same_Some here.now l (sym (set_here a.ls j here.now was.0 was.1) ∙ subst (λ (k : ℕ). slice_get ks k ≡ Some l) same at) in
+            let it : StandsServing (moment_behind (h ++ (x, t.marked) ∷ orders_of_one j t.orders)) j next.server.instances here.now = record {
+              stands = here.stands;
+              times = later here.now.state.moment h j what x t.marked t.orders fits (may_within (texts_beside j parents a.ls) e t.marked was.0 here.now t.orders m step (omega arith) stood.times);
+            } in
+            subst (λ (k : ℕ). StandsServing (moment_behind (h ++ (x, t.marked) ∷ orders_of_one j t.orders)) k next.server.instances l) (sym same)
+            (subst (λ (n : LoneInstance). StandsServing (moment_behind (h ++ (x, t.marked) ∷ orders_of_one j t.orders)) j next.server.instances n) now it)
+        | inr ne ↦
+            let it = a.each i l (sym (set_other a.ls j i here.now ne) ∙ at) in
+            record {
+              stands = (it.stands.0, t.others i ne ∙ it.stands.1, it.stands.2);
+              times = later l.state.moment h j what x t.marked t.orders fits it.times;
+            }
+      ];
     }
 
-parent_more : (family : Family) (i j : ℕ) (h : List MarkedHappening) (server next : Counting) (before after : Option (List RunEvent)) (what : WhatValue) (x : Happening) → IsFor j what x → (t : TakesEvent (event_told (moment_behind h) j what) server next before after) → HasParent i (Some j) server.server → Premise server.server.instances x → StandsServing family i (Some j) h server.server.instances → StandsServing family i (Some j) (h ++ (x, t.marked) ∷ orders_of_one j t.orders) next.server.instances
-parent_more family i j h server next before after what x fits t has premise a = go a.beside a.serves a.stands_beside
-  where
-    go : (beside : Option LoneInstance) → Serves family i (Some j) h a.now beside → StandsBeside (Some j) server.server.instances (moment_behind h) beside → StandsServing family i (Some j) (h ++ (x, t.marked) ∷ orders_of_one j t.orders) next.server.instances
-    go None serves stands = absurd stands
-    go (Some l) serves stands =
-        let there = t.own l stands.0 in
-        let may : MayStep [] (event_told (moment_behind h) j what) t.marked l (with_orders there.now t.orders) =
-        subst (λ (ts : List Blob). MayStep ts (event_told (moment_behind h) j what) t.marked l (with_orders there.now t.orders)) (ap (λ (o : Option ℕ). texts_of_one o server.server.instances) has.root) there.may in
-        let stepped : MayHappenTo i (Some j) (moment_behind h) (at_rest a.now (Some l)) (x, t.marked) (both (with_orders a.now []) (Some (with_orders there.now t.orders))) = record {
-          own = passes_it (texts_of (Some (with_orders l []))) i j (moment_behind h) a.now what x t.marked (λ same. has.apart (sym same)) fits (premise (moment_behind h) i a.now a.stands a.times);
-          parent = takes_it [] j (moment_behind h) l there.now what x t.marked t.orders fits (premise (moment_behind h) j l stands.0 stands.1) may;
-        } in
-        record {
-          now = a.now;
-          beside = Some there.now;
-          serves = may_serve_on h ((x, t.marked) ∷ orders_of_one j t.orders) i (Some j) 0 (at_rest (begun family.own) (option_map begun family.parent)) (at_rest a.now (Some l)) (at_rest a.now (Some there.now)) serves
-              (both (with_orders a.now []) (Some (with_orders there.now t.orders)), stepped, parent_carried i j (moment_on (moment_behind h) (x, t.marked)) (with_orders a.now []) there.now t.orders has.apart);
-          times = later a.now.state.moment h j what x t.marked t.orders fits a.times;
-          stands = (a.stands.0, t.others i (λ same. has.apart (sym same)) ∙ a.stands.1, a.stands.2);
-          stands_beside = (there.stands, later there.now.state.moment h j what x t.marked t.orders fits (may_within [] (event_told (moment_behind h) j what) t.marked l (with_orders there.now t.orders) (moment_behind h) may (omega arith) stands.1));
-        }
-
-other_more : (family : Family) (i : ℕ) (p : Option ℕ) (j : ℕ) (h : List MarkedHappening) (server next : Counting) (before after : Option (List RunEvent)) (what : WhatValue) (x : Happening) → i ≢ j → IsNot p j → IsFor j what x → (t : TakesEvent (event_told (moment_behind h) j what) server next before after) → Premise server.server.instances x → StandsServing family i p h server.server.instances → StandsServing family i p (h ++ (x, t.marked) ∷ orders_of_one j t.orders) next.server.instances
-other_more family i p j h server next before after what x ne not fits t premise a =
-    let m : ℕ = moment_behind h in
-    let stepped : MayHappenTo i p m (at_rest a.now a.beside) (x, t.marked) (at_rest a.now a.beside) = record {
-      own = passes_it (texts_of (rests a.beside)) i j m a.now what x t.marked ne fits (premise m i a.now a.stands a.times);
-      parent = parent_passes p j m a.beside server.server.instances what x t.marked not fits a.stands_beside premise;
-    } in
-    record {
-      now = a.now;
-      beside = a.beside;
-      serves = may_serve_on h ((x, t.marked) ∷ orders_of_one j t.orders) i p 0 (at_rest (begun family.own) (option_map begun family.parent)) (at_rest a.now a.beside) (at_rest a.now a.beside) a.serves
-          (at_rest a.now a.beside, stepped, passed i p j (moment_on m (x, t.marked)) (at_rest a.now a.beside) t.orders ne not);
-      times = later a.now.state.moment h j what x t.marked t.orders fits a.times;
-      stands = (a.stands.0, t.others i ne ∙ a.stands.1, a.stands.2);
-      stands_beside = beside_on p server.server.instances next.server.instances m (moment_behind (h ++ (x, t.marked) ∷ orders_of_one j t.orders)) j a.beside not (later m h j what x t.marked t.orders fits (omega arith)) t.others a.stands_beside;
-    }
-
-pub stands_more : (family : Family) (i : ℕ) (p : Option ℕ) (h : List MarkedHappening) (server next : Counting) (before after : Option (List RunEvent)) (j : ℕ) (what : WhatValue) (x : Happening) → IsFor j what x → (t : TakesEvent (event_told (moment_behind h) j what) server next before after) → HasParent i p server.server → Premise server.server.instances x → StandsServing family i p h server.server.instances → StandsServing family i p (h ++ (x, t.marked) ∷ orders_of_one j t.orders) next.server.instances
-stands_more family i p h server next before after j what x fits t has premise a = go (cases_eq j i) p has a
-  where
-    mine : (q : Option ℕ) → j ≡ i → HasParent i q server.server → StandsServing family i q h server.server.instances → StandsServing family i q (h ++ (x, t.marked) ∷ orders_of_one j t.orders) next.server.instances
-    mine q same given b =
-        subst (λ (k : ℕ). HasParent k q server.server → StandsServing family k q h server.server.instances → StandsServing family k q (h ++ (x, t.marked) ∷ orders_of_one j t.orders) next.server.instances) same
-        (λ g c. own_more family j q h server next before after what x fits t g premise c) given b
-
-    beside : (n : ℕ) → (j ≡ n) ⊎ (j ≡ n → ⊥) → i ≢ j → HasParent i (Some n) server.server → StandsServing family i (Some n) h server.server.instances → StandsServing family i (Some n) (h ++ (x, t.marked) ∷ orders_of_one j t.orders) next.server.instances
-    beside n (inl same) ne given b =
-        subst (λ (k : ℕ). HasParent i (Some k) server.server → StandsServing family i (Some k) h server.server.instances → StandsServing family i (Some k) (h ++ (x, t.marked) ∷ orders_of_one j t.orders) next.server.instances) same
-        (λ g c. parent_more family i j h server next before after what x fits t g premise c) given b
-    beside n (inr other) ne given b = other_more family i (Some n) j h server next before after what x ne (λ same. other (sym same)) fits t premise b
-
-    go : (j ≡ i) ⊎ (j ≡ i → ⊥) → (q : Option ℕ) → HasParent i q server.server → StandsServing family i q h server.server.instances → StandsServing family i q (h ++ (x, t.marked) ∷ orders_of_one j t.orders) next.server.instances
-    go (inl same) q given b = mine q same given b
-    go (inr other) None given b = other_more family i None j h server next before after what x (λ same. other (sym same)) tt fits t premise b
-    go (inr other) (Some n) given b = beside n (cases_eq j n) (λ same. other (sym same)) given b
-
--- the parent of an instance of these configurations
-pub parent_here : (configs : List ConfigValue) (server : ServerState) (i : ℕ) (config : ConfigValue) → HasParents configs server → config_at i configs ≡ Some config → HasParent i (parent_of configs config) server
-parent_here configs server i config has is = record {
-  at = ap (option_and_then (λ (x : Option ℕ). x)) there;
-  apart = go (parent_of configs config) there;
-  root = up (parent_of configs config) there;
-}
-  where
-    there : slice_get server.parents i ≡ Some (parent_of configs config)
-    there = ap (λ (ps : List (Option ℕ)). slice_get ps i) has.same ∙ slice_get-map (parent_of configs) configs i ∙ ap (option_map (parent_of configs)) is
-
-    go : (p : Option ℕ) → slice_get server.parents i ≡ Some p → IsNot p i
-    go None at = tt
-    go (Some n) at = (has.good i n at).another
-
-    up : (p : Option ℕ) → slice_get server.parents i ≡ Some p → IfSome p (λ n. parent_at n server.parents ≡ None)
-    up None at = tt
-    up (Some n) at = ap (option_and_then (λ (x : Option ℕ). x)) (has.good i n at).builds_on_none
-
-parents_on : (configs : List ConfigValue) (server next : ServerState) → next.parents ≡ server.parents → HasParents configs server → HasParents configs next
+pub parents_on : (configs : List ConfigValue) (server next : ServerState) → next.parents ≡ server.parents → HasParents configs server → HasParents configs next
 parents_on configs server next same has = record { same = same ∙ has.same; good = subst AreParents (sym same) has.good }
-
--- all instances of a server have served this
-pub record AllServing (configs : List ConfigValue) (h : List MarkedHappening) (server : ServerState) : Type 0 where
-  pub parents : HasParents configs server
-  pub each : (i : ℕ) (config : ConfigValue) → config_at i configs ≡ Some config → StandsServing (family_in configs config) i (parent_of configs config) h server.instances
-
--- all instances of a server after an event that is told
-pub each_more : (configs : List ConfigValue) (h : List MarkedHappening) (server next : Counting) (before after : Option (List RunEvent)) (j : ℕ) (what : WhatValue) (x : Happening) → IsFor j what x → (t : TakesEvent (event_told (moment_behind h) j what) server next before after) → HasParents configs server.server → Premise server.server.instances x → AllServing configs h server.server → AllServing configs (h ++ (x, t.marked) ∷ orders_of_one j t.orders) next.server
-each_more configs h server next before after j what x fits t parents premise all = record {
-  parents = parents_on configs server.server next.server t.parents parents;
-  each = λ i config is.
-      stands_more (family_in configs config) i (parent_of configs config) h server next before after j what x fits t (parent_here configs server.server i config parents is) premise (all.each i config is);
-}
 
 -- ---- how many were cut short
 
@@ -431,33 +362,32 @@ capped n k = omega arith
 -- one more is counted
 pub counted_more : (h : List MarkedHappening) (x : Happening) (b : Bool) (more : List RunEvent) (cut now : ℕ) → now ≡ cut_after cut b → IsCount (cuts h) cut → IsCount (cuts (h ++ (x, b) ∷ map ran more)) now
 counted_more h x true more cut now is was =
-    is ∙ ap (λ (n : ℕ). min (n + 1) most_counted) was ∙ capped (cuts h) most_counted ∙ ap (λ (n : ℕ). min n most_counted) (sym (cuts_more h (x, true) more))
+    is ∙ ap (λ (n : ℕ). min (n + 1) most_counted) was ∙ capped (cuts h) most_counted ∙ ap (λ (n : ℕ). min n most_counted) (sym (cut_more h x more))
 counted_more h x false more cut now is was =
-    is ∙ was ∙ ap (λ (n : ℕ). min n most_counted) (sym (cuts_more h (x, false) more))
+    is ∙ was ∙ ap (λ (n : ℕ). min n most_counted) (sym (none_cut h x more))
 
 -- what an event at a number adds
 abbrev pub IsOne : ℕ → List SocketEvent → List RunEvent → Happening → Type 0
 IsOne count sockets runs x = (b : Bool) → (timed_events ((x, b) ∷ []) ≡ all_timed count sockets) × (run_events ((x, b) ∷ []) ≡ runs)
 
 -- the server after an event that is told, by what happened at the sockets and at the runs
-at_more : (configs : List ConfigValue) (sockets more_sockets : List SocketEvent) (runs more_runs : List RunEvent) (server next : Counting) (before after : Option (List RunEvent)) (m j : ℕ) (what : WhatValue) (x : Happening) → IsFor j what x → j < length configs → moment_of (sockets ++ more_sockets) ≡ moment_of sockets → IsOne (length configs) more_sockets more_runs x → before ≡ Some (runs ++ more_runs) → TakesEvent (event_told m j what) server next before after → Premise server.server.instances x → IsServerAt configs sockets runs server m → IsServing configs (Some (sockets ++ more_sockets)) after next m
+at_more : (configs : List ConfigValue) (sockets more_sockets : List SocketEvent) (runs more_runs : List RunEvent) (server next : Counting) (before after : Option (List RunEvent)) (m j : ℕ) (what : WhatValue) (x : Happening) → IsFor j what x → j < length configs → moment_of (sockets ++ more_sockets) ≡ moment_of sockets → IsOne (length configs) more_sockets more_runs x → before ≡ Some (runs ++ more_runs) → TakesEvent (event_told m j what) server next before after → Premise sockets server.server.instances x → IsServerAt configs sockets runs server m → IsServing configs (Some (sockets ++ more_sockets)) after next m
 at_more configs sockets more_sockets runs more_runs server next before after m j what x fits lt same_moment one known t premise at =
     let count : ℕ = length configs in
     let now : m ≡ moment_behind at.h = at.moment ∙ sym (moment_together count sockets runs at.h at.together) in
     let moved : TakesEvent (event_told (moment_behind at.h) j what) server next before after = subst (λ (n : ℕ). TakesEvent (event_told n j what) server next before after) now t in
     let orders : List RunEvent = map (ordered j) moved.orders in
     let y : MarkedHappening = (x, moved.marked) in
-    let alone : AreOf count (all_timed count more_sockets) more_runs (y ∷ []) = record { timed_so = (one moved.marked).0; runs_so = (one moved.marked).1; of_these = (fits.of_one count moved.marked lt, tt) } in
-    let parts : AreOf count (all_timed count sockets ++ all_timed count more_sockets) (runs ++ (more_runs ++ orders)) (at.h ++ y ∷ map ran orders) =
-    parts_on count (all_timed count sockets) (all_timed count more_sockets) runs (more_runs ++ orders) at.h (y ∷ map ran orders)
-    (parts_of count sockets runs at.h at.together) (parts_ordered count j (all_timed count more_sockets) more_runs moved.orders y lt alone) in
-    let all = each_more configs at.h server next before after j what x fits moved at.parents premise (record { parents = at.parents; each = at.each }) in
+    let alone : AreOf (all_timed count more_sockets) more_runs (y ∷ []) = record { timed_so = (one moved.marked).0; runs_so = (one moved.marked).1 } in
+    let parts : AreOf (all_timed count sockets ++ all_timed count more_sockets) (runs ++ (more_runs ++ orders)) (at.h ++ y ∷ map ran orders) =
+    parts_on (all_timed count sockets) (all_timed count more_sockets) runs (more_runs ++ orders) at.h (y ∷ map ran orders)
+    (parts_of count sockets runs at.h at.together) (parts_ordered j (all_timed count more_sockets) more_runs moved.orders y alone) in
     let done : IsServerAt configs (sockets ++ more_sockets) (runs ++ (more_runs ++ orders)) next m = record {
       h = at.h ++ y ∷ map ran orders;
-      together = record { at_sockets_so = parts.timed_so ∙ sym (flat_map-append (with_times count) sockets more_sockets); at_runs_so = parts.runs_so; of_these = parts.of_these };
+      together = record { at_sockets_so = parts.timed_so ∙ sym (flat_map-append (with_times count) sockets more_sockets); at_runs_so = parts.runs_so };
       counted = counted_more at.h x moved.marked orders server.cut next.cut moved.counted at.counted;
-      parents = all.parents;
-      each = all.each;
+      parents = parents_on configs server.server next.server moved.parents at.parents;
+      all = event_more configs at.h server next before after j what x lt fits moved at.parents (subst (λ (g : List SocketEvent). Premise g server.server.instances x) (sym (sockets_together count sockets runs at.h at.together)) premise) at.all;
       moment = at.moment ∙ sym same_moment;
     } in
     let Serving : Option (List RunEvent) → Type 0 = λ o. IsServing configs (Some (sockets ++ more_sockets)) o next m in
@@ -470,11 +400,20 @@ at_more configs sockets more_sockets runs more_runs server next before after m j
 
 -- ---- by what happened
 
+-- .. as far as it is known what happened before
+abbrev pub PremiseIf : Option (List SocketEvent) → Option (List RunEvent) → List ServedState → Happening → Type 0
+PremiseIf known was vs x = IfSome known (λ s. IfSome was (λ r. Premise s vs x))
+
+pub premise_if : (known : Option (List SocketEvent)) (was : Option (List RunEvent)) (vs : List ServedState) (x : Happening) → ((s : List SocketEvent) → Premise s vs x) → PremiseIf known was vs x
+premise_if None was vs x f = tt
+premise_if (Some s) None vs x f = tt
+premise_if (Some s) (Some r) vs x f = f s
+
 pub none_serves : (configs : List ConfigValue) (known : Option (List SocketEvent)) (server : Counting) (m : ℕ) → IsServing configs known None server m
 none_serves configs None server m = tt
 none_serves configs (Some s) server m = tt
 
-port_known : (configs : List ConfigValue) (old new : Option (List SocketEvent)) (was is : Option (List RunEvent)) (server next : Counting) (m j : ℕ) (p : PortEvent) → j < length configs → AddsAll old new (port j p ∷ []) → TakesEvent (event_at m j p) server next was is → Premise server.server.instances (at_sockets (port j p)) → IsServing configs old was server m → IsServing configs new is next m
+port_known : (configs : List ConfigValue) (old new : Option (List SocketEvent)) (was is : Option (List RunEvent)) (server next : Counting) (m j : ℕ) (p : PortEvent) → j < length configs → AddsAll old new (port j p ∷ []) → TakesEvent (event_at m j p) server next was is → PremiseIf old was server.server.instances (at_sockets (port j p)) → IsServing configs old was server m → IsServing configs new is next m
 port_known configs None new was is server next m j p lt adds t premise at = subst (λ (o : Option (List SocketEvent)). IsServing configs o is next m) (sym adds) tt
 port_known configs (Some s) new None is server next m j p lt adds t premise at = subst (λ (o : Option (List RunEvent)). IsServing configs new o next m) (sym (still_lost None is (map (ordered j) t.orders) refl t.carried)) (none_serves configs new next m)
 port_known configs (Some s) new (Some r) is server next m j p lt adds t premise at =
@@ -483,7 +422,7 @@ port_known configs (Some s) new (Some r) is server next m j p lt adds t premise 
     (fold_push moment_after 0 s (port j p)) (λ b. (refl, refl)) (ap Some (sym (append-nil r))) t premise at)
 
 -- at the port of an instance
-pub after_port : (configs : List ConfigValue) (old new : Option (List SocketEvent)) (was is : Option (List RunEvent)) (server next : Counting) (m j : ℕ) (p : PortEvent) → j < length configs → Adds old new (port j p ∷ []) → TakesEvent (event_at m j p) server next was is → Premise server.server.instances (at_sockets (port j p)) → IsServing configs old was server m → IsServing configs new is next m
+pub after_port : (configs : List ConfigValue) (old new : Option (List SocketEvent)) (was is : Option (List RunEvent)) (server next : Counting) (m j : ℕ) (p : PortEvent) → j < length configs → Adds old new (port j p ∷ []) → TakesEvent (event_at m j p) server next was is → PremiseIf old was server.server.instances (at_sockets (port j p)) → IsServing configs old was server m → IsServing configs new is next m
 after_port configs old new was is server next m j p lt adds t premise at = elim adds [
   | inl lost ↦ subst (λ (o : Option (List SocketEvent)). IsServing configs o is next m) (sym lost) tt
   | inr all ↦ port_known configs old new was is server next m j p lt all t premise at
@@ -503,7 +442,7 @@ after_outcome configs (Some s) (Some r) asked is server next m j job outcome lt 
   | inr all ↦
       subst (λ (x : List SocketEvent). IsServing configs (Some x) is next m) (append-nil s)
       (at_more configs s [] r (gave j job outcome ∷ []) server next asked is m j (ended job outcome) (at_runs (gave j job outcome)) (gave_for j job outcome) lt
-      (ap moment_of (append-nil s)) (λ b. (refl, refl)) all t (λ n k l stands late. tt) at)
+      (ap moment_of (append-nil s)) (λ b. (refl, refl)) all t (λ n k l stands late. (tt, tt)) at)
 ]
 
 -- what was asked, by what is told of it
@@ -540,9 +479,7 @@ was_served configs (Some s) None server m at = tt
 was_served configs (Some s) (Some r) server m at = (
   at.h,
   at.together,
-  λ i config is.
-      (let a = at.each i config is in
-      (a.now, a.beside, a.serves)),
+  (subst AreParents at.parents.same at.parents.good, at.all.ls, at.all.serves),
   at.counted,
 )
 
@@ -554,7 +491,7 @@ next_by n bytes (Some p) le is =
     let same : bytes ≡ pending_bytes p.history = same_Some bytes (pending_bytes p.history) is in
     ap (λ (k : ℕ). take k (pending_bytes p.history)) (length-take-le n bytes le) ∙ ap (take n) (sym same)
 
-none_by : (o : Option Past) → None ≡ option_map (λ (p : Past). pending_bytes p.history) o → o ≡ None
+pub none_by : (o : Option Past) → None ≡ option_map (λ (p : Past). pending_bytes p.history) o → o ≡ None
 none_by None is = refl
 none_by (Some p) is = absurd (none-some (pending_bytes p.history) is)
 
@@ -562,24 +499,39 @@ none_by (Some p) is = absurd (none-some (pending_bytes p.history) is)
 abbrev pub Pends : ℕ → ℕ → List ServedState → Option (List ℕ) → Type 0
 Pends i c vs answer = (l : LoneInstance) → StandsAt i vs l → answer ≡ option_map (λ (p : Past). pending_bytes p.history) (open_at c l.connections)
 
-next_written : (vs : List ServedState) (i c n : ℕ) (bytes : List ℕ) → n ≤ length bytes → Pends i c vs (Some bytes) → Premise vs (at_sockets (port i (PortEvent.written c (take n bytes))))
-next_written vs i c n bytes le pends = λ m k l stands late same.
-    let here : StandsAt i vs l = subst (λ (x : ℕ). StandsAt x vs l) (sym same) stands in
-    let waits : Some bytes ≡ option_map (λ (p : Past). pending_bytes p.history) (open_at c l.connections) = pends l here in
-    let counted : refusal_of (event_told m k (took c (length (take n bytes)))) l ≡ None =
-    ap (λ (x : ℕ). refusal_of (event_told m k (took c x)) l) (length-take-le n bytes le)
-    ∙ took_taken m k c n bytes l late le waits in
-    (next_by n bytes (open_at c l.connections) le waits, counted)
+next_written : (vs : List ServedState) (i c n : ℕ) (bytes : List ℕ) → n ≤ length bytes → Pends i c vs (Some bytes) → (before : List SocketEvent) → Premise before vs (at_sockets (port i (PortEvent.written c (take n bytes))))
+next_written vs i c n bytes le pends before = λ m k l stands late. (
+  (λ same.
+      let here : StandsAt i vs l = subst (λ (x : ℕ). StandsAt x vs l) (sym same) stands in
+      let waits : Some bytes ≡ option_map (λ (p : Past). pending_bytes p.history) (open_at c l.connections) = pends l here in
+      let counted : refusal_of (event_told m k (took c (length (take n bytes)))) l ≡ None =
+      ap (λ (x : ℕ). refusal_of (event_told m k (took c x)) l) (length-take-le n bytes le)
+      ∙ took_taken m k c n bytes l late le waits in
+      (next_by n bytes (open_at c l.connections) le waits, counted)),
+  tt,
+)
 
-free_accepted : (vs : List ServedState) (i c : ℕ) → Pends i c vs None → Premise vs (at_sockets (port i (PortEvent.accepted c)))
-free_accepted vs i c pends = λ m k l stands late same.
-    none_by (open_at c l.connections) (pends l (subst (λ (x : ℕ). StandsAt x vs l) (sym same) stands))
+free_accepted : (vs : List ServedState) (i c : ℕ) → Pends i c vs None → (before : List SocketEvent) → Premise before vs (at_sockets (port i (PortEvent.accepted c)))
+free_accepted vs i c pends before = λ m k l stands late. (
+  (λ same. none_by (open_at c l.connections) (pends l (subst (λ (x : ℕ). StandsAt x vs l) (sym same) stands))),
+  tt,
+)
+
+shut_premise : (a : Socket) (server : ServerState) (old : Option (List SocketEvent)) (was : Option (List RunEvent)) → MayClose a server old was → PremiseIf old was server.instances (at_sockets (port a.instance (PortEvent.shut a.connection)))
+shut_premise a server None was may = tt
+shut_premise a server (Some s) None may = tt
+shut_premise a server (Some s) (Some r) may = λ m n l stands late. (
+  tt,
+  (λ same.
+      subst (λ (x : ℕ). MayBeShut (moment_of s) a.connection (own_past x s) l) same
+      (may l (subst (λ (x : ℕ). StandsAt x server.instances l) (sym same) stands))),
+)
 
 -- ---- by happening
 
 pub read_told : (configs : List ConfigValue) (old new : Option (List SocketEvent)) (was is : Option (List RunEvent)) (server next : Counting) (m i c : ℕ) (bytes items : List ℕ) → i < length configs → Adds old new (port i (PortEvent.read c bytes) ∷ []) → items ≡ bytes → TakesEvent (event_at m i (PortEvent.read c items)) server next was is → IsServing configs old was server m → IsServing configs new is next m
 read_told configs old new was is server next m i c bytes items lt adds same t at =
-    after_port configs old new was is server next m i (PortEvent.read c bytes) lt adds (subst (λ (b : List ℕ). TakesEvent (event_at m i (PortEvent.read c b)) server next was is) same t) (λ n k l stands late. tt) at
+    after_port configs old new was is server next m i (PortEvent.read c bytes) lt adds (subst (λ (b : List ℕ). TakesEvent (event_at m i (PortEvent.read c b)) server next was is) same t) (premise_if old was server.server.instances (at_sockets (port i (PortEvent.read c bytes))) (λ before n k l stands late. (tt, tt))) at
 
 -- a slice of a vector that was written to stands in the vector
 pub written_back : (n : ℕ) (xs ys : List ℕ) → length xs ≡ length ys → n ≡ length ys → take n (xs ++ drop (length xs) ys) ≡ xs
@@ -588,18 +540,19 @@ written_back n xs ys e f =
     let whole : length xs ≤ n = omega arith in
     ap (λ (zs : List ℕ). take n (xs ++ zs)) (drop_of_length-le ys le) ∙ ap (take n) (append-nil xs) ∙ take_all n xs whole
 
-pub shut_told : (configs : List ConfigValue) (old new : Option (List SocketEvent)) (was is : Option (List RunEvent)) (server next : Counting) (m i c : ℕ) → i < length configs → Adds old new (port i (PortEvent.shut c) ∷ []) → TakesEvent (event_at m i (PortEvent.shut c)) server next was is → IsServing configs old was server m → IsServing configs new is next m
-shut_told configs old new was is server next m i c lt adds t at = after_port configs old new was is server next m i (PortEvent.shut c) lt adds t (λ n k l stands late. tt) at
+pub shut_told : (configs : List ConfigValue) (old new : Option (List SocketEvent)) (was is : Option (List RunEvent)) (server next : Counting) (m : ℕ) (a : Socket) → a.instance < length configs → MayClose a server.server old was → Adds old new (port a.instance (PortEvent.shut a.connection) ∷ []) → TakesEvent (event_at m a.instance (PortEvent.shut a.connection)) server next was is → IsServing configs old was server m → IsServing configs new is next m
+shut_told configs old new was is server next m a lt may adds t at =
+    after_port configs old new was is server next m a.instance (PortEvent.shut a.connection) lt adds t (shut_premise a server.server old was may) at
 
 pub written_told : (configs : List ConfigValue) (old new : Option (List SocketEvent)) (was is : Option (List RunEvent)) (server next : Counting) (m i c n : ℕ) (bytes : List ℕ) → i < length configs → n ≤ length bytes → Pends i c server.server.instances (Some bytes) → Adds old new (port i (PortEvent.written c (take n bytes)) ∷ []) → TakesEvent (event_told m i (took c n)) server next was is → IsServing configs old was server m → IsServing configs new is next m
 written_told configs old new was is server next m i c n bytes lt le pends adds t at =
     let counted : TakesEvent (event_at m i (PortEvent.written c (take n bytes))) server next was is =
     subst (λ (k : ℕ). TakesEvent (event_told m i (took c k)) server next was is) (sym (length-take-le n bytes le)) t in
-    after_port configs old new was is server next m i (PortEvent.written c (take n bytes)) lt adds counted (next_written server.server.instances i c n bytes le pends) at
+    after_port configs old new was is server next m i (PortEvent.written c (take n bytes)) lt adds counted (premise_if old was server.server.instances (at_sockets (port i (PortEvent.written c (take n bytes)))) (next_written server.server.instances i c n bytes le pends)) at
 
 pub accepted_told : (configs : List ConfigValue) (old new : Option (List SocketEvent)) (was is : Option (List RunEvent)) (server next : Counting) (m i c : ℕ) → i < length configs → Pends i c server.server.instances None → Adds old new (port i (PortEvent.accepted c) ∷ []) → TakesEvent (event_at m i (PortEvent.accepted c)) server next was is → IsServing configs old was server m → IsServing configs new is next m
 accepted_told configs old new was is server next m i c lt pends adds t at =
-    after_port configs old new was is server next m i (PortEvent.accepted c) lt adds t (free_accepted server.server.instances i c pends) at
+    after_port configs old new was is server next m i (PortEvent.accepted c) lt adds t (premise_if old was server.server.instances (at_sockets (port i (PortEvent.accepted c))) (free_accepted server.server.instances i c pends)) at
 
 -- ---- the beginning
 
@@ -625,6 +578,6 @@ recounted configs (Some s) (Some r) server m counts at = record {
   together = at.together;
   counted = at.counted;
   parents = record { same = at.parents.same; good = at.parents.good };
-  each = at.each;
+  all = at.all;
   moment = at.moment;
 }

@@ -1,69 +1,96 @@
--- What happens that is an event of no instance: the clock is read, or a task is lent.
-use Rattle.std.proofs.Common.{◌≡◌, ℕ, ◌<◌, ◌≤◌, List, [], ◌∷◌, ◌++◌, length, refl, ap, ◌∙◌, sym, subst, arith, inl, inr, append-nil, append_assoc}
-use Rattle.std.specs.Prelude.{false, Option, Some, None}
+-- What happens that is an event of no instance: the clock is read, a call on a connection failed, or
+-- a task is lent.
+use Rattle.std.proofs.Common.{◌≡◌, ℕ, ◌<◌, ◌≤◌, List, [], ◌∷◌, ◌++◌, map, length, refl, ap, ◌∙◌, sym, subst, arith, inl, inr, append-nil, append_assoc}
+use Rattle.std.specs.Prelude.{Bool, false, Option, Some, None}
 use Rattle.std.specs.List.{AllByRecursion}
 use Rattle.std.specs.Option.{option_map}
+use Rattle.std.proofs.lemmas.Grind.{flat_map-append}
+use Rattle.std.proofs.lemmas.List.{length-map, length-set}
+use Rattle.std.proofs.lemmas.List.Sums.{fold_push}
+use Rattle.std.proofs.lemmas.Option.{slice_get_within}
 use Rattle.execution.specs.Job.{TaskValue}
 use Rattle.execution.specs.Orders.{OrderValue, start, task_of}
 use Rattle.instance_core.specs.State.{InstanceState}
-use Rattle.instance_core.specs.Visible.{Blob}
 use Rattle.run_outcomes.specs.Outcomes.{OutcomeValue}
-use Rattle.server_events.specs.Configs.{ConfigValue, parent_of}
+use Rattle.server_events.specs.Configs.{ConfigValue, parents_of}
 use Rattle.server_events.specs.Events.{EventValue, ended}
 use Rattle.served_instance.specs.Lone.{LoneInstance}
 use Rattle.served_instance.specs.StandsFor.{ServedState}
-use Rattle.server_core.specs.Families.{Family, family_in}
 use Rattle.server_core.specs.StandsFor.{instance_at}
-use Rattle.serve.specs.SocketEvents.{SocketEvent, clock}
+use Rattle.serve.specs.SocketEvents.{SocketEvent, clock, port, failed, moment_after, Adds, AddsAll}
 use Rattle.serve.specs.RunEvents.{RunEvent, ordered, lent, gave, AddsRuns, AddsAllRuns, WasBegun}
 use Rattle.serve.specs.declared.carrying.Counting.{Counting}
 use Rattle.run_calls.specs.declared.task.RunKey.{RunKey}
-use Rattle.serve.specs.Happenings.{Happening, MarkedHappening, IsOfOne, at_sockets, told, at_runs, run_events, all_timed, moment_then, event_for}
-use Rattle.serve.specs.Served.{AtWork, with_orders, Comes, MayHappen, ParentMayHappen, MayTake, IsFaithful, at_rest, begun, texts_of}
-use Rattle.serve.specs.KeepsServing.{unmarked, moment_behind, StandsBeside, StandsServing, IsServing, TakesEvent}
-use Rattle.serve.proofs.Happenings.{AreOf, parts_of, parts_on, moment_more, may_serve_on}
-use Rattle.serve.proofs.Keeps.{IsOneOf, Premise, counted_more, event_told, rests, after_outcome, after_no_run, asked_adds}
+use Rattle.serve.specs.Happenings.{Happening, MarkedHappening, at_sockets, told, at_runs, with_times, moment_then, sockets_in, event_told, event_then}
+use Rattle.serve.specs.Served.{AtWork, with_orders, IsTaken, IsTakenIf, Comes, Happens, MayServe, IsFaithful, begun}
+use Rattle.serve.specs.KeepsServing.{unmarked, moment_behind, StandsServing, AllServing, IsServing, TakesEvent}
+use Rattle.serve.proofs.Happenings.{run_events, all_timed, AreOf, parts_of, parts_on, moment_more, may_serve_on}
+use Rattle.serve.proofs.Keeps.{IsOneOf, Premise, counted_more, after_outcome, after_no_run, asked_adds, none_serves}
 
--- what happens is an event of no instance
-pub record IsForNobody (x : Happening) : Type 0 where
-  pub event : (i m : ℕ) → event_for i m x ≡ None
-  pub comes : (parent : List Blob) (i m : ℕ) (w v : AtWork) → Comes parent i m w (unmarked x) v → MayHappen parent i m w (unmarked x) v
+-- what happens is an event of no instance, of so many
+pub record IsForNobody (count : ℕ) (x : Happening) : Type 0 where
+  pub event : (m : ℕ) → event_then m x ≡ None
+  pub comes : (parents : List (Option ℕ)) (m : ℕ) (w v : AtWork) → length w.instances ≡ count → Comes parents m w (unmarked x) v → Happens parents m w (unmarked x) v
 
-pub clock_for : (n : ℕ) → IsForNobody (at_sockets (clock n))
-clock_for n = record { event = λ i m. refl; comes = λ parent i m w v so. so }
+pub clock_for : (count n : ℕ) → IsForNobody count (at_sockets (clock n))
+clock_for count n = record { event = λ m. refl; comes = λ parents m w v is so. so }
 
-lent_for : (j job : ℕ) (task : Option TaskValue) → IsForNobody (at_runs (lent j job task))
-lent_for j job task = record { event = λ i m. refl; comes = λ parent i m w v so. so }
+lent_for : (count j job : ℕ) (task : Option TaskValue) → j < count → IsForNobody count (at_runs (lent j job task))
+lent_for count j job task lt = record { event = λ m. refl; comes = λ parents m w v is so. (omega (arith, lt, is), so) }
 
--- an instance stays as it is
-stays : (parent : List Blob) (i m : ℕ) (l : LoneInstance) (x : Happening) → IsForNobody x → IsFaithful i m l x → MayHappen parent i m (with_orders l []) (unmarked x) (with_orders l [])
-stays parent i m l x nobody faithful =
-    nobody.comes parent i m (with_orders l []) (with_orders l []) (refl, faithful, subst (λ (o : Option EventValue). MayTake parent o false l (with_orders l [])) (sym (nobody.event i m)) refl)
+failed_for : (count j c : ℕ) → j < count → IsForNobody count (at_sockets (failed j c))
+failed_for count j c lt = record { event = λ m. refl; comes = λ parents m w v is so. (omega (arith, lt, is), so) }
 
-parent_stays : (p : Option ℕ) (m : ℕ) (l : Option LoneInstance) (vs : List ServedState) (x : Happening) → IsForNobody x → Premise vs x → StandsBeside p vs m l → ParentMayHappen p m (rests l) (unmarked x) (rests l)
-parent_stays p m None vs x nobody premise stands = refl
-parent_stays None m (Some l) vs x nobody premise stands = tt
-parent_stays (Some n) m (Some l) vs x nobody premise stands = stays [] n m l x nobody (premise m n l stands.0 stands.1)
-
-beside_later : (p : Option ℕ) (vs : List ServedState) (m n : ℕ) (l : Option LoneInstance) → m ≤ n → StandsBeside p vs m l → StandsBeside p vs n l
-beside_later None vs m n l le stands = stands
-beside_later (Some p) vs m n None le stands = absurd stands
-beside_later (Some p) vs m n (Some l) le stands = (stands.0, (let late = stands.1 in omega (arith, le, late)))
-
-pub nobody_more : (family : Family) (i : ℕ) (p : Option ℕ) (h : List MarkedHappening) (vs : List ServedState) (x : Happening) → IsForNobody x → moment_behind h ≤ moment_then (moment_behind h) x → Premise vs x → StandsServing family i p h vs → StandsServing family i p (h ++ unmarked x ∷ []) vs
-nobody_more family i p h vs x nobody rises premise a =
+-- all instances stay as they are
+pub nobody_more : (configs : List ConfigValue) (h : List MarkedHappening) (vs : List ServedState) (x : Happening) → IsForNobody (length configs) x → moment_behind h ≤ moment_then (moment_behind h) x → Premise (sockets_in h) vs x → AllServing configs h vs → AllServing configs (h ++ unmarked x ∷ []) vs
+nobody_more configs h vs x nobody rises premise a =
     let m : ℕ = moment_behind h in
-    let late = a.times in
+    let parents : List (Option ℕ) = parents_of configs in
     let later : m ≤ moment_behind (h ++ unmarked x ∷ []) = subst (λ (n : ℕ). m ≤ n) (sym (moment_more h (unmarked x) [])) rises in
+    let comes : Comes parents m (with_orders a.ls []) (unmarked x) (with_orders a.ls []) = (
+      refl,
+      (λ i l at. (premise m i l (a.each i l at).stands (a.each i l at).times).0),
+      subst (λ (o : Option EventValue). IsTakenIf parents o false a.ls (with_orders a.ls [])) (sym (nobody.event m)) (refl, refl),
+    ) in
     record {
-      now = a.now;
-      beside = a.beside;
-      serves = may_serve_on h (unmarked x ∷ []) i p 0 (at_rest (begun family.own) (option_map begun family.parent)) (at_rest a.now a.beside) (at_rest a.now a.beside) a.serves
-          (at_rest a.now a.beside, record { own = stays (texts_of (rests a.beside)) i m a.now x nobody (premise m i a.now a.stands a.times); parent = parent_stays p m a.beside vs x nobody premise a.stands_beside }, refl);
-      times = omega (arith, later, late);
-      stands = a.stands;
-      stands_beside = beside_later p vs m (moment_behind (h ++ unmarked x ∷ [])) a.beside later a.stands_beside;
+      ls = a.ls;
+      serves = may_serve_on parents h (unmarked x ∷ []) [] 0 (with_orders (map begun configs) []) (with_orders a.ls []) (with_orders a.ls []) a.serves
+          (with_orders a.ls [], nobody.comes parents m (with_orders a.ls []) (with_orders a.ls []) a.count comes, (λ i l at. (premise m i l (a.each i l at).stands (a.each i l at).times).1), refl);
+      count = a.count;
+      each = λ i l at.
+          (let it : StandsServing m i vs l = a.each i l at in
+          let late = it.times in
+          record { stands = it.stands; times = omega (arith, later, late) });
     }
+
+-- ---- a call on a connection failed
+
+failed_known : (configs : List ConfigValue) (s : List SocketEvent) (r : List RunEvent) (server : Counting) (m j c : ℕ) → j < length configs → IsServing configs (Some s) (Some r) server m → IsServing configs (Some (s ++ failed j c ∷ [])) (Some r) server m
+failed_known configs s r server m j c lt at =
+    let x : Happening = at_sockets (failed j c) in
+    let count : ℕ = length configs in
+    let timed : List Happening = all_timed count s in
+    let parts : AreOf (timed ++ x ∷ []) (r ++ []) (at.h ++ unmarked x ∷ []) =
+    parts_on timed (x ∷ []) r [] at.h (unmarked x ∷ []) (parts_of count s r at.h at.together) (record { timed_so = refl; runs_so = refl }) in
+    record {
+      h = at.h ++ unmarked x ∷ [];
+      together = record { at_sockets_so = parts.timed_so ∙ sym (flat_map-append (with_times count) s (failed j c ∷ [])); at_runs_so = parts.runs_so ∙ append-nil r };
+      counted = counted_more at.h x false [] server.cut server.cut refl at.counted;
+      parents = at.parents;
+      all = nobody_more configs at.h server.server.instances x (failed_for count j c lt) (omega arith) (λ n k l stands late. (tt, tt)) at.all;
+      moment = at.moment ∙ sym (fold_push moment_after 0 s (failed j c));
+    }
+
+pub after_failed : (configs : List ConfigValue) (old new : Option (List SocketEvent)) (was : Option (List RunEvent)) (server : Counting) (m j c : ℕ) → j < length configs → Adds old new (failed j c ∷ []) → IsServing configs old was server m → IsServing configs new was server m
+after_failed configs old new None server m j c lt adds at = none_serves configs new server m
+after_failed configs old new (Some r) server m j c lt adds at = elim adds [
+  | inl lost ↦ subst (λ (o : Option (List SocketEvent)). IsServing configs o (Some r) server m) (sym lost) tt
+  | inr all ↦ go old all at
+]
+  where
+    go : (o : Option (List SocketEvent)) → AddsAll o new (failed j c ∷ []) → IsServing configs o (Some r) server m → IsServing configs new (Some r) server m
+    go None all so = subst (λ (n : Option (List SocketEvent)). IsServing configs n (Some r) server m) (sym all) tt
+    go (Some s) all so = subst (λ (n : Option (List SocketEvent)). IsServing configs n (Some r) server m) (sym all) (failed_known configs s r server m j c lt so)
 
 -- ---- a task is lent
 
@@ -71,9 +98,12 @@ nobody_more family i p h vs x nobody rises premise a =
 abbrev pub IsTaskAt : ℕ → ℕ → Option TaskValue → List ServedState → Type 0
 IsTaskAt j job task vs = (v : ServedState) → instance_at j vs ≡ Some v → task ≡ task_of job v.state.jobs
 
-lent_faithful : (vs : List ServedState) (j job : ℕ) (task : Option TaskValue) → IsTaskAt j job task vs → Premise vs (at_runs (lent j job task))
-lent_faithful vs j job task is = λ m n l stands late same.
-    is stands.0 (ap (λ (k : ℕ). instance_at k vs) same ∙ stands.1) ∙ ap (λ (s : InstanceState). task_of job s.jobs) stands.2.state
+lent_faithful : (vs : List ServedState) (j job : ℕ) (task : Option TaskValue) → IsTaskAt j job task vs → (before : List SocketEvent) → Premise before vs (at_runs (lent j job task))
+lent_faithful vs j job task is before = λ m n l stands late. (
+  (λ same.
+      is stands.0 (ap (λ (k : ℕ). instance_at k vs) same ∙ stands.1) ∙ ap (λ (s : InstanceState). task_of job s.jobs) stands.2.state),
+  tt,
+)
 
 abbrev with_lent : Option (List RunEvent) → RunEvent → Option (List RunEvent)
 with_lent was x = option_map (λ (h : List RunEvent). h ++ x ∷ []) was
@@ -96,15 +126,14 @@ after_lent configs (Some s) (Some r) server m j job task lt is at =
     let x : Happening = at_runs (lent j job task) in
     let count : ℕ = length configs in
     let timed : List Happening = all_timed count s in
-    let parts : AreOf count (timed ++ []) (r ++ lent j job task ∷ []) (at.h ++ unmarked x ∷ []) =
-    parts_on count timed [] r (lent j job task ∷ []) at.h (unmarked x ∷ []) (parts_of count s r at.h at.together) (record { timed_so = refl; runs_so = refl; of_these = ((lt, refl), tt) }) in
+    let parts : AreOf (timed ++ []) (r ++ lent j job task ∷ []) (at.h ++ unmarked x ∷ []) =
+    parts_on timed [] r (lent j job task ∷ []) at.h (unmarked x ∷ []) (parts_of count s r at.h at.together) (record { timed_so = refl; runs_so = refl }) in
     record {
       h = at.h ++ unmarked x ∷ [];
-      together = record { at_sockets_so = parts.timed_so ∙ append-nil timed; at_runs_so = parts.runs_so; of_these = parts.of_these };
+      together = record { at_sockets_so = parts.timed_so ∙ append-nil timed; at_runs_so = parts.runs_so };
       counted = counted_more at.h x false [] server.cut server.cut refl at.counted;
       parents = at.parents;
-      each = λ i config here.
-          nobody_more (family_in configs config) i (parent_of configs config) at.h server.server.instances x (lent_for j job task) (omega arith) (lent_faithful server.server.instances j job task is) (at.each i config here);
+      all = nobody_more configs at.h server.server.instances x (lent_for count j job task lt) (omega arith) (lent_faithful server.server.instances j job task is (sockets_in at.h)) at.all;
       moment = at.moment;
     }
 
@@ -120,18 +149,70 @@ first_same x y xs ys is = cc
 rest_same : (x y : RunEvent) (xs ys : List RunEvent) → x ∷ xs ≡ y ∷ ys → xs ≡ ys
 rest_same x y xs ys is = cc
 
-began : (count : ℕ) (h : List MarkedHappening) (run : RunKey) (before after : List RunEvent) (o : OrderValue) → AllByRecursion (IsOfOne count) h → run_events h ≡ before ++ ordered run.instance o ∷ after → run.instance < count
-began count [] run before after o all is = absurd (none_here before after (ordered run.instance o) is)
-began count ((at_sockets s, b) ∷ h) run before after o all is = began count h run before after o all.1 is
-began count ((told i, b) ∷ h) run before after o all is = began count h run before after o all.1 is
-began count ((at_runs r, b) ∷ h) run [] after o all is = (subst (λ (x : RunEvent). IsOfOne count (at_runs x, b)) (first_same r (ordered run.instance o) (run_events h) after is) all.0).0
-began count ((at_runs r, b) ∷ h) run (x ∷ before) after o all is = began count h run before after o all.1 (rest_same r x (run_events h) (before ++ ordered run.instance o ∷ after) is)
+-- an order that is carried out is of one of so many instances
+abbrev IsOfThese : ℕ → RunEvent → Type 0
+IsOfThese count (ordered j o) = j < count
+IsOfThese count (lent j job task) = Unit {0}
+IsOfThese count (gave j job outcome) = Unit {0}
+
+abbrev AreOfThese : ℕ → List RunEvent → Type 0
+AreOfThese count rs = AllByRecursion (IsOfThese count) rs
+
+orders_of_these : (count j : ℕ) (orders : List OrderValue) → j < count → AreOfThese count (map (ordered j) orders)
+orders_of_these count j [] lt = tt
+orders_of_these count j (o ∷ orders) lt = (lt, orders_of_these count j orders lt)
+
+record IsWithin (count : ℕ) (w : AtWork) : Type 0 where
+  instances : length w.instances ≡ count
+  orders : AreOfThese count w.orders
+
+taken_within : (count : ℕ) (parents : List (Option ℕ)) (e : EventValue) (b : Bool) (ls : List LoneInstance) (v : AtWork) → length ls ≡ count → IsTaken parents e b ls v → IsWithin count v
+taken_within count parents e b ls v is t = subst (IsWithin count) (sym t.so) (record {
+  instances = length-set ls e.instance t.now ∙ is;
+  orders = orders_of_these count e.instance t.orders (subst (λ (n : ℕ). e.instance < n) is (slice_get_within ls e.instance t.was t.there));
+})
+
+comes_within : (count : ℕ) (parents : List (Option ℕ)) (o : Option EventValue) (b : Bool) (ls : List LoneInstance) (v : AtWork) → length ls ≡ count → IsTakenIf parents o b ls v → IsWithin count v
+comes_within count parents None b ls v is t = subst (IsWithin count) (sym t.1) (record { instances = is; orders = tt })
+comes_within count parents (Some e) b ls v is t = taken_within count parents e b ls v is t
+
+began : (count : ℕ) (parents : List (Option ℕ)) (h : List MarkedHappening) (past : List SocketEvent) (m : ℕ) (w v : AtWork) (run : RunKey) (before after : List RunEvent) (o : OrderValue) → IsWithin count w → MayServe parents past m w h v → run_events h ≡ before ++ ordered run.instance o ∷ after → run.instance < count
+began count parents [] past m w v run before after o all s is = absurd (none_here before after (ordered run.instance o) is)
+began count parents ((at_sockets (clock n), b) ∷ h) past m w v run before after o all s is =
+    began count parents h (past ++ clock n ∷ []) n s.0 v run before after o (comes_within count parents None b w.instances s.0 all.instances s.1.2) s.3 is
+began count parents ((at_sockets (port j p), b) ∷ h) past m w v run before after o all s is =
+    began count parents h (past ++ port j p ∷ []) m s.0 v run before after o (comes_within count parents (event_then m (at_sockets (port j p))) b w.instances s.0 all.instances s.1.2) s.3 is
+began count parents ((at_sockets (failed j c), b) ∷ h) past m w v run before after o all s is =
+    began count parents h (past ++ failed j c ∷ []) m s.0 v run before after o (comes_within count parents None b w.instances s.0 all.instances s.1.1.2) s.3 is
+began count parents ((told j, b) ∷ h) past m w v run before after o all s is =
+    began count parents h past m s.0 v run before after o (comes_within count parents (event_then m (told j)) b w.instances s.0 all.instances s.1.2) s.3 is
+began count parents ((at_runs (ordered j q), b) ∷ h) past m w v run before after o all s is =
+    go before is (λ front same.
+    began count parents h past m s.0 v run front after o
+    (record { instances = ap (λ (y : AtWork). length y.instances) (sym s.1.1) ∙ all.instances; orders = orders.1 }) s.3 same)
+  where
+    orders : AreOfThese count (ordered j q ∷ s.0.orders)
+    orders = subst (λ (x : AtWork). AreOfThese count x.orders) s.1.1 all.orders
+
+    go : (front : List RunEvent) → ordered j q ∷ run_events h ≡ front ++ ordered run.instance o ∷ after → ((rest : List RunEvent) → run_events h ≡ rest ++ ordered run.instance o ∷ after → run.instance < count) → run.instance < count
+    go [] same next = subst (IsOfThese count) (first_same (ordered j q) (ordered run.instance o) (run_events h) after same) orders.0
+    go (x ∷ front) same next =
+        next front (rest_same (ordered j q) x (run_events h) (front ++ ordered run.instance o ∷ after) same)
+began count parents ((at_runs (lent j job task), b) ∷ h) past m w v run [] after o all s is = cc
+began count parents ((at_runs (lent j job task), b) ∷ h) past m w v run (x ∷ before) after o all s is =
+    began count parents h past m s.0 v run before after o (comes_within count parents None b w.instances s.0 all.instances s.1.1.2) s.3
+    (rest_same (lent j job task) x (run_events h) (before ++ ordered run.instance o ∷ after) is)
+began count parents ((at_runs (gave j job outcome), b) ∷ h) past m w v run [] after o all s is = cc
+began count parents ((at_runs (gave j job outcome), b) ∷ h) past m w v run (x ∷ before) after o all s is =
+    began count parents h past m s.0 v run before after o (comes_within count parents (event_then m (at_runs (gave j job outcome))) b w.instances s.0 all.instances s.1.2) s.3
+    (rest_same (gave j job outcome) x (run_events h) (before ++ ordered run.instance o ∷ after) is)
 
 pub begun_one : (configs : List ConfigValue) (known : Option (List SocketEvent)) (was : Option (List RunEvent)) (server : Counting) (m : ℕ) (run : RunKey) → WasBegun run was → IsServing configs known was server m → IsOneOf known was (length configs) run.instance
 begun_one configs None was server m run since at = tt
 begun_one configs (Some s) None server m run since at = tt
 begun_one configs (Some s) (Some r) server m run since at =
-    began (length configs) at.h run since.before since.after (start run.job since.task) at.together.of_these (at.together.at_runs_so ∙ since.whole)
+    began (length configs) (parents_of configs) at.h [] 0 (with_orders (map begun configs) []) (with_orders at.all.ls []) run since.before since.after (start run.job since.task)
+    (record { instances = length-map configs begun; orders = tt }) at.all.serves (at.together.at_runs_so ∙ since.whole)
 
 -- ---- a run is asked
 

@@ -4,7 +4,11 @@ mod Lending
 mod Beginning
 mod Ticks
 mod Silence
+mod Clients
 mod Numbers
+mod Open
+mod Closings
+mod Closed
 mod Logs
 mod RunLogs
 mod Written

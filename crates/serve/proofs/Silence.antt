@@ -5,7 +5,8 @@ use Rattle.std.proofs.lemmas.Bool.{cases_eq}
 use Rattle.std.proofs.lemmas.Option.{same_Some}
 use Rattle.served_instance.specs.Lone.{LoneInstance}
 use Rattle.serve.specs.declared.open_socket.OpenSocket.{OpenSocket}
-use Rattle.serve.specs.Silence.{silence_limit, MayMakeRoom, IsSilentLongerThan, IsLongestSilent}
+use Rattle.serve.specs.Closings.{silence_limit}
+use Rattle.serve.specs.Silence.{MayMakeRoom, IsSilentLongerThan, IsLongestSilent}
 
 -- what was found among the first n, and when it was heard last; or nothing was
 abbrev pub IsLongestBefore : ℕ → ℕ → ℕ → LoneInstance → List OpenSocket → Option ℕ → ℕ → Type 0
@@ -21,7 +22,7 @@ long false = omega arith
 
 -- who may make room was not heard now
 heard_before : (i m : ℕ) (l : LoneInstance) (s : OpenSocket) → MayMakeRoom i m l s → s.heard < m
-heard_before i m l s may = let some : 0 < silence_limit s = long (nat_lt s.received 24) in let le : silence_limit s ≤ m - s.heard = may.1 in omega (arith, some, le)
+heard_before i m l s may = let some : 0 < silence_limit s.received = long (nat_lt s.received 24) in let le : silence_limit s.received ≤ m - s.heard = may.1 in omega (arith, some, le)
 
 no_earlier : (n i m : ℕ) (l : LoneInstance) (sockets : List OpenSocket) (o : Option ℕ) (heard k : ℕ) (s : OpenSocket) → IsLongestBefore n i m l sockets o heard → k < n → slice_get sockets k ≡ Some s → MayMakeRoom i m l s → heard ≤ s.heard
 no_earlier n i m l sockets None heard k s so lt is may = absurd (so.1 k s lt is may)

@@ -6,17 +6,15 @@ use Rattle.std.specs.List.{range_with_len}
 use Rattle.std.proofs.lemmas.Grind.{flat_map-append}
 use Rattle.std.proofs.lemmas.List.{map-append}
 use Rattle.std.proofs.lemmas.List.Sums.{fold_push}
-use Rattle.server_events.specs.Configs.{ConfigValue, parent_of}
+use Rattle.server_events.specs.Configs.{ConfigValue}
 use Rattle.server_events.specs.Events.{EventValue, tick}
-use Rattle.server_core.specs.Families.{family_in}
 use Rattle.serve.specs.declared.carrying.Counting.{Counting}
 use Rattle.serve.specs.SocketEvents.{SocketEvent, clock, moment_after, moment_of, Adds, AddsAll}
 use Rattle.serve.specs.RunEvents.{RunEvent, ordered}
-use Rattle.serve.specs.Happenings.{Happening, MarkedHappening, at_sockets, told, cuts, all_told, all_timed, with_times}
-use Rattle.serve.specs.Served.{IsCount}
-use Rattle.serve.specs.KeepsServing.{ran, unmarked, moment_behind, IsServerAt, IsServing, TakesEvent}
-use Rattle.serve.proofs.Happenings.{AreOf, parts_of, parts_on, parts_ordered, moment_more, moment_together}
-use Rattle.serve.proofs.Keeps.{AllServing, counted_more, still_lost, each_more, event_told, none_serves, told_for}
+use Rattle.serve.specs.Happenings.{Happening, MarkedHappening, at_sockets, told, cuts, with_times, event_told}
+use Rattle.serve.specs.KeepsServing.{IsCount, ran, unmarked, moment_behind, HasParents, AllServing, IsServerAt, IsServing, TakesEvent}
+use Rattle.serve.proofs.Happenings.{all_told, all_timed, AreOf, parts_of, parts_on, parts_ordered, moment_more, moment_together}
+use Rattle.serve.proofs.Keeps.{counted_more, still_lost, event_more, none_serves, parents_on, told_for}
 use Rattle.serve.proofs.Lending.{clock_for, nobody_more}
 
 -- so many instances were told the time
@@ -28,10 +26,11 @@ told_so_far k = map told (range_with_len 0 k)
 pub record HasTicked (configs : List ConfigValue) (sockets : List SocketEvent) (runs : List RunEvent) (n k : ℕ) (server : Counting) (now : Option (List RunEvent)) : Type 0 where
   pub h : List MarkedHappening
   pub more : List RunEvent
-  pub parts : AreOf (length configs) (all_timed (length configs) sockets ++ at_sockets (clock n) ∷ told_so_far k) (runs ++ more) h
+  pub parts : AreOf (all_timed (length configs) sockets ++ at_sockets (clock n) ∷ told_so_far k) (runs ++ more) h
   pub runs_now : now ≡ Some (runs ++ more)
   pub counted : IsCount (cuts h) server.cut
-  pub all : AllServing configs h server.server
+  pub parents : HasParents configs server.server
+  pub all : AllServing configs h server.server.instances
   pub moment : moment_behind h ≡ n
 
 abbrev pub IsTicking : List ConfigValue → Option (List SocketEvent) → Option (List RunEvent) → ℕ → ℕ → Counting → Option (List RunEvent) → Type 0
@@ -62,10 +61,11 @@ none_ticked configs (Some s) (Some r) server m n rises at =
     record {
       h = at.h ++ unmarked (at_sockets (clock n)) ∷ [];
       more = [];
-      parts = parts_on count (all_timed count s) (at_sockets (clock n) ∷ []) r [] at.h (unmarked (at_sockets (clock n)) ∷ []) (parts_of count s r at.h at.together) (record { timed_so = refl; runs_so = refl; of_these = (refl, tt) });
+      parts = parts_on (all_timed count s) (at_sockets (clock n) ∷ []) r [] at.h (unmarked (at_sockets (clock n)) ∷ []) (parts_of count s r at.h at.together) (record { timed_so = refl; runs_so = refl });
       counted = counted_more at.h (at_sockets (clock n)) false [] server.cut server.cut refl at.counted;
       runs_now = ap Some (sym (append-nil r));
-      all = record { parents = at.parents; each = λ i config is. nobody_more (family_in configs config) i (parent_of configs config) at.h server.server.instances (at_sockets (clock n)) (clock_for n) late (λ m j l stands before. tt) (at.each i config is) };
+      parents = at.parents;
+      all = nobody_more configs at.h server.server.instances (at_sockets (clock n)) (clock_for count n) late (λ m j l stands before. (tt, tt)) at.all;
       moment = clock_moment at.h n;
     }
 
@@ -89,19 +89,20 @@ known_ticked configs s r b after n k server next lt so moved =
     let orders : List RunEvent = map (ordered k) moved.orders in
     let y : MarkedHappening = (told k, moved.marked) in
     let timed : List Happening = all_timed count s ++ at_sockets (clock n) ∷ told_so_far k in
-    let one : AreOf count (told k ∷ []) [] (y ∷ []) = record { timed_so = refl; runs_so = refl; of_these = (lt, tt) } in
-    let parts : AreOf count (timed ++ told k ∷ []) ((r ++ so.more) ++ orders) (so.h ++ y ∷ map ran orders) =
-    parts_on count timed (told k ∷ []) (r ++ so.more) orders so.h (y ∷ map ran orders) so.parts (parts_ordered count k (told k ∷ []) [] moved.orders y lt one) in
+    let one : AreOf (told k ∷ []) [] (y ∷ []) = record { timed_so = refl; runs_so = refl } in
+    let parts : AreOf (timed ++ told k ∷ []) ((r ++ so.more) ++ orders) (so.h ++ y ∷ map ran orders) =
+    parts_on timed (told k ∷ []) (r ++ so.more) orders so.h (y ∷ map ran orders) so.parts (parts_ordered k (told k ∷ []) [] moved.orders y one) in
     let longer : timed ++ told k ∷ [] ≡ all_timed count s ++ at_sockets (clock n) ∷ told_so_far (k + 1) =
     append_assoc (all_timed count s) (at_sockets (clock n) ∷ told_so_far k) (told k ∷ [])
     ∙ ap (λ (xs : List Happening). all_timed count s ++ at_sockets (clock n) ∷ xs) (told_more k) in
     record {
       h = so.h ++ y ∷ map ran orders;
       more = so.more ++ orders;
-      parts = record { timed_so = parts.timed_so ∙ longer; runs_so = parts.runs_so ∙ append_assoc r so.more orders; of_these = parts.of_these };
+      parts = record { timed_so = parts.timed_so ∙ longer; runs_so = parts.runs_so ∙ append_assoc r so.more orders };
       runs_now = ap (option_map (λ (x : List RunEvent). x ++ orders)) so.runs_now ∙ ap Some (append_assoc r so.more orders);
       counted = counted_more so.h (told k) moved.marked orders server.cut next.cut moved.counted so.counted;
-      all = each_more configs so.h server next (Some b) after k tick (told k) (told_for k) moved so.all.parents (λ m j l stands late. tt) so.all;
+      parents = parents_on configs server.server next.server moved.parents so.parents;
+      all = event_more configs so.h server next (Some b) after k tick (told k) lt (told_for k) moved so.parents (λ m j l stands late. (tt, tt)) so.all;
       moment = moment_more so.h y orders ∙ so.moment;
     }
 
@@ -132,10 +133,10 @@ known_all configs (Some s) new (Some r) (Some b) n k server adds unknown all so 
     ∙ sym (flat_map-append (with_times count) s (clock n ∷ [])) in
     let at : IsServerAt configs (s ++ clock n ∷ []) (r ++ so.more) server n = record {
       h = so.h;
-      together = record { at_sockets_so = so.parts.timed_so ∙ timed; at_runs_so = so.parts.runs_so; of_these = so.parts.of_these };
+      together = record { at_sockets_so = so.parts.timed_so ∙ timed; at_runs_so = so.parts.runs_so };
       counted = so.counted;
-      parents = so.all.parents;
-      each = so.all.each;
+      parents = so.parents;
+      all = so.all;
       moment = sym (fold_push moment_after 0 s (clock n));
     } in
     subst (λ (o : Option (List SocketEvent)). IsServing configs o (Some b) server n) (sym adds)

@@ -1,6 +1,6 @@
 -- The lines that say which runs failed, to an output that is not waited for. To be read from
 -- `WritesLines` up.
-use Rattle.std.specs.Prelude.{◌≡◌, ◌<◌, ◌≤◌, ◌≢◌, ◌⊎◌, slice_get, ◌+◌, ◌-◌, ◌^◌, ◌==◌, ◌/◌, if◌then◌else◌, ℕ, min, Bool, true, false, List, [], ◌++◌, length, flat_map, codes, Option, Some, None, IsSomeAnd, Result, Ok, Err}
+use Rattle.std.specs.Prelude.{◌≡◌, ◌<◌, ◌≤◌, ◌≢◌, ◌⊎◌, slice_get, ◌+◌, ◌-◌, ◌^◌, ◌==◌, ◌/◌, if◌then◌else◌, ℕ, min, Bool, true, false, List, [], ◌∷◌, ◌++◌, Contains, length, map, flat_map, codes, Option, Some, None, IsSomeAnd, Result, Ok, Err}
 use Rattle.std.specs.Option.{option_map_or}
 use Rattle.std.specs.List.{AllByRecursion, concat}
 use Rattle.std.specs.Fmt.{decimal}
@@ -8,10 +8,12 @@ use Rattle.std.specs.Io.KnownBytes.{Appends}
 use Rattle.std.specs.Char.Escape.{escape_ascii}
 use Rattle.runner.specs.declared.fault.RunFault.{RunFault}
 use Rattle.runner.specs.declared.fault.RunFault.TheVariants.{Folder, Start, Launcher, TooLarge, NoMemory, Left}
+use Rattle.run_calls.specs.Calls.{Adds}
 use Rattle.run_calls.specs.declared.task.RunKey.{RunKey}
 use Rattle.server_events.specs.Configs.{ConfigValue}
 use Rattle.serve.specs.declared.error_lines.Backlog.{Backlog}
 use Rattle.serve.specs.declared.error_lines.LineCount.{LineCount}
+use Rattle.serve.specs.RunEvents.{FaultValue}
 
 -- ---- lines
 
@@ -124,17 +126,52 @@ TellsAnswer configs moment run (Err fault) before old after new =
 
 -- ---- all lines
 
--- it says that a run failed, or how many lines were dropped
-abbrev pub IsFaultLine : List ConfigValue → List ℕ → Type 0
-IsFaultLine configs line =
-    ((i job : ℕ) × (fault : RunFault) × (said : List ℕ) × IsSaid fault said
-    × (line ≡ run_line (name_at i configs) job fault said))
+-- a fault of a run that is told, and the moment at which it is
+pub record ToldFault : Type 0 where
+  pub moment : ℕ
+  pub run : RunKey
+  pub fault : RunFault
+
+abbrev pub fault_told : ToldFault → FaultValue
+fault_told t = (t.run, t.fault)
+
+-- each of these faults is a line, which is put or dropped, one after another; nothing else is
+-- written
+abbrev pub TellsFaults : List ConfigValue → List ToldFault → Option (List ℕ) → Backlog →
+    Option (List ℕ) → Backlog → Type 0
+TellsFaults configs [] before old after new = (after ≡ before) × (new ≡ old)
+TellsFaults configs (t ∷ ts) before old after new =
+    (mid : Option (List ℕ)) × (between : Backlog)
+    × TellsFault configs t.moment t.run t.fault before old mid between
+    × TellsFaults configs ts mid between after new
+
+-- the faults that runs answered, which were these before and are these now, are told, in order
+abbrev pub WritesLines : List ConfigValue → Option (List FaultValue) → Option (List FaultValue) →
+    Option (List ℕ) → Backlog → Option (List ℕ) → Backlog → Type 0
+WritesLines configs were are before old after new =
+    (told : List ToldFault) × Adds were are (map fault_told told)
+    × TellsFaults configs told before old after new
+
+-- .. at this moment
+abbrev pub WritesLinesAt : ℕ → List ConfigValue → Option (List FaultValue) →
+    Option (List FaultValue) → Option (List ℕ) → Backlog → Option (List ℕ) → Backlog → Type 0
+WritesLinesAt moment configs were are before old after new =
+    (told : List ToldFault) × AllByRecursion (λ t. t.moment ≡ moment) told
+    × Adds were are (map fault_told told) × TellsFaults configs told before old after new
+
+-- ---- what follows of all that is written
+
+-- it says that the run of one of these faults failed, and why, or how many lines were dropped
+abbrev pub IsFaultLine : List ConfigValue → List ToldFault → List ℕ → Type 0
+IsFaultLine configs told line =
+    ((t : ToldFault) × (said : List ℕ) × Contains told t × IsSaid t.fault said
+    × (line ≡ run_line (name_at t.run.instance configs) t.run.job t.fault said))
     ⊎ ((n : ℕ) × (line ≡ dropped_line n))
 
 -- such lines are put, each whole, one behind another and behind what is left of one; the end of the
 -- last may be left
-abbrev pub WritesLines : List ConfigValue → Option (List ℕ) → Backlog → Option (List ℕ) → Backlog →
-    Type 0
-WritesLines configs before old after new =
-    (lines : List (List ℕ)) × AllByRecursion (IsFaultLine configs) lines
+abbrev pub WritesWholeLines : List ConfigValue → List ToldFault → Option (List ℕ) → Backlog →
+    Option (List ℕ) → Backlog → Type 0
+WritesWholeLines configs told before old after new =
+    (lines : List (List ℕ)) × AllByRecursion (IsFaultLine configs told) lines
     × WritesFront before (old.rest.items ++ concat lines) after new.rest.items

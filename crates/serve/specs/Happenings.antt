@@ -1,10 +1,10 @@
 -- What happens to a server: at its sockets and at the runs of its jobs, and that instances are told
--- the time, in one order; and which event of it an instance is given.
-use Rattle.std.specs.Prelude.{◌≡◌, ◌<◌, ℕ, ◌==◌, ◌+◌, if◌then◌else◌, Bool, true, false, List, [], ◌∷◌, map, fold, Option, Some, None}
-use Rattle.std.specs.List.{filter_map, flat_map, range_with_len}
+-- the time, in one order; and which event it is, of whose instance.
+use Rattle.std.specs.Prelude.{ℕ, Bool, List, [], ◌∷◌, ◌++◌, length, map, fold, filter, Option, Some, None}
+use Rattle.std.specs.List.{range_with_len}
 use Rattle.server_events.specs.Events.{EventValue, WhatValue, tick, ended}
-use Rattle.serve.specs.SocketEvents.{SocketEvent, clock, port, what_of, moment_after}
-use Rattle.serve.specs.RunEvents.{RunEvent, ordered, lent, gave}
+use Rattle.serve.specs.SocketEvents.{SocketEvent, clock, port, failed, what_of}
+use Rattle.serve.specs.RunEvents.{RunEvent, gave}
 
 pub data Happening : Type 0 where
   at_sockets : SocketEvent → Happening
@@ -18,73 +18,47 @@ MarkedHappening = Happening × Bool
 
 -- what of it happened at the runs, and what not
 abbrev pub run_event : MarkedHappening → Option RunEvent
-run_event (at_sockets s, b) = None
-run_event (told i, b) = None
 run_event (at_runs r, b) = Some r
+run_event x = None
 
 abbrev pub timed_event : MarkedHappening → Option Happening
-timed_event (at_sockets s, b) = Some (at_sockets s)
-timed_event (told i, b) = Some (told i)
 timed_event (at_runs r, b) = None
-
-abbrev pub run_events : List MarkedHappening → List RunEvent
-run_events h = filter_map run_event h
-
-abbrev pub timed_events : List MarkedHappening → List Happening
-timed_events h = filter_map timed_event h
+timed_event x = Some x.0
 
 -- how many are marked
-abbrev pub cut_on : ℕ → MarkedHappening → ℕ
-cut_on n (x, true) = n + 1
-cut_on n (x, false) = n
-
 abbrev pub cuts : List MarkedHappening → ℕ
-cuts h = fold cut_on 0 h
+cuts h = length (filter (λ x. x.1) h)
 
--- what happens is of one of so many instances, and where it is no event of it, it is not marked
-abbrev pub IsOfOne : ℕ → MarkedHappening → Type 0
-IsOfOne count (at_sockets (clock n), b) = b ≡ false
-IsOfOne count (at_sockets (port j p), b) = j < count
-IsOfOne count (told j, b) = j < count
-IsOfOne count (at_runs (ordered j o), b) = (j < count) × (b ≡ false)
-IsOfOne count (at_runs (lent j job task), b) = (j < count) × (b ≡ false)
-IsOfOne count (at_runs (gave j job outcome), b) = j < count
-
--- each of so many instances, in order
-abbrev pub all_told : ℕ → List Happening
-all_told count = map told (range_with_len 0 count)
-
--- what happened at the sockets, where each instance is told the time as soon as the clock was read
+-- what happens at the sockets, where each of so many instances, in order, is told the time as soon
+-- as the clock was read
 abbrev pub with_times : ℕ → SocketEvent → List Happening
-with_times count (clock n) = at_sockets (clock n) ∷ all_told count
+with_times count (clock n) = at_sockets (clock n) ∷ map told (range_with_len 0 count)
 with_times count (port j p) = at_sockets (port j p) ∷ []
-
-abbrev pub all_timed : ℕ → List SocketEvent → List Happening
-all_timed count sockets = flat_map (with_times count) sockets
-
--- ---- the clock
+with_times count (failed j c) = at_sockets (failed j c) ∷ []
 
 -- what the clock showed last, where it showed this before
 abbrev pub moment_then : ℕ → Happening → ℕ
-moment_then m (at_sockets s) = moment_after m s
-moment_then m (told i) = m
-moment_then m (at_runs r) = m
+moment_then m (at_sockets (clock n)) = n
+moment_then m x = m
 
-abbrev pub moment_on : ℕ → MarkedHappening → ℕ
-moment_on m x = moment_then m x.0
+-- what happened at the sockets, where this had happened there before
+abbrev pub sockets_then : List SocketEvent → Happening → List SocketEvent
+sockets_then before (at_sockets s) = before ++ s ∷ []
+sockets_then before x = before
 
--- ---- an instance's own events
+abbrev pub sockets_on : List SocketEvent → MarkedHappening → List SocketEvent
+sockets_on before x = sockets_then before x.0
 
-abbrev pub own_event : ℕ → ℕ → ℕ → WhatValue → Option EventValue
-own_event i m j what =
-    if j == i then Some (record { moment = m; instance = j; what = what }) else None
+abbrev pub sockets_in : List MarkedHappening → List SocketEvent
+sockets_in h = fold sockets_on [] h
 
--- the event of instance i, if there is one: what happens at a port, what a run gave, and that it is
--- told the time, is an event of its instance alone
-abbrev pub event_for : ℕ → ℕ → Happening → Option EventValue
-event_for i m (at_sockets (clock n)) = None
-event_for i m (at_sockets (port j p)) = own_event i m j (what_of p)
-event_for i m (told j) = own_event i m j tick
-event_for i m (at_runs (ordered j o)) = None
-event_for i m (at_runs (lent j job task)) = None
-event_for i m (at_runs (gave j job outcome)) = own_event i m j (ended job outcome)
+-- which event it is, if it is one of an instance: what happens at its port, what a run of a job of
+-- it gave, and that it is told the time
+abbrev pub event_told : ℕ → ℕ → WhatValue → EventValue
+event_told m j what = record { moment = m; instance = j; what = what }
+
+abbrev pub event_then : ℕ → Happening → Option EventValue
+event_then m (at_sockets (port j p)) = Some (event_told m j (what_of p))
+event_then m (told j) = Some (event_told m j tick)
+event_then m (at_runs (gave j job outcome)) = Some (event_told m j (ended job outcome))
+event_then m x = None

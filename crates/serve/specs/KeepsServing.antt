@@ -1,16 +1,15 @@
 -- What a server keeps while it serves. For the code alone: `Served.antt` says what comes of it.
-use Rattle.std.specs.Prelude.{◌≡◌, ◌≢◌, ◌+◌, ◌≤◌, ◌<◌, ℕ, min, fold, Bool, true, false, List, map, length, Option, Some, None, IfSome}
+use Rattle.std.specs.Prelude.{◌≡◌, ◌≢◌, ◌+◌, ◌-◌, ◌^◌, ◌≤◌, ◌<◌, ℕ, min, fold, Bool, true, false, List, map, length, Option, Some, IfSome}
+use Rattle.std.specs.List.{slice_get}
 use Rattle.execution.specs.declared.orders.Order.{Order}
 use Rattle.execution.specs.Orders.{OrderValue}
 use Rattle.instance_core.specs.Turns.{orders_meant}
 use Rattle.instance_core.specs.Visible.{Blob}
-use Rattle.server_events.specs.Configs.{ConfigValue, parent_of, parents_of}
+use Rattle.server_events.specs.Configs.{ConfigValue, parents_of}
 use Rattle.server_events.specs.Faults.{AreParents}
 use Rattle.server_events.specs.Events.{EventValue}
 use Rattle.served_instance.specs.Lone.{LoneInstance}
 use Rattle.served_instance.specs.StandsFor.{ServedState}
-use Rattle.server_core.specs.LoneOutput.{config_at}
-use Rattle.server_core.specs.Families.{Family, family_in}
 use Rattle.server_core.specs.Parents.{parent_texts}
 use Rattle.server_core.specs.StandsFor.{ServerState, StandsAt, instance_at}
 use Rattle.serve.specs.SocketEvents.{SocketEvent, moment_of}
@@ -18,9 +17,9 @@ use Rattle.serve.specs.RunEvents.{RunEvent, ordered, AddsRuns, WasBegun}
 use Rattle.run_calls.specs.declared.task.RunKey.{RunKey}
 use Rattle.served_instance.specs.declared.refusal.EventRefusal.{EventRefusal}
 use Rattle.served_instance.specs.declared.refusal.EventRefusal.TheVariants.{NoMemory}
-use Rattle.serve.specs.Happenings.{Happening, MarkedHappening, at_runs, cuts, moment_on}
+use Rattle.serve.specs.Happenings.{Happening, MarkedHappening, at_runs, cuts, moment_then}
 use Rattle.serve.specs.declared.carrying.Counting.{Counting}
-use Rattle.serve.specs.Served.{with_orders, MayStep, Serves, HappenedTogether, most_counted, IsCount}
+use Rattle.serve.specs.Served.{MayStep, ServesAll, HappenedTogether}
 
 -- what happened and is not marked
 abbrev pub unmarked : Happening → MarkedHappening
@@ -30,25 +29,32 @@ abbrev pub ran : RunEvent → MarkedHappening
 ran r = (at_runs r, false)
 
 -- what the clock showed last
+abbrev pub moment_on : ℕ → MarkedHappening → ℕ
+moment_on m x = moment_then m x.0
+
 abbrev pub moment_behind : List MarkedHappening → ℕ
 moment_behind h = fold moment_on 0 h
 
--- the parent of this number stands for what it has come to, and is not ahead of the clock
-abbrev pub StandsBeside : Option ℕ → List ServedState → ℕ → Option LoneInstance → Type 0
-StandsBeside None vs m l = l ≡ None
-StandsBeside (Some p) vs m None = ⊥
-StandsBeside (Some p) vs m (Some l) = StandsAt p vs l × (l.state.moment ≤ m)
+-- a count of 64 bits, which ends at the last of these numbers
+abbrev pub most_counted : ℕ
+most_counted = 2 ^ 64 - 1
 
--- an instance of the server, and its parent of that number, stand for what they have come to
-pub record StandsServing (family : Family) (i : ℕ) (p : Option ℕ)
-    (h : List MarkedHappening) (vs : List ServedState) : Type 0 where
-  pub now : LoneInstance
-  pub beside : Option LoneInstance
-  pub serves : Serves family i p h now beside
-  -- it is not ahead of the clock
-  pub times : now.state.moment ≤ moment_behind h
-  pub stands : StandsAt i vs now
-  pub stands_beside : StandsBeside p vs (moment_behind h) beside
+abbrev pub IsCount : ℕ → ℕ → Type 0
+IsCount n counted = counted ≡ min n most_counted
+
+-- an instance of the server stands for what it has come to, and is not ahead of the clock
+pub record StandsServing (m i : ℕ) (vs : List ServedState) (l : LoneInstance) : Type 0 where
+  pub stands : StandsAt i vs l
+  pub times : l.state.moment ≤ m
+
+-- the instances of the server, one by one, stand for what they have come to together
+pub record AllServing (configs : List ConfigValue) (h : List MarkedHappening)
+    (vs : List ServedState) : Type 0 where
+  pub ls : List LoneInstance
+  pub serves : ServesAll configs h ls
+  pub count : length ls ≡ length configs
+  pub each : (i : ℕ) (l : LoneInstance) → slice_get ls i ≡ Some l
+      → StandsServing (moment_behind h) i vs l
 
 -- the server has the parents of these configurations
 pub record HasParents (configs : List ConfigValue) (server : ServerState) : Type 0 where
@@ -61,9 +67,7 @@ pub record IsServerAt (configs : List ConfigValue) (sockets : List SocketEvent)
   pub together : HappenedTogether (length configs) sockets runs h
   pub counted : IsCount (cuts h) counting.cut
   pub parents : HasParents configs counting.server
-  pub each : (i : ℕ) (config : ConfigValue) → config_at i configs ≡ Some config
-      → StandsServing (family_in configs config) i (parent_of configs config) h
-      counting.server.instances
+  pub all : AllServing configs h counting.server.instances
   -- what the clock showed last
   pub moment : m ≡ moment_of sockets
 
@@ -101,7 +105,7 @@ KeepsServingBegun run old was before m new is after n =
 pub record StandsAfter (parent : List Blob) (e : EventValue) (marked : Bool) (l : LoneInstance)
     (orders : List OrderValue) (vs : List ServedState) : Type 0 where
   pub now : LoneInstance
-  pub may : MayStep parent e marked l (with_orders now orders)
+  pub may : MayStep parent e marked l now orders
   pub stands : StandsAt e.instance vs now
 
 abbrev pub is_for_memory : EventRefusal → Bool

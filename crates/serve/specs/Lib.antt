@@ -1,7 +1,9 @@
 pub mod SocketEvents
 pub mod RunEvents
 pub mod Happenings
+pub mod Closings
 pub mod Served
+pub mod Closed
 pub mod KeepsServing
 pub mod Did
 pub mod Numbers

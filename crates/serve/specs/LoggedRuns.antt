@@ -8,7 +8,7 @@ use Rattle.execution.specs.Job.{TaskValue}
 use Rattle.execution.specs.Orders.{start, kill}
 use Rattle.execution.specs.Preparing.{task_read}
 use Rattle.run_outcomes.specs.Shown.{outcome_shown}
-use Rattle.serve.specs.RunEvents.{RunEvent, ordered, lent, gave}
+use Rattle.serve.specs.RunEvents.{FaultValue, RunEvent, ordered, lent, gave}
 use Rattle.serve.specs.declared.copies.TextCopy.{TextCopy}
 use Rattle.serve.specs.declared.copies.TaskCopy.{TaskCopy}
 use Rattle.serve.specs.declared.logged_runs.RunRecord.{RunRecord}
@@ -30,6 +30,10 @@ run_event (Gave run outcome) = gave run.instance run.job (outcome_shown outcome)
 
 abbrev pub run_events : List RunRecord → List RunEvent
 run_events records = map run_event records
+
+-- the faults that were answered, where their log is there
+abbrev pub faults_logged : Option (Vec FaultValue Global) → Option (List FaultValue)
+faults_logged log = option_map (λ faults. faults.items) log
 
 -- all that happened, where the log is there
 abbrev pub runs_logged : Option (Vec RunRecord Global) → Option (List RunEvent)

@@ -41,6 +41,15 @@ abbrev pub asked_events : RunKey → Option LentTask → Result (Option Outcome)
 asked_events run task answer =
     lent run.instance run.job (option_map lent_shown task) ∷ outcome_events run answer
 
+-- a run, and the fault that it answered
+abbrev pub FaultValue : Type 0
+FaultValue = RunKey × RunFault
+
+-- the fault that a run answered, if it did
+abbrev pub faults_of : {A : Type 0} → RunKey → Result A RunFault → List FaultValue
+faults_of run (Ok answer) = []
+faults_of run (Err fault) = (run, fault) ∷ []
+
 -- the run of a job was begun
 pub record IsBegun (run : RunKey) (h : List RunEvent) : Type 0 where
   pub task : TaskValue

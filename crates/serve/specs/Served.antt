@@ -1,46 +1,24 @@
 -- What a server has to do with what happens at its sockets and at the runs of its jobs, also where
 -- memory is refused. To be read from `IsServed` up.
-use Rattle.std.specs.Prelude.{◌≡◌, ◌≢◌, ◌-◌, ◌^◌, ℕ, min, Bool, true, false, List, [], ◌∷◌, length, Option, Some, None, IsSomeAnd, IfSome}
-use Rattle.std.specs.Option.{option_map, option_map_or}
-use Rattle.std.specs.List.{AllByRecursion}
+use Rattle.std.specs.Prelude.{◌≡◌, ◌<◌, ◌-◌, ◌^◌, ℕ, min, Bool, true, false, List, [], ◌∷◌, map, length, slice_set, Option, Some, None, IsSomeAnd, IfSome}
+use Rattle.std.specs.Option.{option_map_or, option_and_then}
+use Rattle.std.specs.List.{filter_map, flat_map, slice_get}
 use Rattle.std.specs.Io.{StartsWith}
 use Rattle.execution.specs.Orders.{OrderValue, task_of}
 use Rattle.instance_core.specs.Visible.{Blob}
 use Rattle.served_instance.specs.Bytes.{pending_bytes}
-use Rattle.server_events.specs.Configs.{ConfigValue, parent_of}
+use Rattle.server_events.specs.Configs.{ConfigValue, parents_of}
 use Rattle.server_events.specs.Events.{EventValue, took}
+use Rattle.server_events.specs.Faults.{AreParents}
 use Rattle.served_instance.specs.Connections.{open_at}
 use Rattle.served_instance.specs.Lone.{LoneInstance, new_lone}
 use Rattle.served_instance.specs.Refusals.{refusal_of, lone_orders, lone_step}
 use Rattle.served_instance.specs.Short.{Short}
-use Rattle.server_core.specs.LoneOutput.{config_at}
-use Rattle.server_core.specs.Families.{Family, family_in}
-use Rattle.serve.specs.SocketEvents.{SocketEvent, port, accepted, written}
-use Rattle.serve.specs.RunEvents.{RunEvent, ordered, lent, gave}
-use Rattle.serve.specs.Happenings.{Happening, MarkedHappening, IsOfOne, at_sockets, told, at_runs, cuts, timed_events, all_timed, run_events, moment_on, event_for}
-
--- ---- what an instance may come to by itself
-
--- an instance, and those of its orders that are still to be carried out, in order
-pub record AtWork : Type 0 where
-  pub instance : LoneInstance
-  pub orders : List OrderValue
-
-abbrev pub with_orders : LoneInstance → List OrderValue → AtWork
-with_orders l orders = record { instance = l; orders = orders }
-
--- what an event may make of it, while its parent has these texts: what it does by itself, with the
--- orders that it gives by itself; or, where it is marked, since nothing else refuses it and memory
--- was refused, a part of that, with no order
-abbrev pub MayStep : List Blob → EventValue → Bool → LoneInstance → AtWork → Type 0
-MayStep parent e false l w = w ≡ with_orders (lone_step parent e l) (lone_orders parent e l)
-MayStep parent e true l w =
-    (refusal_of e l ≡ None) × Short parent e l w.instance × (w.orders ≡ [])
-
--- .. and what no event does
-abbrev pub MayTake : List Blob → Option EventValue → Bool → LoneInstance → AtWork → Type 0
-MayTake parent None marked l w = w ≡ with_orders l []
-MayTake parent (Some e) marked l w = MayStep parent e marked l w
+use Rattle.server_core.specs.Parents.{parent_at}
+use Rattle.serve.specs.SocketEvents.{SocketEvent, port, accepted, written, failed}
+use Rattle.serve.specs.Closings.{IsShutRightly}
+use Rattle.serve.specs.RunEvents.{RunEvent, ordered, lent}
+use Rattle.serve.specs.Happenings.{Happening, MarkedHappening, at_sockets, at_runs, cuts, run_event, timed_event, with_times, moment_then, sockets_then, event_told, event_then}
 
 -- ---- what is right at the port of an instance, and at its runs
 
@@ -52,8 +30,7 @@ AreNextOn c l bytes =
 -- these are the next bytes of a connection, and the instance counts them as taken
 abbrev pub AreBytesWritten : ℕ → ℕ → ℕ → List ℕ → LoneInstance → Type 0
 AreBytesWritten m i c bytes l =
-    AreNextOn c l bytes ×
-    (refusal_of (record { moment = m; instance = i; what = took c (length bytes) }) l ≡ None)
+    AreNextOn c l bytes × (refusal_of (event_told m i (took c (length bytes))) l ≡ None)
 
 -- a connection is accepted under a number that no open one has; what is written to one is what the
 -- instance has waiting on it then, and counts as taken; and what a run is lent is the task, with
@@ -64,102 +41,108 @@ IsFaithful i m l (at_sockets (port j (accepted c))) = j ≡ i → open_at c l.co
 IsFaithful i m l (at_runs (lent j job task)) = j ≡ i → task ≡ task_of job l.state.jobs
 IsFaithful i m l x = Unit {0}
 
--- ---- what happens to an instance
+abbrev pub AreFaithful : ℕ → List LoneInstance → Happening → Type 0
+AreFaithful m ls x = (i : ℕ) (l : LoneInstance) → slice_get ls i ≡ Some l → IsFaithful i m l x
 
--- it has carried out all its orders, what happens is right for it, and it takes its event of it
-abbrev pub Comes : List Blob → ℕ → ℕ → AtWork → MarkedHappening → AtWork → Type 0
-Comes parent i m w x v =
-    (w.orders ≡ []) × IsFaithful i m w.instance x.0
-    × MayTake parent (event_for i m x.0) x.1 w.instance v
+-- .. and for all of them a connection that is closed may be, behind all this
+abbrev pub AreShutRightly : List SocketEvent → List LoneInstance → Happening → Type 0
+AreShutRightly before ls x =
+    (i : ℕ) (l : LoneInstance) → slice_get ls i ≡ Some l → IsShutRightly i before l x
 
--- this order is the next of its own
-abbrev pub IsCarriedOut : OrderValue → AtWork → AtWork → Type 0
-IsCarriedOut o w v = w ≡ with_orders v.instance (o ∷ v.orders)
+-- ---- what an event makes of its instance
 
--- what happens at moment m may make v of instance i, whose parent has these texts
-abbrev pub MayHappen : List Blob → ℕ → ℕ → AtWork → MarkedHappening → AtWork → Type 0
-MayHappen parent i m w (at_sockets s, b) v = Comes parent i m w (at_sockets s, b) v
-MayHappen parent i m w (told j, b) v = Comes parent i m w (told j, b) v
-MayHappen parent i m w (at_runs (lent j job task), b) v =
-    Comes parent i m w (at_runs (lent j job task), b) v
-MayHappen parent i m w (at_runs (gave j job outcome), b) v =
-    Comes parent i m w (at_runs (gave j job outcome), b) v
-MayHappen parent i m w (at_runs (ordered j o), b) v =
-    (j ≡ i → IsCarriedOut o w v) × (j ≢ i → v ≡ w)
+-- what it may make of l, and order, while the parent has these texts: what it does by itself; or,
+-- where it is marked, since nothing else refuses it and memory was refused, a part of that, with no
+-- order
+abbrev pub MayStep : List Blob → EventValue → Bool → LoneInstance → LoneInstance →
+    List OrderValue → Type 0
+MayStep parent e false l k orders = (k ≡ lone_step parent e l) × (orders ≡ lone_orders parent e l)
+MayStep parent e true l k orders =
+    (refusal_of e l ≡ None) × Short parent e l k × (orders ≡ [])
 
--- ---- what happens to an instance and its parent
+-- ---- all instances
 
-pub record FamilyAtWork : Type 0 where
-  pub own : AtWork
-  pub parent : Option AtWork
+-- what they have come to, by their numbers, and what is ordered and not yet carried out
+pub record AtWork : Type 0 where
+  pub instances : List LoneInstance
+  pub orders : List RunEvent
 
--- the texts that the parent has by then
-abbrev pub texts_of : Option AtWork → List Blob
-texts_of parent = option_map_or (λ w. w.instance.state.visible) parent []
+abbrev pub with_orders : List LoneInstance → List RunEvent → AtWork
+with_orders ls orders = record { instances = ls; orders = orders }
 
--- the parent, which has this number, builds on no other
-abbrev pub ParentMayHappen : Option ℕ → ℕ → Option AtWork → MarkedHappening → Option AtWork →
+-- the texts that the parent of instance i has now, if it has one
+abbrev pub texts_beside : ℕ → List (Option ℕ) → List LoneInstance → List Blob
+texts_beside i parents ls =
+    option_map_or (λ l. l.state.visible)
+    (option_and_then (slice_get ls) (parent_at i parents)) []
+
+-- the instance that it names takes an event, and gives orders; all others stay
+pub record IsTaken (parents : List (Option ℕ)) (e : EventValue) (marked : Bool)
+    (ls : List LoneInstance) (w : AtWork) : Type 0 where
+  pub was : LoneInstance
+  pub there : slice_get ls e.instance ≡ Some was
+  pub now : LoneInstance
+  pub orders : List OrderValue
+  pub step : MayStep (texts_beside e.instance parents ls) e marked was now orders
+  pub so : w ≡ with_orders (slice_set ls e.instance now) (map (ordered e.instance) orders)
+
+-- where it is an event it is taken; else all stay, and nothing is marked
+abbrev pub IsTakenIf : List (Option ℕ) → Option EventValue → Bool → List LoneInstance → AtWork →
     Type 0
-ParentMayHappen p m None x v = v ≡ None
-ParentMayHappen p m (Some w) x None = ⊥
-ParentMayHappen p m (Some w) x (Some v) = IfSome p (λ n. MayHappen [] n m w x v)
+IsTakenIf parents (Some e) marked ls w = IsTaken parents e marked ls w
+IsTakenIf parents None marked ls w = (marked ≡ false) × (w ≡ with_orders ls [])
 
--- what happens at moment m may make g of instance i and of its parent
-pub record MayHappenTo (i : ℕ) (p : Option ℕ) (m : ℕ) (f : FamilyAtWork)
-    (x : MarkedHappening) (g : FamilyAtWork) : Type 0 where
-  pub own : MayHappen (texts_of f.parent) i m f.own x g.own
-  pub parent : ParentMayHappen p m f.parent x g.parent
+-- all orders are carried out, and what happens at moment m is right for each instance
+abbrev pub Comes : List (Option ℕ) → ℕ → AtWork → MarkedHappening → AtWork → Type 0
+Comes parents m w x v =
+    (w.orders ≡ []) × AreFaithful m w.instances x.0
+    × IsTakenIf parents (event_then m x.0) x.1 w.instances v
 
--- from moment m on all this happens, and makes g of the two
-abbrev pub MayServe : ℕ → Option ℕ → ℕ → FamilyAtWork → List MarkedHappening → FamilyAtWork →
-    Type 0
-MayServe i p m f [] g = g ≡ f
-MayServe i p m f (x ∷ h) g =
-    (k : FamilyAtWork) × MayHappenTo i p m f x k × MayServe i p (moment_on m x) k h g
+-- an order is carried out where it is the next; a task is lent at an instance that is there
+abbrev pub Happens : List (Option ℕ) → ℕ → AtWork → MarkedHappening → AtWork → Type 0
+Happens parents m w (at_runs (ordered j o), b) v =
+    (b ≡ false) × (w ≡ with_orders v.instances (ordered j o ∷ v.orders))
+Happens parents m w (at_runs (lent j job task), b) v =
+    (j < length w.instances) × Comes parents m w (at_runs (lent j job task), b) v
+Happens parents m w (at_sockets (failed j c), b) v =
+    (j < length w.instances) × Comes parents m w (at_sockets (failed j c), b) v
+Happens parents m w x v = Comes parents m w x v
 
--- with all their orders carried out
-abbrev pub at_rest : LoneInstance → Option LoneInstance → FamilyAtWork
-at_rest own parent = record {
-  own = with_orders own [];
-  parent = option_map (λ l. with_orders l []) parent;
-}
+-- from moment m on, behind what happened at the sockets before, all this happens, one after
+-- another; and a connection is closed for a reason of its own instance alone
+abbrev pub MayServe : List (Option ℕ) → List SocketEvent → ℕ → AtWork → List MarkedHappening →
+    AtWork → Type 0
+MayServe parents before m w [] v = v ≡ w
+MayServe parents before m w (x ∷ h) v =
+    (k : AtWork) × Happens parents m w x k × AreShutRightly before w.instances x.0
+    × MayServe parents (sockets_then before x.0) (moment_then m x.0) k h v
 
+-- .. from nothing on, and all orders are carried out
 abbrev pub begun : ConfigValue → LoneInstance
 begun config = new_lone config.name config.quota config.slots
 
--- .. from nothing on, and all their orders are carried out
-abbrev pub Serves : Family → ℕ → Option ℕ → List MarkedHappening → LoneInstance →
-    Option LoneInstance → Type 0
-Serves family i p h own parent =
-    MayServe i p 0 (at_rest (begun family.own) (option_map begun family.parent)) h
-    (at_rest own parent)
+abbrev pub ServesAll : List ConfigValue → List MarkedHappening → List LoneInstance → Type 0
+ServesAll configs h ls =
+    MayServe (parents_of configs) [] 0 (with_orders (map begun configs) []) h (with_orders ls [])
 
--- each instance, with its parent if it has one, served all that happened
+-- all instances together served all that happened; a parent builds on none
 abbrev pub IsServed : List ConfigValue → List MarkedHappening → Type 0
 IsServed configs h =
-    (i : ℕ) (config : ConfigValue) → config_at i configs ≡ Some config →
-    (own : LoneInstance) × (parent : Option LoneInstance)
-    × Serves (family_in configs config) i (parent_of configs config) h own parent
+    AreParents (parents_of configs) × (ls : List LoneInstance) × ServesAll configs h ls
+
+-- ---- what is known of it
 
 -- what happened at the sockets, with so many instances that are told the time as soon as the clock
--- was read, and what happened at the runs, in one order; and nothing at a number of no instance
+-- was read, and what happened at the runs, in one order
 pub record HappenedTogether (count : ℕ) (sockets : List SocketEvent) (runs : List RunEvent)
     (h : List MarkedHappening) : Type 0 where
-  pub at_sockets_so : timed_events h ≡ all_timed count sockets
-  pub at_runs_so : run_events h ≡ runs
-  pub of_these : AllByRecursion (IsOfOne count) h
+  pub at_sockets_so : filter_map timed_event h ≡ flat_map (with_times count) sockets
+  pub at_runs_so : filter_map run_event h ≡ runs
 
--- a count of 64 bits, which ends at the last of these numbers
-abbrev pub most_counted : ℕ
-most_counted = 2 ^ 64 - 1
-
-abbrev pub IsCount : ℕ → ℕ → Type 0
-IsCount n counted = counted ≡ min n most_counted
-
--- so many events were marked
+-- so many events were marked; a count of 64 bits ends at the last of these numbers
 abbrev pub WasServed : List ConfigValue → Option (List SocketEvent) → Option (List RunEvent) → ℕ →
     Type 0
 WasServed configs sockets runs cut =
     IfSome sockets (λ s. IfSome runs (λ r.
     (h : List MarkedHappening) × HappenedTogether (length configs) s r h × IsServed configs h
-    × IsCount (cuts h) cut))
+    × (cut ≡ min (cuts h) (2 ^ 64 - 1))))

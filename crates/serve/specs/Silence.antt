@@ -1,24 +1,15 @@
 -- Which open connection makes room for another, where an instance has as many as it may have. To be
 -- read from `IsLongestSilent` up.
-use Rattle.std.specs.Prelude.{◌≡◌, ◌-◌, ◌<◌, ◌≤◌, ℕ, false, nat_lt, if◌then◌else◌, List, Option, Some, None, IsSomeAnd, slice_get}
-use Rattle.std.specs.Option.{option_map}
-use Rattle.served_instance.specs.CallsInCourse.{has_calls}
-use Rattle.served_instance.specs.Connections.{open_at}
+use Rattle.std.specs.Prelude.{◌≡◌, ◌-◌, ◌<◌, ◌≤◌, ℕ, List, Option, Some, None, IsSomeAnd, slice_get}
 use Rattle.served_instance.specs.Lone.{LoneInstance}
 use Rattle.serve.specs.declared.open_socket.OpenSocket.{OpenSocket}
-
--- the connection is open, and no call on it is in course
-abbrev pub IsIdle : ℕ → LoneInstance → Type 0
-IsIdle c l = option_map (λ p. has_calls p.history) (open_at c l.connections) ≡ Some false
-
--- how many milliseconds without a byte are long: fewer where fewer bytes came than a preface has
-abbrev pub silence_limit : OpenSocket → ℕ
-silence_limit s = if nat_lt s.received 24 then 10000 else 60000
+use Rattle.serve.specs.Closings.{IsIdle, silence_limit}
 
 -- at moment m a connection of instance i was silent for long, and is idle
 abbrev pub MayMakeRoom : ℕ → ℕ → LoneInstance → OpenSocket → Type 0
 MayMakeRoom i m l s =
-    (s.socket.instance ≡ i) × (silence_limit s ≤ m - s.heard) × IsIdle s.socket.connection l
+    (s.socket.instance ≡ i) × (silence_limit s.received ≤ m - s.heard)
+    × IsIdle s.socket.connection l
 
 -- it was silent longer than each that may make room and was opened before it, and as long as any
 abbrev pub IsSilentLongerThan : ℕ → ℕ → LoneInstance → List OpenSocket → ℕ → OpenSocket → Type 0

@@ -1,6 +1,10 @@
 -- What happens at the sockets of a server, and which event of its instance it is.
-use Rattle.std.specs.Prelude.{◌≡◌, ◌⊎◌, ℕ, List, [], ◌∷◌, ◌++◌, length, take, fold, Option, None, Result, Ok, Err, ⊤}
+use Rattle.std.specs.Prelude.{◌≡◌, ◌⊎◌, ℕ, Bool, true, false, if◌then◌else◌, List, [], ◌∷◌, ◌++◌, length, take, fold, Option, None, Result, Ok, Err, ⊤}
 use Rattle.std.specs.Option.{option_map}
+use Rattle.std.specs.IoError.{error_kind}
+use Rattle.std.specs.declared.io.Error.{Error}
+use Rattle.std.specs.declared.io.ErrorKind.{ErrorKind}
+use Rattle.std.specs.declared.io.ErrorKind.TheVariants.{Interrupted, WouldBlock}
 use Rattle.server_events.specs.Events.{WhatValue, opened, received, took, closed}
 use Rattle.serve.specs.declared.sockets.Socket.{Socket}
 
@@ -13,24 +17,35 @@ pub data PortEvent : Type 0 where
   shut : ℕ → PortEvent
 
 -- the clock was read, in milliseconds; or something happened at the port of the instance of a
--- number
+-- number; or there a call failed on the connection of a number
 pub data SocketEvent : Type 0 where
   clock : ℕ → SocketEvent
   port : ℕ → PortEvent → SocketEvent
+  failed : ℕ → ℕ → SocketEvent
 
 -- ---- what a call of the sockets adds, by its result
+
+-- nothing can be moved now, and may be later
+abbrev pub is_unready : ErrorKind → Bool
+is_unready WouldBlock = true
+is_unready Interrupted = true
+is_unready kind = false
+
+abbrev pub failure_events : Socket → Error → List SocketEvent
+failure_events at e =
+    if is_unready (error_kind e) then [] else failed at.instance at.connection ∷ []
 
 abbrev pub accept_events : {E : Type 0} → Socket → Result ⊤ E → List SocketEvent
 accept_events at (Ok x) = port at.instance (accepted at.connection) ∷ []
 accept_events at (Err e) = []
 
-abbrev pub read_events : {E : Type 0} → Socket → Result ℕ E → List ℕ → List SocketEvent
+abbrev pub read_events : Socket → Result ℕ Error → List ℕ → List SocketEvent
 read_events at (Ok n) room = port at.instance (read at.connection (take n room)) ∷ []
-read_events at (Err e) room = []
+read_events at (Err e) room = failure_events at e
 
-abbrev pub write_events : {E : Type 0} → Socket → Result ℕ E → List ℕ → List SocketEvent
+abbrev pub write_events : Socket → Result ℕ Error → List ℕ → List SocketEvent
 write_events at (Ok n) bytes = port at.instance (written at.connection (take n bytes)) ∷ []
-write_events at (Err e) bytes = []
+write_events at (Err e) bytes = failure_events at e
 
 abbrev pub shutdown_events : Socket → List SocketEvent
 shutdown_events at = port at.instance (shut at.connection) ∷ []
@@ -62,6 +77,7 @@ what_of (shut c) = closed c
 abbrev pub moment_after : ℕ → SocketEvent → ℕ
 moment_after m (clock n) = n
 moment_after m (port j p) = m
+moment_after m (failed j c) = m
 
 -- what the clock showed last
 abbrev pub moment_of : List SocketEvent → ℕ

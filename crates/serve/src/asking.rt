@@ -2,7 +2,7 @@
 
 ghost use Rattle.std.specs.Prelude.{◌≡◌, ℕ, List, Option, IfSome};
 ghost use Rattle.run_calls.specs.declared.task.RunKey.{RunKey};
-ghost use Rattle.serve.specs.FaultLines.{IsSaid, TellsAnswer, TellsFault, WritesLines};
+ghost use Rattle.serve.specs.FaultLines.{IsSaid, TellsAnswer, TellsFault, WritesLinesAt};
 ghost use Rattle.serve.specs.RunEvents.{fault_events, gave_events, outcome_events};
 ghost use Rattle.serve.specs.KeepsServing.{KeepsServing, KeepsServingBegun};
 ghost use Rattle.serve.specs.SocketEvents.{SocketEvent};
@@ -99,7 +99,8 @@ fn ask<R: Runs, E: Write>(
     ensures serving { (sockets : Option (List SocketEvent)) → KeepsServingBegun run
         sockets (R.happened runs.old) counting.old moment
         sockets (R.happened runs.new) counting.new moment }
-    ensures lines { WritesLines configs.now (E.contents errors.old.output) errors.old.backlog
+    ensures lines { WritesLinesAt moment configs.now (R.faulted runs.old) (R.faulted runs.new)
+        (E.contents errors.old.output) errors.old.backlog
         (E.contents errors.new.output) errors.new.backlog }
 {
     let task = counting.server.lend(run.instance, run.job);
@@ -123,7 +124,8 @@ pub(crate) fn ask_all<S: Sockets, R: Runs, E: Write>(
     ensures serving { (count : ℕ) (known : Option (List SocketEvent)) → KeepsServing count
         known (R.happened runs.old) counting.old moment
         known (R.happened runs.new) counting.new moment }
-    ensures lines { WritesLines configs.now (E.contents errors.old.output) errors.old.backlog
+    ensures lines { WritesLinesAt moment configs.now (R.faulted runs.old) (R.faulted runs.new)
+        (E.contents errors.old.output) errors.old.backlog
         (E.contents errors.new.output) errors.new.backlog }
 {
     for _ in 0..runs.count() {

@@ -1,6 +1,11 @@
 //! What the server is told, and the orders that it gives.
 
-ghost use Rattle.std.specs.Prelude.{◌≡◌, ◌∷◌, []};
+ghost use Rattle.std.specs.Prelude.{◌≡◌, ◌≢◌, ◌∷◌, [], Err, IfErr};
+ghost use Rattle.served_instance.specs.Lone.{LoneInstance};
+ghost use Rattle.served_instance.specs.Refusals.{IsRefusalOutcome, refusal_of};
+ghost use Rattle.server_core.specs.Marked.{StandsShortAt};
+ghost use Rattle.server_core.specs.Parents.{parent_texts};
+ghost use Rattle.server_core.specs.StandsFor.{StandsAt};
 ghost use Rattle.server_events.specs.Shown.{what_value};
 ghost use Rattle.serve.specs.KeepsServing.{AreCarriedOut, TakesEvent, cut_after, is_for_memory};
 
@@ -13,8 +18,9 @@ use server_events::{Event, What};
 
 /// Carries out an order of an instance.
 fn carry_out_one<R: Runs>(server: &Server, runs: &mut R, instance: u32, order: Order)
-    ensures { AreCarriedOut instance server.now.instances (order ∷ [])
+    ensures carried { AreCarriedOut instance server.now.instances (order ∷ [])
         (R.happened runs.old) (R.happened runs.new) }
+    ensures no_fault { R.faulted runs.new ≡ R.faulted runs.old }
 {
     match order {
         Order::Start { job } => {
@@ -28,8 +34,9 @@ fn carry_out_one<R: Runs>(server: &Server, runs: &mut R, instance: u32, order: O
 
 /// Carries out orders of an instance.
 fn carry_out<R: Runs>(server: &Server, runs: &mut R, instance: u32, orders: &[Order])
-    ensures { AreCarriedOut instance server.now.instances orders.now
+    ensures carried { AreCarriedOut instance server.now.instances orders.now
         (R.happened runs.old) (R.happened runs.new) }
+    ensures no_fault { R.faulted runs.new ≡ R.faulted runs.old }
 {
     let mut left = orders;
     while let [first, rest @ ..] = left {
@@ -125,6 +132,19 @@ pub(crate) fn tell<R: Runs>(
     ensures takes { TakesEvent
         (record { moment = moment; instance = instance; what = what_value what })
         counting.old counting.new (R.happened runs.old) (R.happened runs.new) }
+    ensures no_fault { R.faulted runs.new ≡ R.faulted runs.old }
+    // Each refusal has its reason, and but for want of memory changes nothing; where memory is
+    // refused a part was done.
+    ensures outcome { (l : LoneInstance) → StandsAt instance counting.old.server.instances l
+        → IsRefusalOutcome result (refusal_of
+        (record { moment = moment; instance = instance; what = what_value what }) l) }
+    ensures refused { IfErr result (λ refusal. refusal ≢ EventRefusal.NoMemory
+        → counting.new.server ≡ counting.old.server) }
+    ensures short { result ≡ Err EventRefusal.NoMemory → (l : LoneInstance)
+        → StandsAt instance counting.old.server.instances l
+        → StandsShortAt (parent_texts instance counting.old.server)
+        (record { moment = moment; instance = instance; what = what_value what }) l
+        counting.new.server.instances }
 {
     let occurrence = occurrence_in(&what);
     let event = Event {

@@ -1,7 +1,13 @@
 //! What is moved between one connection's socket and the server.
 
-ghost use Rattle.std.specs.Prelude.{◌≡◌, ◌≤◌, length, take, IfOk};
-ghost use Rattle.serve.specs.KeepsOpen.{StayOpen, StayOpenBut, StayOpenUnless};
+ghost use Rattle.std.specs.Prelude.{◌≡◌, ◌≤◌, ◌⊎◌, ◌∷◌, [], length, take, true, Some, None, option_map, IfSome, IfOk};
+ghost use Rattle.served_instance.specs.Connections.{open_at};
+ghost use Rattle.served_instance.specs.History.{has_failed};
+ghost use Rattle.served_instance.specs.Lone.{LoneInstance};
+ghost use Rattle.server_core.specs.StandsFor.{StandsAt};
+ghost use Rattle.serve.specs.Closings.{IsFaulty};
+ghost use Rattle.serve.specs.SocketEvents.{Adds, port, shut};
+ghost use Rattle.serve.specs.KeepsOpen.{IsGoneAt, MayClose, StayOpen, StayOpenAs, StayOpenBut, StayOpenUnless};
 ghost use Rattle.serve.specs.KeepsServing.{KeepsServingAt};
 
 use crate::carrying::{Counting, tell};
@@ -100,7 +106,10 @@ fn receive<S: Sockets, R: Runs>(
     ensures serving { KeepsServingAt opened.old.socket.instance
         (S.happened sockets.old) (R.happened runs.old) counting.old moment
         (S.happened sockets.new) (R.happened runs.new) counting.new moment }
-    ensures stays { StayOpen (S.happened sockets.old) (S.happened sockets.new) }
+    ensures no_fault { R.faulted runs.new ≡ R.faulted runs.old }
+    ensures stays { StayOpenAs moment opened.old opened.new
+        (S.happened sockets.old) (S.happened sockets.new) }
+    ensures over { result ≡ Tried.Over → IsGoneAt opened.old.socket (S.happened sockets.new) }
     ensures socket { opened.new.socket ≡ opened.old.socket }
 {
     if !has_room(room, opened.read_limit()) {
@@ -138,7 +147,10 @@ fn receive_all<S: Sockets, R: Runs>(
     ensures serving { KeepsServingAt opened.old.socket.instance
         (S.happened sockets.old) (R.happened runs.old) counting.old moment
         (S.happened sockets.new) (R.happened runs.new) counting.new moment }
-    ensures stays { StayOpen (S.happened sockets.old) (S.happened sockets.new) }
+    ensures no_fault { R.faulted runs.new ≡ R.faulted runs.old }
+    ensures stays { StayOpenAs moment opened.old opened.new
+        (S.happened sockets.old) (S.happened sockets.new) }
+    ensures over { result ≡ Tried.Over → IsGoneAt opened.old.socket (S.happened sockets.new) }
     ensures socket { opened.new.socket ≡ opened.old.socket }
 {
     let mut tried = Tried::NotReady;
@@ -175,7 +187,11 @@ fn send<S: Sockets, R: Runs>(
     ensures serving { KeepsServingAt socket.instance
         (S.happened sockets.old) (R.happened runs.old) counting.old moment
         (S.happened sockets.new) (R.happened runs.new) counting.new moment }
+    ensures no_fault { R.faulted runs.new ≡ R.faulted runs.old }
     ensures stays { StayOpen (S.happened sockets.old) (S.happened sockets.new) }
+    ensures over { result ≡ Tried.Over → IsGoneAt socket (S.happened sockets.new) }
+    ensures gone { IsGoneAt socket (S.happened sockets.old)
+        → IsGoneAt socket (S.happened sockets.new) }
 {
     let bytes = match counting.server.pending(socket.instance, socket.connection) {
         Some(bytes) if !bytes.is_empty() => bytes,
@@ -196,13 +212,32 @@ fn send<S: Sockets, R: Runs>(
     }
 }
 
+/// The error that was met on a connection, if one was.
+fn fault_on(server: &Server, socket: Socket) -> Option<Occurrence>
+    ensures { IfSome result (λ _. (l : LoneInstance)
+        → StandsAt socket.instance server.now.instances l
+        → option_map (λ p. has_failed p.history) (open_at socket.connection l.connections)
+        ≡ Some true) }
+{
+    match server.ended(socket.instance, socket.connection) {
+        Some(true) => {
+            let served = server.instance(socket.instance)?;
+            Some(Occurrence::Faulty(served.failure(socket.connection)?))
+        }
+        _ => None,
+    }
+}
+
 /// Why the connection is to be closed, if it is: the server let go of it, where memory was refused;
 /// or an error of it was met, and the client was sent all that waited for it.
-fn ending_of(server: &Server, socket: Socket) -> Option<Occurrence> {
-    let served = server.instance(socket.instance)?;
-    match served.pending(socket.connection) {
+fn ending_of(server: &Server, socket: Socket) -> Option<Occurrence>
+    ensures { IfSome result (λ _. (l : LoneInstance)
+        → StandsAt socket.instance server.now.instances l
+        → (open_at socket.connection l.connections ≡ None) ⊎ IsFaulty socket.connection l) }
+{
+    match server.pending(socket.instance, socket.connection) {
         None => Some(Occurrence::Broken),
-        Some([]) => Some(Occurrence::Faulty(served.failure(socket.connection)?)),
+        Some([]) => fault_on(server, socket),
         Some(_) => None,
     }
 }
@@ -215,10 +250,19 @@ pub(crate) fn close<S: Sockets, R: Runs>(
     moment: u64,
     socket: Socket,
 )
-    ensures serving { KeepsServingAt socket.instance
+    ensures serving { MayClose socket counting.old.server
+        (S.happened sockets.old) (R.happened runs.old) → KeepsServingAt socket.instance
         (S.happened sockets.old) (R.happened runs.old) counting.old moment
         (S.happened sockets.new) (R.happened runs.new) counting.new moment }
+    ensures no_fault { R.faulted runs.new ≡ R.faulted runs.old }
     ensures closes { StayOpenBut socket (S.happened sockets.old) (S.happened sockets.new) }
+    ensures shut { Adds (S.happened sockets.old) (S.happened sockets.new)
+        (port socket.instance (shut socket.connection) ∷ []) }
+    ensures unknown { R.happened runs.old ≡ None → R.happened runs.new ≡ None }
+    // Of a connection that it does not have the server is told in vain.
+    ensures in_vain { (l : LoneInstance) → StandsAt socket.instance counting.old.server.instances l
+        → open_at socket.connection l.connections ≡ None
+        → counting.new.server ≡ counting.old.server }
 {
     let _ = sockets.close(socket);
     let gone = What::Closed(socket.connection);
@@ -240,7 +284,8 @@ pub(crate) fn exchange<S: Sockets, R: Runs>(
     ensures serving { KeepsServingAt opened.old.socket.instance
         (S.happened sockets.old) (R.happened runs.old) counting.old moment
         (S.happened sockets.new) (R.happened runs.new) counting.new moment }
-    ensures stays { StayOpenUnless result opened.old.socket
+    ensures no_fault { R.faulted runs.new ≡ R.faulted runs.old }
+    ensures stays { StayOpenUnless result moment opened.old opened.new
         (S.happened sockets.old) (S.happened sockets.new) }
     ensures socket { opened.new.socket ≡ opened.old.socket }
 {
@@ -257,8 +302,8 @@ pub(crate) fn exchange<S: Sockets, R: Runs>(
         close(counting, sockets, runs, moment, socket);
         return Tried::Over;
     }
-    if received == Tried::Moved {
+    if received == Tried::Moved || sent == Tried::Moved {
         return Tried::Moved;
     }
-    sent
+    Tried::NotReady
 }

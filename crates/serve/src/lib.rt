@@ -21,7 +21,7 @@ mod watch;
 pub use copies::{TaskCopy, TextCopy};
 pub use counts::{InstanceCounts, Occurrence, ServeCounts};
 pub use error_lines::ErrorLines;
-pub use laws::what_serve_did;
+pub use laws::{faults_are_told_by_whole_lines, what_serve_did, why_connections_are_closed};
 pub use logged::{LoggedSockets, SocketRecord};
 pub use logged_runs::{LoggedRuns, RunRecord};
 pub use runs::Runs;

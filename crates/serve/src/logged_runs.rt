@@ -3,11 +3,13 @@
 ghost use Rattle.std.specs.Prelude.{◌≡◌, ◌⊎◌, [], ◌∷◌, Some, Err, IfOk, IsTrue};
 ghost use Rattle.std.specs.Option.{option_map};
 ghost use Rattle.execution.specs.Job.{TaskValue};
-ghost use Rattle.execution.specs.Orders.{start};
+ghost use Rattle.execution.specs.Orders.{kill, start};
 ghost use Rattle.server_core.specs.Lent.{lent_shown};
 ghost use Rattle.runner.specs.declared.fault.RunFault.TheVariants.{NoMemory};
-ghost use Rattle.serve.specs.LoggedRuns.{run_event, run_events, runs_logged, task_copied};
-ghost use Rattle.serve.specs.RunEvents.{AddsRuns, IsBegun, lent, ordered, outcome_events};
+ghost use Rattle.run_calls.specs.Calls.{Adds};
+ghost use Rattle.serve.specs.Logged.{IsKept};
+ghost use Rattle.serve.specs.LoggedRuns.{faults_logged, run_event, run_events, runs_logged, task_copied};
+ghost use Rattle.serve.specs.RunEvents.{AddsRuns, IsBegun, asked_events, faults_of, lent, ordered, outcome_events};
 
 use crate::copies::{TaskCopy, copied_task, two_outcomes};
 use crate::runs::Runs;
@@ -28,19 +30,21 @@ pub enum RunRecord {
     Gave(RunKey, Outcome),
 }
 
-/// Runs with a log of all that happened at them. Where memory is refused for it, the log is lost. A
-/// run whose outcome was to be logged then has the fault that memory was refused, as its outcome is
-/// used up where it is read.
+/// Runs with a log of all that happened at them, and one of the faults that were answered. Where
+/// memory is refused for one, that log is lost. A run whose outcome was to be logged then has the
+/// fault that memory was refused, as its outcome is used up where it is read.
 #[derive(Drop)]
 pub struct LoggedRuns<R> {
     pub runs: R,
     pub log: Option<Vec<RunRecord>>,
+    pub faults: Option<Vec<(RunKey, RunFault)>>,
     alloc: Global,
 }
 
 /// Puts one more record into a log.
 fn add(log: &mut Option<Vec<RunRecord>>, entry: RunRecord)
-    ensures { AddsRuns (runs_logged log.old) (runs_logged log.new) (run_event entry ∷ []) }
+    ensures adds { AddsRuns (runs_logged log.old) (runs_logged log.new) (run_event entry ∷ []) }
+    ensures kept { IsKept log.old log.new }
 {
     if let Some(records) = log {
         if records.push(entry).is_ok() {
@@ -90,6 +94,27 @@ fn copied_lent(alloc: Global, task: Option<LentTask<'_>>) -> Result<Option<TaskC
     }
 }
 
+/// Puts what a run answered into a log of faults, if it is one.
+fn add_fault(
+    faults: &mut Option<Vec<(RunKey, RunFault)>>,
+    run: RunKey,
+    answer: &Result<Option<Outcome>, RunFault>,
+)
+    ensures adds { Adds (faults_logged faults.old) (faults_logged faults.new)
+        (faults_of run answer.now) }
+    ensures kept { IsKept faults.old faults.new }
+{
+    let Err(fault) = answer else {
+        return;
+    };
+    if let Some(answered) = faults {
+        if answered.push((run, *fault)).is_ok() {
+            return;
+        }
+    }
+    *faults = None;
+}
+
 /// Puts what came of a question into a log. What the run gave is answered, from its copy.
 fn log_answer(
     alloc: Global,
@@ -128,20 +153,24 @@ fn log_answer(
 impl<R: Runs> LoggedRuns<R> {
     /// Runs at which nothing has happened yet.
     pub fn new(alloc: Global, runs: R) -> LoggedRuns<R>
-        ensures { runs_logged result.log ≡ Some [] }
+        ensures log { runs_logged result.log ≡ Some [] }
+        ensures faults { faults_logged result.faults ≡ Some [] }
     {
         LoggedRuns {
             runs,
             log: Some(Vec::new(alloc)),
+            faults: Some(Vec::new(alloc)),
             alloc,
         }
     }
 }
 
 impl<R: Runs> Runs for LoggedRuns<R> {
-    ghost use Rattle.serve.specs.LoggedRuns.{runs_logged};
+    ghost use Rattle.serve.specs.LoggedRuns.{faults_logged, runs_logged};
 
     ghost happened = { λ r. runs_logged r.log };
+
+    ghost faulted = { λ r. faults_logged r.faults };
 
     fn start(&mut self, run: RunKey, task: LentTask<'_>) {
         match copied_task(self.alloc, task) {
@@ -151,7 +180,12 @@ impl<R: Runs> Runs for LoggedRuns<R> {
         self.runs.start(run, task);
     }
 
-    fn kill(&mut self, run: RunKey) {
+    fn kill(&mut self, run: RunKey)
+        ensures adds { AddsRuns (runs_logged self.old.log) (runs_logged self.new.log)
+            (ordered run.instance (kill run.job) ∷ []) }
+        ensures no_fault { self.new.faults ≡ self.old.faults }
+        ensures kept { IsKept self.old.log self.new.log }
+    {
         add(&mut self.log, RunRecord::Killed(run));
         self.runs.kill(run);
     }
@@ -175,17 +209,21 @@ impl<R: Runs> Runs for LoggedRuns<R> {
         }
     }
 
-    fn ask(
-        &mut self,
-        run: RunKey,
-        task: Option<LentTask<'_>>,
-    ) -> Result<Option<Outcome>, RunFault> {
+    fn ask(&mut self, run: RunKey, task: Option<LentTask<'_>>) -> Result<Option<Outcome>, RunFault>
+        ensures adds { AddsRuns (runs_logged self.old.log) (runs_logged self.new.log)
+            (asked_events run task.entry result) }
+        ensures fault { Adds (faults_logged self.old.faults) (faults_logged self.new.faults)
+            (faults_of run result) }
+        ensures kept { IsKept self.old.faults self.new.faults }
+    {
         match copied_lent(self.alloc, task) {
             Ok(copy) => add(&mut self.log, RunRecord::Asked(run, copy)),
             Err(_) => self.log = None,
         }
         let answer = self.runs.ask(run, task);
-        log_answer(self.alloc, &mut self.log, run, answer)
+        let answer = log_answer(self.alloc, &mut self.log, run, answer);
+        add_fault(&mut self.faults, run, &answer);
+        answer
     }
 
     fn last_words(&self, run: RunKey, most: u32) -> io::Result<Vec<u8>> {

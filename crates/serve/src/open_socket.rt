@@ -1,9 +1,11 @@
 //! An open connection, and which of them makes room for another.
 
-ghost use Rattle.std.specs.Prelude.{◌≡◌, ◌-◌, ◌<◌, ◌≤◌, ◌↔◌, length, IfSome, IsTrue};
+ghost use Rattle.std.specs.Prelude.{◌≡◌, ◌+◌, ◌-◌, ◌<◌, ◌≤◌, ◌↔◌, length, min, IfSome, IsTrue};
 ghost use Rattle.served_instance.specs.Lone.{LoneInstance};
 ghost use Rattle.server_core.specs.StandsFor.{StandsAt};
-ghost use Rattle.serve.specs.Silence.{silence_limit, MayMakeRoom, IsLongestSilent};
+ghost use Rattle.serve.specs.Closings.{silence_limit};
+ghost use Rattle.serve.specs.KeepsServing.{most_counted};
+ghost use Rattle.serve.specs.Silence.{MayMakeRoom, IsLongestSilent};
 
 use crate::frame_course::FrameCourse;
 use crate::sockets::Socket;
@@ -40,7 +42,9 @@ pub(crate) struct OpenSocket {
 impl OpenSocket {
     /// A connection that is opened now.
     pub(crate) fn new(socket: Socket, moment: u64) -> OpenSocket
-        ensures { result.socket ≡ socket }
+        ensures socket { result.socket ≡ socket }
+        ensures heard { result.heard ≡ moment }
+        ensures received { result.received ≡ 0 }
     {
         OpenSocket {
             socket,
@@ -76,7 +80,10 @@ impl OpenSocket {
 
     /// These bytes came.
     pub(crate) fn hear(&mut self, moment: u64, bytes: &[u8])
-        ensures { self.new.socket ≡ self.old.socket }
+        ensures socket { self.new.socket ≡ self.old.socket }
+        ensures heard { self.new.heard ≡ moment }
+        ensures received { self.new.received
+            ≡ min (self.old.received + length bytes.now) most_counted }
     {
         self.heard = moment;
         self.received = self.received.saturating_add(bytes.len() as u64);
@@ -85,7 +92,7 @@ impl OpenSocket {
 
     /// For how many milliseconds no byte must have come from its client, where it may make room.
     fn silence_limit(&self) -> u64
-        ensures { result ≡ silence_limit self.now }
+        ensures { result ≡ silence_limit self.now.received }
     {
         if self.received < PREFACE_LENGTH {
             PREFACE_LIMIT
@@ -96,7 +103,7 @@ impl OpenSocket {
 
     /// Whether its client was silent for so long that it may make room.
     fn is_silent(&self, moment: u64) -> bool
-        ensures { IsTrue result ↔ silence_limit self.now ≤ moment - self.now.heard }
+        ensures { IsTrue result ↔ silence_limit self.now.received ≤ moment - self.now.heard }
     {
         moment.saturating_sub(self.heard) >= self.silence_limit()
     }

@@ -110,6 +110,11 @@ impl Pace {
         }
     }
 
+    /// Whether an instance may rest now.
+    pub(crate) fn may_rest(&self) -> bool {
+        self.shares.iter().any(|share| self.passed.saturating_sub(share.ended) < share.took)
+    }
+
     /// Something moves for an instance.
     pub(crate) fn note_active(&mut self, instance: u32) {
         let passed = self.passed;

@@ -1,6 +1,6 @@
 //! Runs of jobs, none of which is waited for.
 
-ghost use Rattle.std.specs.Prelude.{List, Option, None, IfOk, IfSome, ◌≤◌, ◌∷◌, [], length};
+ghost use Rattle.std.specs.Prelude.{List, Option, None, IfOk, IfSome, ◌≡◌, ◌≤◌, ◌∷◌, [], length};
 
 use run_calls::RunKey;
 use run_outcomes::Outcome;
@@ -12,20 +12,26 @@ use std::io;
 pub trait Runs {
     ghost use Rattle.execution.specs.Orders.{start, kill};
     ghost use Rattle.server_core.specs.Lent.{lent_shown};
-    ghost use Rattle.serve.specs.RunEvents.{RunEvent, ordered, asked_events, AddsRuns, WasBegun};
+    ghost use Rattle.run_calls.specs.Calls.{Adds};
+    ghost use Rattle.serve.specs.RunEvents.{FaultValue, RunEvent, ordered, asked_events, faults_of, AddsRuns, WasBegun};
 
     // All that happened at the runs, in order, where it is known.
     ghost happened: { Self → Option (List RunEvent) } = { λ _. None };
 
+    // The faults that runs answered, in order, where they are known.
+    ghost faulted: { Self → Option (List FaultValue) } = { λ _. None };
+
     /// Begins the run of a job. Where it cannot be begun, `ask` answers the fault.
     fn start(&mut self, run: RunKey, task: LentTask<'_>)
         ensures adds { AddsRuns (happened self.old) (happened self.new)
-            (ordered run.instance (start run.job (lent_shown task.entry)) ∷ []) };
+            (ordered run.instance (start run.job (lent_shown task.entry)) ∷ []) }
+        ensures no_fault { faulted self.new ≡ faulted self.old };
 
     /// Ends the run of a job, which gives no outcome then.
     fn kill(&mut self, run: RunKey)
         ensures adds { AddsRuns (happened self.old) (happened self.new)
-            (ordered run.instance (kill run.job) ∷ []) };
+            (ordered run.instance (kill run.job) ∷ []) }
+        ensures no_fault { faulted self.new ≡ faulted self.old };
 
     /// How many runs there are, those included that are only to be ended.
     fn count(&self) -> usize;
@@ -34,13 +40,15 @@ pub trait Runs {
     /// ended. It is one that was begun.
     fn next(&mut self) -> Option<RunKey>
         ensures begun { IfSome result (λ run. WasBegun run (happened self.new)) }
-        ensures adds { AddsRuns (happened self.old) (happened self.new) [] };
+        ensures adds { AddsRuns (happened self.old) (happened self.new) [] }
+        ensures no_fault { faulted self.new ≡ faulted self.old };
 
     /// Goes on with a run by a bounded piece of work. What came of it, or `None` while it goes on.
     /// Its task is lent as long as its job runs. With an outcome or a fault the run is over.
     fn ask(&mut self, run: RunKey, task: Option<LentTask<'_>>) -> Result<Option<Outcome>, RunFault>
         ensures adds { AddsRuns (happened self.old) (happened self.new)
-            (asked_events run task.entry result) };
+            (asked_events run task.entry result) }
+        ensures fault { Adds (faulted self.old) (faulted self.new) (faults_of run result) };
 
     /// The last bytes of what the launcher of a run says that has just come to a fault, at most so
     /// many.

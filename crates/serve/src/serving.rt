@@ -1,10 +1,10 @@
 //! The turns.
 
-ghost use Rattle.std.specs.Prelude.{◌≡◌, ◌<◌, ◌==◌, ℕ, [], length, Some, IfSome, IfOk, IfErr};
+ghost use Rattle.std.specs.Prelude.{◌≡◌, ◌<◌, ◌≤◌, ◌==◌, ℕ, [], length, true, Some, IfSome, IfOk, IfErr};
 ghost use Rattle.std.specs.List.{list_any};
 ghost use Rattle.serve.specs.Numbers.{NumbersAreApart};
-ghost use Rattle.serve.specs.FaultLines.{WritesLines};
-ghost use Rattle.serve.specs.KeepsOpen.{AreWithin, IsNext, KeepsOpen, sockets_of};
+ghost use Rattle.serve.specs.FaultLines.{WritesLines, WritesLinesAt};
+ghost use Rattle.serve.specs.KeepsOpen.{HasAllOpen, IsNext, LacksRoom, sockets_of};
 ghost use Rattle.serve.specs.SocketEvents.{Adds};
 ghost use Rattle.serve.specs.Served.{WasServed};
 ghost use Rattle.serve.specs.KeepsServing.{IsServing, KeepsServing};
@@ -25,6 +25,9 @@ use server_core::Server;
 use server_events::{Configs, What};
 use std::alloc::{AllocError, Global};
 use std::io::Write;
+
+/// For how many milliseconds at most nothing is told where nothing comes and nothing runs.
+const QUIET_TIME: u64 = 50;
 
 /// Whether an open socket has this number, of whichever instance. The server may have let go of its
 /// connection.
@@ -79,6 +82,7 @@ impl Serving {
             (Some []) (Some []) s.counting s.moment) }
         ensures instances { IfOk result (λ s. s.instances ≡ length configs.now) }
         ensures none { IfOk result (λ s. s.connections.items ≡ []) }
+        ensures moment { IfOk result (λ s. s.moment ≡ 0) }
     {
         let server = Server::new(alloc, key, configs)?;
         let counts = ServeCounts::new(alloc, configs.instances().len())?;
@@ -117,6 +121,22 @@ impl Serving {
         }
     }
 
+    /// For how many milliseconds the sockets may wait for something to come, behind a turn: not at
+    /// all where something moved; for one where there are runs, which are to be asked, or where an
+    /// instance may rest.
+    fn patience<R: Runs>(&self, runs: &R, has_moved: bool) -> u64
+        ensures at_once { has_moved ≡ true → result ≡ 0 }
+        ensures bound { result ≤ 50 }
+    {
+        if has_moved {
+            0
+        } else if runs.count() > 0 || self.pace.may_rest() {
+            1
+        } else {
+            QUIET_TIME
+        }
+    }
+
     /// Tells the time and tries each port, but only once a millisecond, tries each connection that
     /// is due, and goes on with runs. It says whether anything moved, or can go on at once.
     fn turn<S: Sockets, R: Runs, E: Write>(
@@ -126,19 +146,17 @@ impl Serving {
         runs: &mut R,
         errors: &mut ErrorLines<E>,
     ) -> bool
-        requires within { AreWithin self.old.instances
-            (sockets_of self.old.connections.items) }
+        requires opened { HasAllOpen self.old (S.happened sockets.old) }
         ensures serving { KeepsServing self.old.instances
             (S.happened sockets.old) (R.happened runs.old)
             self.old.counting self.old.moment
             (S.happened sockets.new) (R.happened runs.new)
             self.new.counting self.new.moment }
         ensures instances { self.new.instances ≡ self.old.instances }
-        ensures within { AreWithin self.new.instances
-            (sockets_of self.new.connections.items) }
-        ensures numbers { KeepsOpen self.old (S.happened sockets.old)
-            self.new (S.happened sockets.new) }
-        ensures lines { WritesLines configs.now (E.contents errors.old.output) errors.old.backlog
+        ensures opened { HasAllOpen self.new (S.happened sockets.new) }
+        ensures lines { WritesLinesAt self.new.moment configs.now
+            (R.faulted runs.old) (R.faulted runs.new)
+            (E.contents errors.old.output) errors.old.backlog
             (E.contents errors.new.output) errors.new.backlog }
     {
         self.keep_time(sockets, runs);
@@ -156,18 +174,15 @@ impl Serving {
     /// Reads the clock where it went on. While it shows the same nothing is to be told, of which
     /// many turns of a busy server are spared.
     fn keep_time<S: Sockets, R: Runs>(&mut self, sockets: &mut S, runs: &mut R)
-        requires within { AreWithin self.old.instances
-            (sockets_of self.old.connections.items) }
+        requires opened { HasAllOpen self.old (S.happened sockets.old) }
         ensures serving { KeepsServing self.old.instances
             (S.happened sockets.old) (R.happened runs.old)
             self.old.counting self.old.moment
             (S.happened sockets.new) (R.happened runs.new)
             self.new.counting self.new.moment }
+        ensures no_fault { R.faulted runs.new ≡ R.faulted runs.old }
         ensures instances { self.new.instances ≡ self.old.instances }
-        ensures within { AreWithin self.new.instances
-            (sockets_of self.new.connections.items) }
-        ensures numbers { KeepsOpen self.old (S.happened sockets.old)
-            self.new (S.happened sockets.new) }
+        ensures opened { HasAllOpen self.new (S.happened sockets.new) }
     {
         if sockets.passed() > self.moment {
             self.tick(sockets, runs);
@@ -176,18 +191,15 @@ impl Serving {
 
     /// Time goes on for each instance.
     fn tick<S: Sockets, R: Runs>(&mut self, sockets: &mut S, runs: &mut R)
-        requires within { AreWithin self.old.instances
-            (sockets_of self.old.connections.items) }
+        requires opened { HasAllOpen self.old (S.happened sockets.old) }
         ensures serving { KeepsServing self.old.instances
             (S.happened sockets.old) (R.happened runs.old)
             self.old.counting self.old.moment
             (S.happened sockets.new) (R.happened runs.new)
             self.new.counting self.new.moment }
+        ensures no_fault { R.faulted runs.new ≡ R.faulted runs.old }
         ensures instances { self.new.instances ≡ self.old.instances }
-        ensures within { AreWithin self.new.instances
-            (sockets_of self.new.connections.items) }
-        ensures numbers { KeepsOpen self.old (S.happened sockets.old)
-            self.new (S.happened sockets.new) }
+        ensures opened { HasAllOpen self.new (S.happened sockets.new) }
     {
         self.moment = sockets.now();
         for instance in 0..self.instances {
@@ -197,18 +209,15 @@ impl Serving {
 
     /// Opens the next connection that waits, for each instance, and says whether there was any.
     fn open_all<S: Sockets, R: Runs>(&mut self, sockets: &mut S, runs: &mut R) -> bool
-        requires within { AreWithin self.old.instances
-            (sockets_of self.old.connections.items) }
+        requires opened { HasAllOpen self.old (S.happened sockets.old) }
         ensures serving { KeepsServing self.old.instances
             (S.happened sockets.old) (R.happened runs.old)
             self.old.counting self.old.moment
             (S.happened sockets.new) (R.happened runs.new)
             self.new.counting self.new.moment }
+        ensures no_fault { R.faulted runs.new ≡ R.faulted runs.old }
         ensures instances { self.new.instances ≡ self.old.instances }
-        ensures within { AreWithin self.new.instances
-            (sockets_of self.new.connections.items) }
-        ensures numbers { KeepsOpen self.old (S.happened sockets.old)
-            self.new (S.happened sockets.new) }
+        ensures opened { HasAllOpen self.new (S.happened sockets.new) }
     {
         let mut opened = false;
         for instance in 0..self.instances {
@@ -224,18 +233,15 @@ impl Serving {
     /// makes room for the next. It says whether there was any.
     fn open<S: Sockets, R: Runs>(&mut self, sockets: &mut S, runs: &mut R, instance: u32) -> bool
         requires one { instance < self.old.instances }
-        requires within { AreWithin self.old.instances
-            (sockets_of self.old.connections.items) }
+        requires opened { HasAllOpen self.old (S.happened sockets.old) }
         ensures serving { KeepsServing self.old.instances
             (S.happened sockets.old) (R.happened runs.old)
             self.old.counting self.old.moment
             (S.happened sockets.new) (R.happened runs.new)
             self.new.counting self.new.moment }
+        ensures no_fault { R.faulted runs.new ≡ R.faulted runs.old }
         ensures instances { self.new.instances ≡ self.old.instances }
-        ensures within { AreWithin self.new.instances
-            (sockets_of self.new.connections.items) }
-        ensures numbers { KeepsOpen self.old (S.happened sockets.old)
-            self.new (S.happened sockets.new) }
+        ensures opened { HasAllOpen self.new (S.happened sockets.new) }
     {
         let Some(connection) = self.next else {
             return false;
@@ -277,18 +283,17 @@ impl Serving {
     /// Closes the connection of an instance that has been silent longest, if one may make room, for
     /// the next that waits.
     fn make_room<S: Sockets, R: Runs>(&mut self, sockets: &mut S, runs: &mut R, instance: u32)
-        requires within { AreWithin self.old.instances
-            (sockets_of self.old.connections.items) }
-        ensures serving { KeepsServing self.old.instances
+        requires one { instance < self.old.instances }
+        requires opened { HasAllOpen self.old (S.happened sockets.old) }
+        ensures serving { LacksRoom instance self.old.counting.server
+            (S.happened sockets.old) (R.happened runs.old) → KeepsServing self.old.instances
             (S.happened sockets.old) (R.happened runs.old)
             self.old.counting self.old.moment
             (S.happened sockets.new) (R.happened runs.new)
             self.new.counting self.new.moment }
+        ensures no_fault { R.faulted runs.new ≡ R.faulted runs.old }
         ensures instances { self.new.instances ≡ self.old.instances }
-        ensures within { AreWithin self.new.instances
-            (sockets_of self.new.connections.items) }
-        ensures numbers { KeepsOpen self.old (S.happened sockets.old)
-            self.new (S.happened sockets.new) }
+        ensures opened { HasAllOpen self.new (S.happened sockets.new) }
     {
         let found = longest_silent(
             &self.counting.server,
@@ -313,18 +318,15 @@ impl Serving {
     /// Receives and sends on each connection that is due, and lets go of those that are over. It
     /// says whether anything moved.
     fn exchange_all<S: Sockets, R: Runs>(&mut self, sockets: &mut S, runs: &mut R) -> bool
-        requires within { AreWithin self.old.instances
-            (sockets_of self.old.connections.items) }
+        requires opened { HasAllOpen self.old (S.happened sockets.old) }
         ensures serving { KeepsServing self.old.instances
             (S.happened sockets.old) (R.happened runs.old)
             self.old.counting self.old.moment
             (S.happened sockets.new) (R.happened runs.new)
             self.new.counting self.new.moment }
+        ensures no_fault { R.faulted runs.new ≡ R.faulted runs.old }
         ensures instances { self.new.instances ≡ self.old.instances }
-        ensures within { AreWithin self.new.instances
-            (sockets_of self.new.connections.items) }
-        ensures numbers { KeepsOpen self.old (S.happened sockets.old)
-            self.new (S.happened sockets.new) }
+        ensures opened { HasAllOpen self.new (S.happened sockets.new) }
     {
         self.pace.begin(sockets.passed());
         let (from, end) = (self.pace.from, self.connections.len());
@@ -349,18 +351,15 @@ impl Serving {
         first: usize,
         end: usize,
     ) -> bool
-        requires within { AreWithin self.old.instances
-            (sockets_of self.old.connections.items) }
+        requires opened { HasAllOpen self.old (S.happened sockets.old) }
         ensures serving { KeepsServing self.old.instances
             (S.happened sockets.old) (R.happened runs.old)
             self.old.counting self.old.moment
             (S.happened sockets.new) (R.happened runs.new)
             self.new.counting self.new.moment }
+        ensures no_fault { R.faulted runs.new ≡ R.faulted runs.old }
         ensures instances { self.new.instances ≡ self.old.instances }
-        ensures within { AreWithin self.new.instances
-            (sockets_of self.new.connections.items) }
-        ensures numbers { KeepsOpen self.old (S.happened sockets.old)
-            self.new (S.happened sockets.new) }
+        ensures opened { HasAllOpen self.new (S.happened sockets.new) }
     {
         let alloc = *self.connections.allocator();
         let mut moved = false;
@@ -405,19 +404,6 @@ impl Serving {
     }
 }
 
-/// Rests where nothing moved in a turn, and says how many turns in which nothing moved went by
-/// since something did.
-fn rest_unless<S: Sockets>(sockets: &mut S, has_moved: bool, idle_turns: u64) -> u64
-    ensures adds { Adds (S.happened sockets.old) (S.happened sockets.new) [] }
-{
-    if has_moved {
-        return 0;
-    }
-    sockets.rest(idle_turns);
-    // There are no more idle turns than turns, which fit in 64 bits.
-    idle_turns.saturating_add(1)
-}
-
 /// What came of turns.
 #[derive(Clone, Copy, Debug, PartialEq, Eq)]
 pub struct Tally {
@@ -459,8 +445,8 @@ pub struct Tally {
 /// want of memory, as the result says, and no others. Nothing happens at a number of no instance.
 /// An instance that builds on another is alone with that one, and reads what it has by then.
 ///
-/// `lines`: what is written to `errors` are whole lines, each of which says that the run of a job
-/// failed, with the instance's name, or how many lines were dropped.
+/// `lines`: just the faults that runs answered are told to `errors`, in order, each by a line with
+/// the names of its instance and its job, which is written or dropped; and how many were dropped.
 ///
 /// No fault of a socket or a run and no such refusal ends the turns: an error is want of memory
 /// before the first.
@@ -479,20 +465,20 @@ pub fn serve<S: Sockets, R: Runs, E: Write, W: Watch>(
     ensures served { IfOk result (λ tally. WasServed configs.now
         (S.happened sockets.new) (R.happened runs.new) tally.cut) }
     ensures numbers { IfSome (S.happened sockets.new) NumbersAreApart }
-    ensures lines { WritesLines configs.now (E.contents errors.old.output) errors.old.backlog
+    ensures lines { WritesLines configs.now (R.faulted runs.old) (R.faulted runs.new)
+        (E.contents errors.old.output) errors.old.backlog
         (E.contents errors.new.output) errors.new.backlog }
     // Where memory is refused later than at the beginning, the turns go on.
     ensures unbegun { IfErr result (λ error. (S.happened sockets.new ≡ S.happened sockets.old)
         × (R.happened runs.new ≡ R.happened runs.old)) }
 {
     let mut serving = Serving::new(alloc, key, configs)?;
-    let mut idle_turns: u64 = 0;
     for _ in 0..turns {
         let has_moved = serving.turn(configs, sockets, runs, errors);
         if !watch.look(&serving.sight(errors.dropped())) {
             return Ok(serving.tally());
         }
-        idle_turns = rest_unless(sockets, has_moved, idle_turns);
+        sockets.rest(serving.patience(runs, has_moved));
     }
     Ok(serving.tally())
 }

@@ -1,7 +1,7 @@
 //! Connections to clients, and the doors at which these come, one by one.
 #![tactic(auto)]
 
-ghost use Rattle.std.specs.Prelude.{◌≡◌, [], ◌∷◌, List, Option, None};
+ghost use Rattle.std.specs.Prelude.{◌≡◌, ℕ, [], ◌∷◌, List, Option, None};
 ghost use Rattle.std.specs.Io.{ReadsAtMost, WritesAtMost};
 
 use std::io;
@@ -48,8 +48,9 @@ pub trait Door: Drop {
     // All that it let in, in order, where it is known.
     ghost given: { Self → Option (List Self.Wire) } = { λ _. None };
 
-    /// The next client that waits. `WouldBlock` says that none does.
-    fn next(&mut self) -> io::Result<Self::Wire>
+    /// The next client that waits. What comes on its wire is told under this number from then on.
+    /// `WouldBlock` says that none waits.
+    fn next(&mut self, number: u32) -> io::Result<Self::Wire>
         ensures adds { Adds (given self.old) (given self.new) (let_in result) }
         ensures new { IfOk result (λ wire. IsNew (Self.Wire.happened wire)) }
         ensures stays { at self.new ≡ at self.old };
@@ -58,27 +59,52 @@ pub trait Door: Drop {
     fn number(&self) -> io::Result<u16>;
 }
 
-/// What a server has of its host: doors, a clock, and whatever finds the doors at which clients
-/// wait.
+/// Of how much a host learns at a time at most. It learns of any more the next time.
+pub const NEWS_LIMIT: usize = 256;
+
+/// What came at a door, or on a wire that it let in.
+#[derive(Clone, Copy)]
+pub struct News {
+    /// The place of the door.
+    pub place: usize,
+    /// The wire's number; of the door itself there is none.
+    pub number: Option<u32>,
+    /// A client, or bytes, or the end of them, or a failure.
+    pub may_read: bool,
+    /// Bytes can be sent again, or a failure came.
+    pub may_write: bool,
+}
+
+/// What a server has of its host: doors, a clock, and whatever tells what came at them.
 pub trait Host: Drop {
-    ghost use Rattle.std.specs.Prelude.{IfOk, IfSome};
+    ghost use Rattle.wires.specs.declared.News.{News};
+    ghost use Rattle.wires.specs.Wires.{Adds};
+    ghost use Rattle.std.specs.Prelude.{◌≤◌, IfOk, IfSome, length, slice_get};
 
     /// A door of it.
     type Door: Door;
 
-    /// Opens a door at an address. Whoever comes there is found under this place from then on.
+    // For how many milliseconds it was to wait, each time, where it is known.
+    ghost waits: { Self → Option (List ℕ) } = { λ _. None };
+
+    // What it learned last, where it is known.
+    ghost learned: { Self → Option (List News) } = { λ _. None };
+
+    /// Opens a door at an address. What comes there is told of this place from then on.
     fn open(&mut self, address: SocketAddr, place: usize) -> io::Result<Self::Door>
         ensures at { IfOk result (λ door. IfSome (Self.Door.at door) (λ at. at ≡ address)) };
 
-    /// Finds the places of doors to which clients came since, some of them or all.
-    fn find(&mut self) -> io::Result<()>;
+    /// Learns what came at doors and on wires, some of it or all, and waits for it for at most so
+    /// many milliseconds. Of a door or a wire nothing more is told until a call there answered
+    /// `WouldBlock`.
+    fn look(&mut self, most: u64) -> io::Result<()>
+        ensures waits { Adds (waits self.old) (waits self.new) (most ∷ []) }
+        ensures few { IfSome (learned self.new) (λ all. length all ≤ 256) };
 
-    /// One of those that it found last.
-    fn found(&self, nth: usize) -> Option<usize>;
+    /// One of what it learned last.
+    fn news(&self, nth: usize) -> Option<News>
+        ensures { IfSome (learned self.now) (λ all. result ≡ slice_get all nth) };
 
     /// The milliseconds since the start.
     fn passed(&self) -> io::Result<u64>;
-
-    /// Waits for so many microseconds.
-    fn rest(&mut self, micros: u64);
 }

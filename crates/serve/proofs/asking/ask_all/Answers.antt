@@ -1,4 +1,4 @@
-use Rattle.serve.proofs.FaultLines.{lines_on}
+use Rattle.serve.proofs.FaultLines.{lines_at_on, lines_at_same}
 use Rattle.serve.proofs.Keeps.{after_no_run}
 use Rattle.serve.proofs.asking.ask_all.Goals.{else-loop-test, then-loop-test+in_default, then-loop-test+in-Some+then-passed-moment}
 use Rattle.serve.proofs.asking.ask_all.Goals as goal
@@ -6,7 +6,7 @@ use Rattle.serve.proofs.asking.ask_all.Goals as goal
 pub loop-preserved : goal.loop-preserved
 loop-preserved g c = record {
   serving = λ count known configs same at. c.ask.ensures.serving known configs c.in-Some.ensures.begun (after_no_run configs known _ _ _ _ c.next.ensures.adds (c.loop.invariant.serving count known configs same at));
-  lines = lines_on c.args.configs.now _ _ _ c.args.errors.now.backlog c.loop.errors.backlog c.ask.new.errors.backlog c.loop.invariant.lines c.ask.ensures.lines;
+  lines = lines_at_on c.args.moment c.args.configs.now _ _ _ _ _ _ _ c.args.errors.now.backlog c.loop.errors.backlog c.ask.new.errors.backlog c.loop.invariant.lines c.next.ensures.no_fault c.ask.ensures.lines;
 }
 
 pub returns : goal.returns
@@ -17,8 +17,8 @@ returns g c = record {
     | then-loop-test+in-Some+then-passed-moment w ↦ rw (w.counting-is, w.runs-is) (w.ask.ensures.serving known configs w.in-Some.ensures.begun (after_no_run configs known _ _ _ _ w.next.ensures.adds (c.loop.invariant.serving count known configs same at)))
   ];
   lines = elim c.loop-test.branch [
-    | else-loop-test w ↦ rw w.errors-is c.loop.invariant.lines
-    | then-loop-test+in_default w ↦ rw w.errors-is c.loop.invariant.lines
-    | then-loop-test+in-Some+then-passed-moment w ↦ rw w.errors-is (lines_on c.args.configs.now _ _ _ c.args.errors.now.backlog c.loop.errors.backlog w.ask.new.errors.backlog c.loop.invariant.lines w.ask.ensures.lines)
+    | else-loop-test w ↦ rw (w.errors-is, w.runs-is) c.loop.invariant.lines
+    | then-loop-test+in_default w ↦ rw (w.errors-is, w.runs-is) (lines_at_same c.args.moment c.args.configs.now _ _ _ _ _ _ _ w.next.ensures.no_fault c.loop.invariant.lines)
+    | then-loop-test+in-Some+then-passed-moment w ↦ rw (w.errors-is, w.runs-is) (lines_at_on c.args.moment c.args.configs.now _ _ _ _ _ _ _ c.args.errors.now.backlog c.loop.errors.backlog w.ask.new.errors.backlog c.loop.invariant.lines w.next.ensures.no_fault w.ask.ensures.lines)
   ];
 }

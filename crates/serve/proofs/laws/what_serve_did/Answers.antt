@@ -1,5 +1,5 @@
-use Rattle.serve.proofs.Did.{did, alone}
+use Rattle.serve.proofs.Did.{did, came, alone, sent}
 use Rattle.serve.proofs.laws.what_serve_did.Goals as goal
 
 pub returns : goal.returns
-returns c = record { did = did; alone = alone }
+returns c = record { did = did; came = came; alone = alone; sent = sent }

@@ -1,4 +1,4 @@
-use Rattle.serve.proofs.Numbers.{found_free}
+use Rattle.serve.proofs.Open.{found_free}
 use Rattle.serve.proofs.serving.number_after.Goals as goal
 
 pub returns-then-not-is_taken : goal.returns-then-not-is_taken

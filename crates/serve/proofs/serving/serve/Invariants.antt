@@ -1,5 +1,5 @@
 use Rattle.std.proofs.Common.{◌≡◌, length}
-use Rattle.serve.specs.KeepsOpen.{AreWithin, HasOpen, sockets_of}
+use Rattle.serve.specs.KeepsOpen.{HasAllOpen}
 use Rattle.serve.specs.FaultLines.{WritesLines}
 use Rattle.serve.specs.KeepsServing.{IsServing}
 use Rattle.serve.proofs.serving.serve.Given as goal
@@ -8,7 +8,6 @@ abbrev pub invariant-loop : goal.invariant-loop
 invariant-loop g l = record {
   serving : IsServing l.configs (g.S.Sockets.happened l.sockets) (g.R.Runs.happened l.runs) l.serving.counting l.serving.moment;
   instances : l.serving.instances ≡ length l.configs;
-  within : AreWithin l.serving.instances (sockets_of l.serving.connections.items);
-  lines : WritesLines l.configs (g.E.Write.contents l.fn.errors.output) l.fn.errors.backlog (g.E.Write.contents l.errors.output) l.errors.backlog;
-  numbers : HasOpen (sockets_of l.serving.connections.items) l.serving.next (g.S.Sockets.happened l.sockets);
+  lines : WritesLines l.configs (g.R.Runs.faulted l.fn.runs) (g.R.Runs.faulted l.runs) (g.E.Write.contents l.fn.errors.output) l.fn.errors.backlog (g.E.Write.contents l.errors.output) l.errors.backlog;
+  opened : HasAllOpen l.serving (g.S.Sockets.happened l.sockets);
 }

@@ -1,5 +1,9 @@
 use Rattle.job_runs.proofs.Once.{after_noted}
+use Rattle.job_runs.proofs.Spans.{still_to_begin}
 use Rattle.job_runs.proofs.job_runner.JobRunnerRuns.start.Goals as goal
 
-pub returns-clause-once : goal.returns-clause-once
-returns-clause-once g c = after_noted c.push-room_is_there.result c.args.run c.args.self.now.runner.runs.items c.args.self.now.to_begin c.push-room_is_there.new.self c.push-room_is_there.ensures.items
+pub returns-then-len-capacity-clause-once : goal.returns-then-len-capacity-clause-once
+returns-then-len-capacity-clause-once g c = after_noted c.args.run c.args.self.now.runner.runs.items c.args.self.now.to_begin c.push_reserved.new.self c.push_reserved.ensures.items
+
+pub returns-else-len-capacity-clause-others : goal.returns-else-len-capacity-clause-others
+returns-else-len-capacity-clause-others g c = still_to_begin c.args.self.now.to_begin.items c.args.self.now.together c.span_with.result c.span_with.ensures.others

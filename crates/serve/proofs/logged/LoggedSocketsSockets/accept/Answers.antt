@@ -4,7 +4,7 @@ use Rattle.serve.proofs.logged.LoggedSocketsSockets.accept.Goals as goal
 pub invariant_of-self : goal.invariant_of-self
 invariant_of-self g c = record {
   carried = carried_on _ _ _ _ _ c.args.self.now.carried
-      c.in-Ok.ensures.carries c.add.ensures;
+      c.in-Ok.ensures.carries c.add.ensures.adds;
 }
 
 pub invariant_of-self-in-Err-1 : goal.invariant_of-self-in-Err-1

@@ -1,6 +1,6 @@
 use Rattle.std.proofs.Common.{ℕ, List, [], ◌∷◌, ap}
 use Rattle.serve.specs.SocketEvents.{port, read}
-use Rattle.serve.proofs.Carried.{carried_as, carried_still}
+use Rattle.serve.proofs.Carried.{carried_as, carried_on}
 use Rattle.serve.proofs.logged.LoggedSocketsSockets.read.Goals as goal
 
 pub invariant_of-self : goal.invariant_of-self
@@ -8,11 +8,11 @@ invariant_of-self g c = record {
   carried = carried_as _ _ _ _ _ _
       (ap (λ (bytes : List ℕ). port c.args.socket.instance
       (read c.args.socket.connection bytes) ∷ [])
-      c.in-Ok-copied.ensures) c.args.self.now.carried c.in-Ok.ensures.carries c.add.ensures;
+      c.in-Ok-copied.ensures) c.args.self.now.carried c.in-Ok.ensures.carries c.add.ensures.adds;
 }
 
-pub invariant_of-self-in-Err-read : goal.invariant_of-self-in-Err-read
-invariant_of-self-in-Err-read g c = record {
-  carried = carried_still _ _ _ c.args.self.now.carried
-      c.in-Err.ensures.carries;
+pub invariant_of-self-in-Err : goal.invariant_of-self-in-Err
+invariant_of-self-in-Err g c = record {
+  carried = carried_on _ _ _ _ _ c.args.self.now.carried
+      c.in-Err.ensures.carries c.add_failure.ensures;
 }

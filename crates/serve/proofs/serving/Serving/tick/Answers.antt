@@ -1,6 +1,5 @@
-use Rattle.std.proofs.Common.{arith, refl}
-use Rattle.serve.specs.KeepsOpen.{sockets_of}
-use Rattle.serve.proofs.Numbers.{clock_stays, same_open}
+use Rattle.std.proofs.Common.{arith, refl, ◌∙◌}
+use Rattle.serve.proofs.Open.{clock_open}
 use Rattle.serve.proofs.Ticks.{none_ticked, one_ticked, all_ticked, still_unknown}
 use Rattle.serve.proofs.serving.Serving.tick.Goals as goal
 
@@ -10,9 +9,9 @@ loop-instance-init g c = record {
   unknown = λ is. is;
   adds = c.now-self.ensures.adds;
   rises = c.now-self.ensures.rises;
+  no_fault = refl;
   instances = refl;
-  within = c.requires.within;
-  numbers = same_open _ _ (sockets_of c.args.self.now.connections.items) _ c.args.self.now.next refl (clock_stays _ _ _ c.now-self.ensures.adds);
+  opened = clock_open _ _ _ c.now-self.ensures.adds c.args.self.now.instances c.args.self.now.connections.items c.args.self.now.next c.args.self.now.moment c.requires.opened;
 }
 
 pub loop-instance-preserved : goal.loop-instance-preserved
@@ -21,9 +20,9 @@ loop-instance-preserved g c = record {
   unknown = still_unknown _ _ _ _ _ _ c.tell.ensures.takes c.loop-instance.invariant.unknown;
   adds = c.loop-instance.invariant.adds;
   rises = c.loop-instance.invariant.rises;
+  no_fault = c.tell.ensures.no_fault ∙ c.loop-instance.invariant.no_fault;
   instances = c.loop-instance.invariant.instances;
-  within = c.loop-instance.invariant.within;
-  numbers = c.loop-instance.invariant.numbers;
+  opened = c.loop-instance.invariant.opened;
 }
 
 pub returns-clause-serving : goal.returns-clause-serving

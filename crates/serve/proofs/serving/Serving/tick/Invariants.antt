@@ -1,7 +1,7 @@
 use Rattle.std.proofs.Common.{◌≡◌, List, ◌∷◌, [], length}
 use Rattle.server_events.specs.Configs.{ConfigValue}
 use Rattle.serve.specs.SocketEvents.{clock, Adds}
-use Rattle.serve.specs.KeepsOpen.{AreWithin, KeepsOpen, sockets_of}
+use Rattle.serve.specs.KeepsOpen.{HasAllOpen}
 use Rattle.serve.specs.KeepsServing.{IsServing}
 use Rattle.serve.proofs.Ticks.{IsTicking, Rises, StaysUnknown}
 use Rattle.serve.proofs.serving.Serving.tick.Given as goal
@@ -12,7 +12,7 @@ invariant-loop-instance g l = record {
   unknown : StaysUnknown (g.R.Runs.happened l.fn.runs) (g.R.Runs.happened l.runs);
   adds : Adds (g.S.Sockets.happened l.fn.sockets) (g.S.Sockets.happened l.sockets) (clock l.self.moment ∷ []);
   rises : Rises (g.S.Sockets.happened l.fn.sockets) l.self.moment;
+  no_fault : g.R.Runs.faulted l.runs ≡ g.R.Runs.faulted l.fn.runs;
   instances : l.self.instances ≡ l.fn.self.instances;
-  within : AreWithin l.self.instances (sockets_of l.self.connections.items);
-  numbers : KeepsOpen l.fn.self (g.S.Sockets.happened l.fn.sockets) l.self (g.S.Sockets.happened l.sockets);
+  opened : HasAllOpen l.self (g.S.Sockets.happened l.sockets);
 }

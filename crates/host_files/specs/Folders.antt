@@ -2,6 +2,7 @@
 use Rattle.std.specs.Prelude.{ℕ, List, [], ◌∷◌, ◌++◌, codes}
 use Rattle.std.specs.Fmt.{decimal}
 use Rattle.run_calls.specs.Values.{PlaceValue}
+use Rattle.run_calls.specs.declared.task.RunKey.{RunKey}
 
 -- `INSTANCE-JOB`, in decimal
 abbrev pub root_name : ℕ → ℕ → List ℕ
@@ -19,3 +20,21 @@ below folder (c ∷ cs) = folder ++ (codes "/" ++ (c ∷ cs))
 -- the directory in which the program of a run works
 abbrev pub working_path : List ℕ → PlaceValue → List ℕ
 working_path start place = below (root_path start place.run.instance place.run.job) place.directory
+
+-- what has these names from a folder on, each below the one before
+abbrev pub below_all : List ℕ → List (List ℕ) → List ℕ
+below_all folder [] = folder
+below_all folder (name ∷ names) = below_all (below folder name) names
+
+-- the folder beside a run's own, for what is removed of it
+abbrev pub aside_name : ℕ → ℕ → List ℕ
+aside_name instance job = decimal instance ++ (codes "-" ++ (decimal job ++ codes ".aside"))
+
+-- what has these names from a run's folder on, in that of a start
+abbrev pub node_path : RunKey → List (List ℕ) → List ℕ
+node_path run names = below_all (root_name run.instance run.job) names
+
+-- what has these names from an output on, whose own path is from the working directory on
+abbrev pub left_path : PlaceValue → List ℕ → List (List ℕ) → List ℕ
+left_path place path names =
+    below_all (below (below (root_name place.run.instance place.run.job) place.directory) path) names

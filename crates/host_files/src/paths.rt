@@ -3,9 +3,11 @@
 //! A start has a folder, and in it each run has one, and one aside. A path that is no whole path
 //! goes from the folder of the start on: its first name is that of a run's folder.
 
-ghost use Rattle.std.specs.Prelude.{◌≡◌, IfOk, OnOk, string_bytes};
+ghost use Rattle.std.specs.Prelude.{◌≡◌, ◌++◌, IfOk, OnOk, codes, map, string_bytes};
+ghost use Rattle.std.specs.Option.{option_map_or};
+ghost use Rattle.std.specs.Rc.{rc_str_bytes};
 ghost use Rattle.run_calls.specs.Values.{place_shown};
-ghost use Rattle.host_files.specs.Folders.{below, root_name, root_path, working_path};
+ghost use Rattle.host_files.specs.Folders.{aside_name, below, below_all, left_path, node_path, root_name, root_path, working_path};
 
 use run_calls::{Place, RunKey};
 use std::alloc::{AllocError, Global};
@@ -21,7 +23,9 @@ pub fn root_name(alloc: Global, run: RunKey) -> Result<String, AllocError>
 
 /// The name of the folder beside a run's own in which stands what is removed of it, and what of it
 /// has to have another name. The run's program has no path to it below its own folder.
-pub fn aside_name(alloc: Global, run: RunKey) -> Result<String, AllocError> {
+pub fn aside_name(alloc: Global, run: RunKey) -> Result<String, AllocError>
+    ensures { IfOk result (λ name. string_bytes name ≡ aside_name run.instance run.job) }
+{
     let RunKey { instance, job } = run;
     format!(in alloc; "{instance}-{job}.aside")
 }
@@ -40,16 +44,24 @@ pub fn beside_path(
     work: &str,
     run: RunKey,
     ending: &str,
-) -> Result<String, AllocError> {
+) -> Result<String, AllocError>
+    ensures { IfOk result (λ path. string_bytes path
+        ≡ work.now ++ (codes "/" ++ (root_name run.instance run.job ++ ending.now))) }
+{
     let name = root_name(alloc, run)?;
     format!(in alloc; "{work}/{name}{ending}")
 }
 
 /// What has these names from the folder of a run on.
-pub fn node_path(alloc: Global, run: RunKey, names: &[RcStr]) -> Result<String, AllocError> {
+pub fn node_path(alloc: Global, run: RunKey, names: &[RcStr]) -> Result<String, AllocError>
+    ensures { IfOk result (λ path. string_bytes path
+        ≡ node_path run (map rc_str_bytes names.now)) }
+{
     let mut path = root_name(alloc, run)?;
-    for name in names {
-        add(&mut path, name)?;
+    let mut left = names;
+    while let [first, rest @ ..] = left {
+        add(&mut path, first)?;
+        left = rest;
     }
     Ok(path)
 }
@@ -60,13 +72,14 @@ pub fn left_path(
     place: &Place,
     path: &str,
     names: &[String],
-) -> Result<String, AllocError> {
+) -> Result<String, AllocError>
+    ensures { IfOk result (λ whole. string_bytes whole
+        ≡ left_path (place_shown place.now) path.now (map string_bytes names.now)) }
+{
     let mut whole = root_name(alloc, place.run)?;
     add(&mut whole, place.directory.as_str())?;
     add(&mut whole, path)?;
-    for name in names {
-        add(&mut whole, name.as_str())?;
-    }
+    add_all(&mut whole, names)?;
     Ok(whole)
 }
 
@@ -77,7 +90,11 @@ pub fn file_path(
     path: &str,
     above: &[String],
     name: Option<&str>,
-) -> Result<String, AllocError> {
+) -> Result<String, AllocError>
+    ensures { IfOk result (λ whole. string_bytes whole ≡ option_map_or
+        (λ n. below (left_path (place_shown place.now) path.now (map string_bytes above.now)) n.now)
+        name.entry (left_path (place_shown place.now) path.now (map string_bytes above.now))) }
+{
     let mut whole = left_path(alloc, place, path, above)?;
     add(&mut whole, name.unwrap_or(""))?;
     Ok(whole)
@@ -103,6 +120,18 @@ fn add(whole: &mut String, path: &str) -> Result<(), AllocError>
     if !path.is_empty() {
         whole.push('/')?;
         whole.push_str(path)?;
+    }
+    Ok(())
+}
+
+fn add_all(whole: &mut String, names: &[String]) -> Result<(), AllocError>
+    ensures { OnOk result (string_bytes whole.new
+        ≡ below_all (string_bytes whole.old) (map string_bytes names.now)) }
+{
+    let mut left = names;
+    while let [first, rest @ ..] = left {
+        add(whole, first.as_str())?;
+        left = rest;
     }
     Ok(())
 }

@@ -35,8 +35,11 @@ abbrev pub sought_of : Way → List SoughtValue
 sought_of (By launcher) = []
 sought_of (AsTheyAre sought) = map sought_shown sought.items
 
+abbrev pub is_run : RunKey → RunKey → Bool
+is_run run other = other.instance == run.instance && other.job == run.job
+
 abbrev pub is_of : RunKey → SoughtValue → Bool
-is_of run sought = sought.run.instance == run.instance && sought.run.job == run.job
+is_of run sought = is_run run sought.run
 
 abbrev pub IsAmong : {X : Type 0} → X → List X → Type 0
 IsAmong x [] = ⊥

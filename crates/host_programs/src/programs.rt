@@ -29,7 +29,9 @@ use std::rt::{Clock, Files};
 use std::time::Instant;
 
 /// The program of a run, among those that were started.
-fn program_of(started: &mut [Started], run: RunKey) -> io::Result<&mut Started> {
+fn program_of(started: &mut [Started], run: RunKey) -> io::Result<&mut Started>
+    ensures own { IfOk result (λ s. s.now.run ≡ run) }
+{
     let place = started.iter().position(|each| each.is_of(run));
     let found = match place {
         Some(at) => started.get_mut(at),

@@ -6,6 +6,7 @@ ghost use Rattle.std.specs.Process.{exit_code};
 ghost use Rattle.std.specs.declared.io.ErrorKind.TheVariants.{ConnectionAborted};
 ghost use Rattle.run_calls.specs.Values.{IsInRange};
 ghost use Rattle.host_programs.specs.Spawning.{IsAlike, StartsBy};
+ghost use Rattle.host_programs.specs.Ways.{is_run};
 ghost use Rattle.host_programs.specs.declared.started.StartedAs.TheVariants.{Launcher};
 
 use crate::children::{is_reaped, kill_child};
@@ -215,7 +216,9 @@ fn next_for_launcher(progress: Progress, now: Instant) -> Next {
 }
 
 impl Started {
-    pub(crate) fn is_of(&self, run: RunKey) -> bool {
+    pub(crate) fn is_of(&self, run: RunKey) -> bool
+        ensures { result ≡ is_run run self.now.run }
+    {
         self.run.instance == run.instance && self.run.job == run.job
     }
 

@@ -104,6 +104,8 @@ def stop(program):
                 path.touch()
                 status = server.process.wait(20)
             expect(status == 0 and server.said() == [], "the file ends the server with status 0", server.said())
+            lines = server.all_said()
+            expect(f"remoted: ends once {path} is there" in lines, "which was said at its start", lines)
             expect(not server.entries(), "the folder of its run is removed", server.entries())
             expect(not is_alive(mark), "the action's program is gone")
             expect(path.exists(), "the file is left")

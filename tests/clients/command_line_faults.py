@@ -3,7 +3,8 @@
 
 PROGRAM is the built `remoted`. Each command line is run by itself, and its status, its standard output and its standard
 error are compared whole. Words that are wrong for an instance, ports that are taken, folders that cannot be made or
-taken, files that cannot be read, scripts with bad lines, ends of `probe`. What is said of the command line's own form
+taken, files that cannot be read, scripts with bad lines, ends of `probe`, words that are not UTF-8, streams that are
+closed, limits of the host; and what a server says of itself at its start. What is said of the command line's own form
 (a missing option, `--help`) is not compared here. A line for each, `ok` or `FAILED` with what came; it ends with
 `N passed, M failed`, and with status 1 where one failed.
 """
@@ -18,6 +19,7 @@ import subprocess
 import sys
 import tempfile
 import threading
+import time
 
 from server import Server, free_ports
 
@@ -30,35 +32,43 @@ NAME_AGAIN = "an instance before it has the name"
 PARENT = "the parent is not another instance, or it has a parent itself"
 PORT_AGAIN = "an instance before it has the port"
 
-# Words for instances, the one that is bad, and why.
+# Words for instances, the one that is bad, why, and what stands on the line behind that.
 BAD_WORDS = [
-    (["red"], "red", PARTS),
-    ([""], "", PARTS),
-    (["red:1:2"], "red:1:2", PARTS),
-    (["red:1:2:3:blue:4"], "red:1:2:3:blue:4", PARTS),
-    (["red:0:100:0"], "red:0:100:0", PORT),
-    (["red:65536:100:0"], "red:65536:100:0", PORT),
-    (["red:+1:100:0"], "red:+1:100:0", PORT),
-    (["red::100:0"], "red::100:0", PORT),
-    (["red:1:x:0"], "red:1:x:0", QUOTA),
-    (["red:1:1099511627777:0"], "red:1:1099511627777:0", QUOTA),
-    (["red:1:99999999999999999999:0"], "red:1:99999999999999999999:0", QUOTA),
-    (["red:1:100:65"], "red:1:100:65", SLOTS),
-    (["red:1:100:-1"], "red:1:100:-1", SLOTS),
-    ([":1:100:0"], ":1:100:0", NAME),
-    (["Red:1:100:0"], "Red:1:100:0", NAME),
-    (["blobs:1:100:0"], "blobs:1:100:0", NAME),
-    (["n" * 65 + ":1:100:0"], "n" * 65 + ":1:100:0", NAME),
-    (["red:1:100:0", "red:2:100:0"], "red:2:100:0", NAME_AGAIN),
-    (["red:1:100:0:blue"], "red:1:100:0:blue", PARENT),
-    (["red:1:100:0:red"], "red:1:100:0:red", PARENT),
-    (["red:1:100:0:blue", "blue:2:100:0:ci", "ci:3:100:0"], "red:1:100:0:blue", PARENT),
-    (["red:1:100:0", "blue:1:100:0"], "blue:1:100:0", PORT_AGAIN),
+    (["red"], "red", PARTS, "it has no PORT"),
+    ([""], "", PARTS, "it has no PORT"),
+    (["red:1:2"], "red:1:2", PARTS, "it has no SLOTS"),
+    (["red:1:2:3:blue:4"], "red:1:2:3:blue:4", PARTS, "behind PARENT stands 4"),
+    (["red:0:100:0"], "red:0:100:0", PORT, "PORT is 0"),
+    (["red:65536:100:0"], "red:65536:100:0", PORT, "PORT is 65536"),
+    (["red:+1:100:0"], "red:+1:100:0", PORT, "PORT is +1"),
+    (["red::100:0"], "red::100:0", PORT, "PORT is empty"),
+    (["red:1:x:0"], "red:1:x:0", QUOTA, "QUOTA is x"),
+    (["red:1:8G:0"], "red:1:8G:0", QUOTA, "QUOTA is 8G: in digits that is 8589934592"),
+    (["red:1:500M:0"], "red:1:500M:0", QUOTA, "QUOTA is 500M: in digits that is 524288000"),
+    (["red:1:1T:0"], "red:1:1T:0", QUOTA, "QUOTA is 1T: in digits that is 1099511627776"),
+    (["red:1:2T:0"], "red:1:2T:0", QUOTA, "QUOTA is 2T"),
+    (["red:1:8g:0"], "red:1:8g:0", QUOTA, "QUOTA is 8g"),
+    (["red:1::0"], "red:1::0", QUOTA, "QUOTA is empty"),
+    (["red:1:1099511627777:0"], "red:1:1099511627777:0", QUOTA, "QUOTA is 1099511627777"),
+    (["red:1:99999999999999999999:0"], "red:1:99999999999999999999:0", QUOTA, "QUOTA is 99999999999999999999"),
+    (["red:1:100:65"], "red:1:100:65", SLOTS, "SLOTS is 65"),
+    (["red:1:100:-1"], "red:1:100:-1", SLOTS, "SLOTS is -1"),
+    ([":1:100:0"], ":1:100:0", NAME, "NAME is empty"),
+    (["Red:1:100:0"], "Red:1:100:0", NAME, "NAME is Red"),
+    (["blobs:1:100:0"], "blobs:1:100:0", NAME, "NAME is blobs"),
+    (["n" * 65 + ":1:100:0"], "n" * 65 + ":1:100:0", NAME, "NAME is " + "n" * 65),
+    (["red:1:100:0", "red:2:100:0"], "red:2:100:0", NAME_AGAIN, "NAME is red"),
+    (["red:1:100:0:blue"], "red:1:100:0:blue", PARENT, "PARENT is blue"),
+    (["red:1:100:0:"], "red:1:100:0:", PARENT, "PARENT is empty"),
+    (["red:1"], "red:1", PARTS, "it has no QUOTA"),
+    (["red:1:100:0:red"], "red:1:100:0:red", PARENT, "PARENT is red"),
+    (["red:1:100:0:blue", "blue:2:100:0:ci", "ci:3:100:0"], "red:1:100:0:blue", PARENT, "PARENT is blue"),
+    (["red:1:100:0", "blue:1:100:0"], "blue:1:100:0", PORT_AGAIN, "PORT is 1"),
     # What is told first where more is wrong.
-    (["Red:1:100:0", "blue:0:1:0"], "blue:0:1:0", PORT),
-    (["Red:1:9999999999999:0"], "Red:1:9999999999999:0", NAME),
-    (["red:1:100:0:no", "blue:2:1099511627777:0"], "blue:2:1099511627777:0", QUOTA),
-    (["red:1:100:0:no", "blue:1:100:0"], "red:1:100:0:no", PARENT),
+    (["Red:1:100:0", "blue:0:1:0"], "blue:0:1:0", PORT, "PORT is 0"),
+    (["Red:1:9999999999999:0"], "Red:1:9999999999999:0", NAME, "NAME is Red"),
+    (["red:1:100:0:no", "blue:2:1099511627777:0"], "blue:2:1099511627777:0", QUOTA, "QUOTA is 1099511627777"),
+    (["red:1:100:0:no", "blue:1:100:0"], "red:1:100:0:no", PARENT, "PARENT is no"),
 ]
 
 
@@ -68,6 +78,7 @@ class Checks:
     def __init__(self, program, folder, slow):
         self.program, self.folder, self.slow = program, folder, slow
         self.passed, self.failed = 0, 0
+        self.version = subprocess.check_output([program, "--version"], text=True).split()[1]
 
     def ends(self, words, status, errors, output="", **more):
         """What the program has to end with for these words."""
@@ -79,7 +90,7 @@ class Checks:
             found = (done.returncode, done.stdout, done.stderr)
         except subprocess.TimeoutExpired as late:
             found = (None, late.stdout, late.stderr)
-        self.tell(" ".join(words), found, (status, output, errors))
+        self.tell(" ".join(map(str, words)), found, (status, output, errors))
 
     def tell(self, what, found, wanted):
         what = what.replace(self.folder, "..")
@@ -93,6 +104,13 @@ class Checks:
     def serve(self, *words):
         return ["serve", "--turns", "20", "--work", *words]
 
+    def begun(self, *instances):
+        """What such a server says at its start, of instances as they are written without a parent."""
+        told = [f"remoted: {self.version} begins with {len(instances)} instances"]
+        for name, port, quota, slots in (word.split(":") for word in instances):
+            told += [f"remoted: {name}: {quota} bytes, {slots} slots, on 127.0.0.1:{port}"]
+        return "\n".join([*told, "remoted: ends after 20 turns at the latest", ""])
+
     def file(self, name, text):
         path = os.path.join(self.folder, name)
         with open(path, "w") as file:
@@ -101,8 +119,9 @@ class Checks:
 
 
 def words_for_instances(checks):
-    for words, word, reason in BAD_WORDS:
-        checks.ends(checks.serve("work", *words), 2, f"remoted: bad instance {word}: {reason}\n")
+    for words, word, reason, behind in BAD_WORDS:
+        told = f"remoted: bad instance {word}: {reason}\nremoted: {behind}\n"
+        checks.ends(checks.serve("work", *words), 2, told)
     many = [f"i{n}:{n}:1:0" for n in range(1, 258)]
     checks.ends(checks.serve("work", *many), 2, "remoted: there are more than 256 instances\n")
     checks.tell("nothing was made", (0, os.path.lexists(os.path.join(checks.folder, "work")), ""), (0, False, ""))
@@ -117,7 +136,8 @@ def ports(checks):
         told = f"remoted: cannot listen on {second}: Address already in use (os error 98)\n"
         checks.ends(checks.serve("taken", *words), 1, told)
     checks.tell("no folder was made", (0, os.path.lexists(os.path.join(checks.folder, "taken")), ""), (0, False, ""))
-    checks.ends(checks.serve("free", *words), 0, "", f"listening red {first}\nlistening blue {second}\n")
+    listening = f"listening red {first}\nlistening blue {second}\n"
+    checks.ends(checks.serve("free", *words), 0, checks.begun(*words), listening)
 
 
 def folders(checks):
@@ -131,6 +151,12 @@ def folders(checks):
     os.makedirs(os.path.join(checks.folder, "full", "2024-11"))
     told = "remoted: full is not empty, and is not a folder of remoted's\n"
     checks.ends(checks.serve("full", word()), 1, told)
+    makers = {"folder": os.mkdir, "fifo": os.mkfifo, "link": lambda path: os.symlink("/dev/null", path)}
+    for name, make in makers.items():
+        os.mkdir(os.path.join(checks.folder, name))
+        make(os.path.join(checks.folder, name, "remoted.lock"))
+        told = f"remoted: {name}/remoted.lock is no file: remove it, or name another folder\n"
+        checks.ends(checks.serve(name, word()), 1, told)
     work = os.path.join(checks.folder, "held")
     with Server(checks.program, [("red", 100, 1)], 2**62, folder=work):
         checks.ends(checks.serve("held", word()), 1, "remoted: another server works in held\n")
@@ -151,7 +177,7 @@ def launchers(checks):
         words = ["--launcher", program, f"red:{port}:100:1"]
         checks.ends(checks.serve("launched", *words), 1, f"remoted: cannot run {program}\n")
     words = ["--launcher", "/usr/bin/env", f"red:{port}:100:1"]
-    checks.ends(checks.serve("launched", *words), 0, "", f"listening red {port}\n")
+    checks.ends(checks.serve("launched", *words), 0, checks.begun(words[2]), f"listening red {port}\n")
 
 
 def what_is_lacking(checks):
@@ -160,16 +186,71 @@ def what_is_lacking(checks):
     told = "remoted: SIGCHLD is ignored, so how a program ends is not seen: "
     told += "start it by env --default-signal=CHLD remoted\n"
     checks.ends(checks.serve("lacking", f"red:{port}:100:1"), 1, told, preexec_fn=ignoring)
-    listening = f"listening red {port}\n"
-    checks.ends(checks.serve("lacking", f"red:{port}:100:0"), 0, "", listening, preexec_fn=ignoring)
+    listening, cache, runner = f"listening red {port}\n", f"red:{port}:100:0", f"red:{port}:100:2"
+    checks.ends(checks.serve("lacking", cache), 0, checks.begun(cache), listening, preexec_fn=ignoring)
     few = lambda count: lambda: resource.setrlimit(resource.RLIMIT_NOFILE, (count, count))
     told = (
         "remoted: {} files may be open, and up to 201 are needed: raise the limit (ulimit -n 201, or LimitNOFILE=201)\n"
     )
-    words = checks.serve("lacking", f"red:{port}:100:2")
-    checks.ends(words, 0, told.format(60), listening, preexec_fn=few(60))
+    words, begun = checks.serve("lacking", runner), checks.begun(runner)
+    checks.ends(words, 0, told.format(60) + begun, listening, preexec_fn=few(60))
     checks.ends(words, 1, told.format(33), preexec_fn=few(33))
-    checks.ends(words, 0, "", listening, preexec_fn=few(201))
+    checks.ends(words, 0, begun, listening, preexec_fn=few(201))
+    small = lambda: resource.setrlimit(resource.RLIMIT_FSIZE, (5000, 5000))
+    told = "remoted: files may have 5000 bytes, and writing more would end the server by SIGXFSZ: raise the limit "
+    told += "(ulimit -f unlimited, or LimitFSIZE=infinity), or start it by env --ignore-signal=XFSZ remoted\n"
+    checks.ends(words, 1, told, preexec_fn=small)
+    # Popen sets this signal back where it is not told to leave it.
+    checks.ends(words, 0, begun, listening, preexec_fn=lambda: ignores_and(small), restore_signals=False)
+
+
+def ignores_and(limit):
+    signal.signal(signal.SIGXFSZ, signal.SIG_IGN)
+    limit()
+
+
+def words_that_are_no_text(checks):
+    told = "remoted: word {} of the command line is not UTF-8\n"
+    checks.ends([b"unary", b"\xff.txt"], 2, told.format(2))
+    checks.ends([b"serve", b"--work", b"a", b"--metrics", b"figures-\xc3", b"red:1:1:0"], 2, told.format(5))
+    checks.ends([b"\xa0"], 2, told.format(1))
+
+
+def streams_that_are_closed(checks):
+    """A server with none of its own streams has nothing of a client's in their place."""
+    port = free_ports(1)[0]
+    shut = lambda: [os.close(stream) for stream in range(3)]
+    words = [checks.program, "serve", "--turns", "endless", "--work", "shut", f"red:{port}:100:0"]
+    server = subprocess.Popen(words, cwd=checks.folder, preexec_fn=shut)
+    try:
+        deadline = time.monotonic() + 10 * checks.slow
+        found = None
+        while found != 0 and time.monotonic() < deadline:
+            found = subprocess.run([checks.program, "check", "--port", str(port)], capture_output=True).returncode
+        with socket.create_connection(("127.0.0.1", port)):
+            streams = {os.readlink(f"/proc/{server.pid}/fd/{stream}") for stream in range(3)}
+        checks.tell("a server without streams", (found, streams, ""), (0, {"/dev/null"}, ""))
+    finally:
+        server.kill()
+        server.wait()
+    checks.file("good", "instance a 100\nput a 616263\n")
+    for stream in range(3):
+        output = "" if stream == 1 else "stored\n"
+        checks.ends(["unary", "good"], 0, "", output, preexec_fn=lambda closed=stream: os.close(closed))
+
+
+def beginnings(checks):
+    """What a server says of what it serves."""
+    ports = free_ports(2)
+    words = [f"ci:{ports[0]}:8589934592:0", f"red:{ports[1]}:1000:4:ci"]
+    options = ["--metrics", "figures", "--stop", "end", "--listen", "::1"]
+    told = f"remoted: {checks.version} begins with 2 instances\n"
+    told += f"remoted: ci: 8589934592 bytes, 0 slots, on [::1]:{ports[0]}\n"
+    told += f"remoted: red: 1000 bytes, 4 slots, on [::1]:{ports[1]}, reads ci\n"
+    told += "remoted: figures are written to figures\nremoted: ends once end is there\n"
+    told += "remoted: ends after 20 turns at the latest\nremoted: ends after 20 turns\n"
+    listening = f"listening ci {ports[0]}\nlistening red {ports[1]}\n"
+    checks.ends(checks.serve("begun", *options, *words), 0, told, listening)
 
 
 def scripts(checks):
@@ -201,6 +282,10 @@ def answer_two(listening):
         connection.sendall(b"ab")
 
 
+PARTS = [words_for_instances, words_that_are_no_text, ports, folders, launchers, what_is_lacking]
+PARTS += [streams_that_are_closed, beginnings, scripts]
+
+
 def main():
     parser = argparse.ArgumentParser(description=__doc__, formatter_class=argparse.RawDescriptionHelpFormatter)
     parser.add_argument("program")
@@ -211,7 +296,7 @@ def main():
     try:
         program = shutil.copy(options.program, folder)
         checks = Checks(program, folder, options.slow)
-        for each in [words_for_instances, ports, folders, launchers, what_is_lacking, scripts]:
+        for each in PARTS:
             each(checks)
     finally:
         shutil.rmtree(folder)

@@ -14,7 +14,7 @@ import time
 import messages as m
 from executing import Peer
 from server import free_ports
-from watched import Watched, expect, told_by, within
+from watched import Watched, expect, within
 
 
 class Team:
@@ -116,7 +116,7 @@ def hostile(program):
                     expect(within(10, lambda: is_whole(path)), "figures are written", server.said())
                     left = sorted(os.listdir(common))
                     expect(left == [path.name], "no other file is made or left", left)
-                    expect(told_by(server) == [], "nothing is told", server.said())
+                    expect(server.said() == [], "nothing is told", server.said())
     hostile_folders(program)
     hostile_all_the_time(program)
     hostile_in_a_sticky_folder(program)
@@ -132,9 +132,9 @@ def hostile_folders(program):
             print(f"-- a folder at {folder.name}", flush=True)
             with two_teams(program, "--metrics", str(path)) as server:
                 told = [f"remoted: cannot write {path}: Is a directory (os error 21)"]
-                expect(within(10, lambda: told_by(server)) == told, told[0], server.said())
+                expect(within(10, lambda: server.said()) == told, told[0], server.said())
                 time.sleep(12)
-                expect(told_by(server) == told, "it is told once", server.said())
+                expect(server.said() == told, "it is told once", server.said())
                 expect(os.listdir(common) == [folder.name], "no file is made", os.listdir(common))
                 folder.joinpath("file").unlink()
                 folder.rmdir()
@@ -161,11 +161,11 @@ def hostile_all_the_time(program):
         try:
             with two_teams(program, "--metrics", str(path)) as server:
                 time.sleep(25)
-                told = set(told_by(server))
+                told = set(server.said())
                 ends.set()
                 allowed = {f"remoted: cannot write {path}: File exists (os error 17)"}
                 expect(told <= allowed, f"the server tells at most {allowed}", told)
-                expect(within(25, lambda: is_whole(path)), "once it is over figures are written", told_by(server))
+                expect(within(25, lambda: is_whole(path)), "once it is over figures are written", server.said())
         finally:
             ends.set()
             for each in swapping:
@@ -184,7 +184,7 @@ def hostile_in_a_sticky_folder(program):
         print("-- another's link at remoted.prom.new in a folder as /tmp, and a server of a plain user", flush=True)
         with two_teams(program, "--metrics", str(path), folder=work, **plain) as server:
             told = [f"remoted: cannot write {path}: Operation not permitted (os error 1)"]
-            expect(within(10, lambda: told_by(server)) == told, told[0], server.said())
+            expect(within(10, lambda: server.said()) == told, told[0], server.said())
             beside(path).unlink()
             expect(within(15, lambda: is_whole(path)), "once it is gone figures are written", server.said())
 
@@ -239,10 +239,10 @@ def full(program):
         told = [f"remoted: cannot write {path}: No space left on device (os error 28)"]
         fill(disk, page)
         with two_teams(program, "--metrics", str(path)) as server:
-            expect(within(10, lambda: told_by(server)) == told, told[0], server.said())
+            expect(within(10, lambda: server.said()) == told, told[0], server.said())
             time.sleep(12)
             expect(os.listdir(disk) == ["filling"], "no half file is left", os.listdir(disk))
-            expect(told_by(server) == told, "it is told once", server.said())
+            expect(server.said() == told, "it is told once", server.said())
             disk.joinpath("filling").unlink()
             expect(within(15, lambda: is_whole(path)), "once there is room figures are written", server.said())
             before = path.read_bytes()
@@ -256,7 +256,7 @@ def full(program):
             expect(is_whole(path), "on a full disk the figures stay those before")
             left = sorted(os.listdir(disk))
             expect(left == ["filling", path.name], "no half file is left beside them", left)
-            expect(set(told_by(server)) == set(told), "nothing else is told", server.said())
+            expect(set(server.said()) == set(told), "nothing else is told", server.said())
             disk.joinpath("filling").unlink()
             expect(within(15, lambda: path.read_bytes() != before), "and are new ones once there is room")
             expect(is_whole(path), "which are whole")

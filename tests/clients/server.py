@@ -1,11 +1,19 @@
 """Starts `remoted serve` for a script, and looks at its process."""
 
 import os
+import re
 import shutil
 import socket
 import subprocess
 import tempfile
 import time
+
+
+# What a server says at its start of what it serves.
+BEGINNING = re.compile(
+    r"remoted: (\S+ begins with \d+ instances|\S+: \d+ bytes, \d+ slots, on \S+(, reads \S+)?"
+    r"|figures are written to .*|ends once .* is there|ends after \d+ turns at the latest)"
+)
 
 
 def has_leases():
@@ -104,10 +112,14 @@ class Server:
     def is_running(self):
         return self.process.poll() is None
 
-    def said(self):
+    def all_said(self):
         """The lines on standard error so far."""
         size = os.fstat(self.errors.fileno()).st_size
         return os.pread(self.errors.fileno(), size, 0).decode().splitlines()
+
+    def said(self):
+        """The same, but for what it serves."""
+        return [line for line in self.all_said() if not BEGINNING.fullmatch(line)]
 
     def start(self):
         """The folder of the server's runs in that of `--work`, the one that was made last; None where there is none."""

@@ -49,8 +49,3 @@ class Watched(Server):
     def __init__(self, program, instances, words, **more):
         self.words = words
         super().__init__(program, instances, turns="endless", extra=words, **more)
-
-
-def told_by(server):
-    """The lines on standard error, but for those that say what begins."""
-    return [line for line in server.said() if not re.search(r" begins with \d+ instances$|\d+ bytes, \d+ slots$", line)]

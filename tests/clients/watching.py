@@ -5,7 +5,7 @@ PROGRAM is the built `remoted`. Parts: `figures` has known calls made of two ins
 what the callers counted; `prometheus` has node_exporter and Prometheus of Debian read them, and asks for the hit
 rate; `unwritable` is a FILE that cannot be written; `hostile` has another user of the host put links, FIFOs, folders
 and files in the way of the files of --metrics and --stop, and `full` fills their disk (both beside a team that goes
-on being served; parts of them need root); `notices` are lines on standard error, each after what it tells of;
+on being served; parts of them need root); `notices` are lines on standard error, each after what it tells of; `flood` has blobs dropped in each second;
 `vanished` has the system look after clients that say nothing (`ss` of iproute2); `check` in each of its ends; `stop`
 ends a server while an action runs, and as the unit of deploy/ does; `listen` serves on other addresses. A line for
 each thing that holds; it ends with status 1 at the first that does not. Debian: prometheus, prometheus-node-exporter,
@@ -32,11 +32,12 @@ from checking_and_stopping import check, listen, stop
 from executing import EXECUTE, GET_RESULT, Action, Operation, Peer
 from hostile_watching import full, hostile
 from server import free_ports
-from watched import DEPLOY, UPDATE_RESULT, Watched, expect, figures_of, key, told_by, within
+from watched import DEPLOY, UPDATE_RESULT, Watched, expect, figures_of, key, within
 
 CODES = """OK CANCELLED UNKNOWN INVALID_ARGUMENT DEADLINE_EXCEEDED NOT_FOUND ALREADY_EXISTS PERMISSION_DENIED
     RESOURCE_EXHAUSTED FAILED_PRECONDITION ABORTED OUT_OF_RANGE UNIMPLEMENTED INTERNAL UNAVAILABLE DATA_LOSS
     UNAUTHENTICATED""".split()
+DROPPED = "remoted: red: blobs dropped, the youngest used 0 s before: "
 ALWAYS = ["GetActionResult", "Execute", "Read", "Write"]
 
 
@@ -269,9 +270,9 @@ def unwritable(program):
         path = pathlib.Path(folder, "later", "remoted.prom")
         with Watched(program, [("red", 10**6)], ["--metrics", str(path)], heard=True) as server:
             told = f"remoted: cannot write {path}: No such file or directory (os error 2)"
-            expect(within(5, lambda: told_by(server)) == [told], "a file that cannot be written is a line", server.said())
+            expect(within(5, lambda: server.said()) == [told], "a file that cannot be written is a line", server.said())
             time.sleep(12)
-            expect(told_by(server) == [told] and server.is_running(), "it is told once, and the server goes on")
+            expect(server.said() == [told] and server.is_running(), "it is told once, and the server goes on")
             os.mkdir(path.parent)
             expect(within(15, path.exists), "once it can be written it is")
 
@@ -309,6 +310,22 @@ def notices(program):
         hears(server, "remoted: red: blobs dropped, the youngest used 0 s before: 1")
 
 
+def flood(program):
+    """Blobs of one team are dropped in each second: two lines in a minute tell all of them, and the other has none."""
+    instances = [("red", 1_000), ("blue", 10**6)]
+    with Watched(program, instances, [], heard=True) as server:
+        with Peer(server.ports[0]) as red, Peer(server.ports[1]) as blue:
+            blue.store([b"blue's"])
+            for _ in range(20):
+                red.store([os.urandom(400) for _ in range(3)])
+                time.sleep(1)
+            expect(len(server.said()) == 1, "20 seconds of dropped blobs are one line", server.said())
+            lines = within(60, lambda: len(server.said()) > 1 and server.said())
+            counts = [int(line.removeprefix(DROPPED)) for line in lines]
+            expect(len(counts) == 2 and sum(counts) == 1 + 19 * 3, "the next one, a minute later, tells the rest", lines)
+            expect(blue.text(m.digest(b"blue's")) == b"blue's", "the other team has its blob")
+
+
 def vanished(program):
     if not shutil.which("ss"):
         print("skipped: there is no ss")
@@ -320,7 +337,7 @@ def vanished(program):
         expect("timer:(keepalive," in found, "the system asks a silent client whether it is there", found)
 
 
-PARTS = [figures, prometheus, unwritable, hostile, full, notices, vanished, check, stop, listen]
+PARTS = [figures, prometheus, unwritable, hostile, full, notices, flood, vanished, check, stop, listen]
 
 
 def main():

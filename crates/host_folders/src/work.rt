@@ -86,6 +86,8 @@ pub enum WorkFault {
     Unmade(io::Error),
     /// It is not empty, and has no mark of remoted's.
     Foreign,
+    /// What stands under the name of the mark is no file: a folder, a link, a FIFO.
+    NoMark,
     /// Another server works there.
     InUse,
     /// No folder can be made and removed in it.
@@ -224,7 +226,7 @@ fn push(complaints: &mut Vec<Complaint>, complaint: Complaint) -> io::Result<()>
 
 /// The file that marks a directory, which gets one if it is empty. None where it is not, and has no
 /// mark.
-fn marked(rt: &HostRuntime, directory: &Directory) -> io::Result<Option<File>> {
+fn marked(rt: &HostRuntime, directory: &Directory) -> Result<Option<File>, WorkFault> {
     let alloc = rt.alloc();
     let path = directory.path_of(alloc, MARK)?;
     match open_regular(rt, path.as_str(), OpenOptions::new().read(true).write(true)) {
@@ -234,7 +236,8 @@ fn marked(rt: &HostRuntime, directory: &Directory) -> io::Result<Option<File>> {
             return Ok(Some(mark));
         }
         Err(error) if error.kind() == ErrorKind::NotFound => {}
-        Err(error) => return Err(error),
+        Err(error) if error.kind() == ErrorKind::InvalidInput => return Err(WorkFault::NoMark),
+        Err(error) => return Err(WorkFault::Unusable(error)),
     }
     if !is_empty(alloc, directory)? {
         return Ok(None);

@@ -1,5 +1,6 @@
 //! What has to be there before instances are served, and what an operator is told of it.
 
+use crate::process::is_ignored;
 use crate::serve_ports::{is_memory, told};
 use host_folders::{Complaint, HostFolder, Work, WorkFault, begin_work};
 use host_programs::{has_leases, has_sessions, sees_ends};
@@ -22,6 +23,15 @@ const FILES_OF_REMOVAL: u64 = 2;
 const OTHER_FILES: u64 = 64;
 
 const FEWEST_OTHER_FILES: u64 = 32;
+
+/// The limit of the size of a file, as getrlimit(2) numbers it.
+const RLIMIT_FSIZE: i32 = 1;
+
+/// What it gives where there is none.
+const UNLIMITED: u64 = u64::MAX;
+
+/// The bit of the signal to a process that writes past that: signal(7) gives it the number 25.
+const SIGXFSZ: u64 = 1 << 24;
 
 /// The size of a block that the C library learns by, in bytes: it learns of none over 32 MiB.
 const LEARNING_BLOCK: usize = (32 << 20) - (64 << 10);
@@ -57,22 +67,38 @@ fn most_of_runs(instances: &Instances) -> u64 {
     runs.saturating_add(removals)
 }
 
-/// How many files this process may have open.
-fn most_open() -> io::Result<u64> {
+/// The most that this process may have of something.
+fn limit_of(resource: i32) -> io::Result<u64> {
     let mut limit = libc::types::rlimit {
         rlim_cur: 0,
         rlim_max: 0,
     };
-    if libc::getrlimit(libc::RLIMIT_NOFILE, &mut limit) < 0 {
+    if libc::getrlimit(resource, &mut limit) < 0 {
         return Err(io::Error::from_raw_os_error(os::errno()));
     }
     Ok(limit.rlim_cur)
 }
 
+/// Whether a file that grows over a limit of the system fails to be written, and does not end this
+/// process by a signal; where it does that, it is told.
+pub fn can_write<E: Write>(rt: &HostRuntime, errors: &mut E) -> io::Result<bool> {
+    let most = limit_of(RLIMIT_FSIZE)?;
+    if most == UNLIMITED || is_ignored(rt, SIGXFSZ) {
+        return Ok(true);
+    }
+    writeln!(
+        errors,
+        "remoted: files may have {most} bytes, and writing more would end the server by SIGXFSZ: \
+         raise the limit (ulimit -f unlimited, or LimitFSIZE=infinity), or start it by \
+         env --ignore-signal=XFSZ remoted"
+    )?;
+    Ok(false)
+}
+
 /// Whether so many files may be open that the instances can be served at all; where these are fewer
 /// than may be needed, that is told.
 pub fn can_open<E: Write>(instances: &Instances, errors: &mut E) -> io::Result<bool> {
-    let most = most_open()?;
+    let most = limit_of(libc::RLIMIT_NOFILE)?;
     let count = instances.ports.len() as u64;
     let needed = count
         .saturating_mul(1 + MOST_CONNECTIONS + LINGERING_LIMIT as u64)
@@ -177,6 +203,10 @@ fn tell_fault<E: Write>(path: &str, fault: WorkFault, errors: &mut E) -> io::Res
         WorkFault::Foreign => writeln!(
             errors,
             "remoted: {path} is not empty, and is not a folder of remoted's"
+        ),
+        WorkFault::NoMark => writeln!(
+            errors,
+            "remoted: {path}/remoted.lock is no file: remove it, or name another folder"
         ),
         WorkFault::InUse => writeln!(errors, "remoted: another server works in {path}"),
     }

@@ -8,12 +8,14 @@ mod exit;
 mod figures;
 mod notices;
 mod operator;
+mod process;
 mod serve_ports;
 mod standard_error;
 mod watching;
 
 use crate::checking::check_port;
 use crate::exit::{DONE, Exit, FAILED};
+use crate::process::{open_streams, words_of};
 use crate::serve_ports::serve_ports;
 use command_line::{CommandLineError, Invocation, parse};
 use probe::{Request, probe};
@@ -143,7 +145,10 @@ fn answer<O: Write, E: Write>(
 
 /// Does what the command line asks for, and says how the program ends.
 fn exit_of(rt: &HostRuntime) -> io::Result<Exit> {
-    let words: Vec<String> = std::env::args(rt)?.collect(rt.alloc())?;
+    open_streams()?;
+    let Some(words) = words_of(rt, &mut rt.stderr())? else {
+        return Ok(Exit::BadWords);
+    };
     let mut output = BufWriter::new(rt.alloc(), rt.stdout())?;
     let exit = answer(rt, &words, &mut output, &mut rt.stderr())?;
     match output.flush() {

@@ -2,6 +2,7 @@
 
 use crate::figures::{FAULTS, RESOURCE_EXHAUSTED};
 use crate::standard_error::StandardError;
+use crate::watching::Due;
 use host_folders::FolderCounts;
 use host_sockets::SocketCounts;
 use instance_core::InstanceSizes;
@@ -13,13 +14,44 @@ use std::alloc::{AllocError, Global};
 /// Blobs that were used later than so many milliseconds ago should not be dropped.
 const YOUNG: u64 = 60_000;
 
+/// How often there may be a line about them of an instance, in milliseconds.
+const DROPPING: u64 = 60_000;
+
+/// Blobs of an instance that should not have been dropped.
+#[derive(Clone, Copy)]
+struct YoungDrops {
+    /// How many blobs of any age were dropped when it was looked last.
+    seen: u64,
+    /// How many of these were young, and are not told yet.
+    untold: u64,
+    telling: Due,
+}
+
+impl YoungDrops {
+    /// Notes what was dropped since it was looked last. How many are to be told now, if any are:
+    /// all that came since they were told before.
+    fn take(&mut self, sizes: &InstanceSizes, moment: u64) -> Option<u64> {
+        let dropped = sizes.dropped.count.saturating_sub(self.seen);
+        self.seen = sizes.dropped.count;
+        if sizes.dropped.youngest_age < YOUNG {
+            self.untold = self.untold.saturating_add(dropped);
+        }
+        if self.untold == 0 || !self.telling.take(moment) {
+            return None;
+        }
+        let untold = self.untold;
+        self.untold = 0;
+        Some(untold)
+    }
+}
+
 /// What was counted at an instance when it was looked last.
 #[derive(Clone, Copy)]
 struct Seen {
     counts: InstanceCounts,
     uploads: u64,
     actions: u64,
-    dropped: u64,
+    drops: YoungDrops,
     /// How often a run was kept from beginning by folders that are to be removed.
     held: u64,
     /// Whether one was since it was looked before.
@@ -94,26 +126,21 @@ fn tell_connections(
     }
 }
 
+/// Tells how many blobs were dropped that should not be, once a minute.
 fn tell_dropped(
     alloc: Global,
     lines: &mut ErrorLines<StandardError>,
     name: &str,
-    was: u64,
+    moment: u64,
     sizes: &InstanceSizes,
+    drops: &mut YoungDrops,
 ) {
-    let age = sizes.dropped.youngest_age;
-    if age >= YOUNG {
+    let Some(count) = drops.take(sizes, moment) else {
         return;
-    }
-    let seconds = age / 1000;
+    };
+    let seconds = sizes.dropped.youngest_age / 1000;
     if let Ok(what) = format!(in alloc; "blobs dropped, the youngest used {seconds} s before") {
-        tell_more(
-            alloc,
-            lines,
-            name,
-            what.as_str(),
-            (was, sizes.dropped.count),
-        );
+        tell_more(alloc, lines, name, what.as_str(), (0, count));
     }
 }
 
@@ -123,7 +150,11 @@ impl Notices {
             counts: InstanceCounts::new(),
             uploads: 0,
             actions: 0,
-            dropped: 0,
+            drops: YoungDrops {
+                seen: 0,
+                untold: 0,
+                telling: Due::every(DROPPING),
+            },
             held: 0,
             is_held: false,
         };
@@ -205,12 +236,11 @@ fn tell_instance(
         "actions refused, the queue is full",
         (seen.actions, actions),
     );
-    tell_dropped(alloc, lines, name, seen.dropped, &sizes);
+    tell_dropped(alloc, lines, name, sight.moment, &sizes, &mut seen.drops);
     *seen = Seen {
         counts: *counts,
         uploads,
         actions,
-        dropped: sizes.dropped.count,
         ..*seen
     };
 }

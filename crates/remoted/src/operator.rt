@@ -4,15 +4,32 @@ use crate::figures::{JobTimes, Turns, figures_of};
 use crate::notices::Notices;
 use crate::standard_error::StandardError;
 use crate::watching::{MetricsFile, StopFile};
-use command_line::VERSION;
+use command_line::{Service, VERSION};
 use host_folders::FolderCounts;
-use host_sockets::SocketCounts;
+use host_sockets::{HostSockets, SocketCounts};
+use host_wires::ThisHost;
 use serve::{ErrorLines, Sight, Watch};
-use server_events::Configs;
-use std::alloc::AllocError;
+use server_events::{Configs, InstanceConfig};
+use std::alloc::{AllocError, Global};
+use std::net::SocketAddr;
 
 /// How often there may be lines of one kind about one instance, in milliseconds.
 const NOTICES: u64 = 1_000;
+
+/// The line on an instance, and on the address where it is served.
+fn instance_line(
+    alloc: Global,
+    config: &InstanceConfig,
+    address: SocketAddr,
+) -> Result<String, AllocError> {
+    let (name, quota, slots) = (&config.name, config.quota, config.slots);
+    match &config.parent {
+        None => format!(in alloc; "remoted: {name}: {quota} bytes, {slots} slots, on {address}\n"),
+        Some(parent) => format!(in alloc;
+            "remoted: {name}: {quota} bytes, {slots} slots, on {address}, reads {parent}\n"
+        ),
+    }
+}
 
 /// Whoever watches a server for its operator.
 #[derive(Drop)]
@@ -56,33 +73,44 @@ impl<'a> Operator<'a> {
         })
     }
 
-    /// Writes a line, where figures are written and memory is there for it.
+    /// Writes a line, where memory is there for it.
     fn tell(&mut self, line: Result<String, AllocError>) {
-        if let (Some(_), Ok(line)) = (&self.metrics, line) {
+        if let Ok(line) = line {
             self.lines.write_line(line.as_str());
         }
     }
 
-    /// Where figures are written: tells that the server begins, with which version, and each
-    /// instance with its limits.
-    pub fn tell_start(&mut self) {
+    /// Tells that the server begins, with which version, and then of what it serves: each instance
+    /// with its limits and its address, where the figures are, and what ends it.
+    pub fn tell_start(&mut self, sockets: &HostSockets<'_, ThisHost<'_>>, service: &Service<'_>) {
         let (alloc, instances) = (self.rt.alloc(), self.configs.instances());
         let count = instances.len();
         let line: Result<String, AllocError> = format!(in alloc;
             "remoted: {VERSION} begins with {count} instances\n"
         );
         self.tell(line);
-        for config in instances {
-            let (name, quota, slots) = (&config.name, config.quota, config.slots);
-            let line: Result<String, AllocError> = format!(in alloc;
-                "remoted: {name}: {quota} bytes, {slots} slots\n"
-            );
-            self.tell(line);
+        for (number, config) in instances.iter().enumerate() {
+            if let Some(address) = sockets.address(number as u32) {
+                self.tell(instance_line(alloc, config, address));
+            }
+        }
+        if let Some(path) = service.metrics {
+            self.tell(format!(in alloc; "remoted: figures are written to {path}\n"));
+        }
+        if let Some(path) = service.stop {
+            self.tell(format!(in alloc; "remoted: ends once {path} is there\n"));
+        }
+        if service.turns != u64::MAX {
+            let turns = service.turns;
+            self.tell(format!(in alloc; "remoted: ends after {turns} turns at the latest\n"));
         }
     }
 
     /// Where figures are written: tells that the server ends.
     pub fn tell_end(&mut self) {
+        if self.metrics.is_none() {
+            return;
+        }
         let turns = self.turns.count();
         let line: Result<String, AllocError> = format!(in self.rt.alloc();
             "remoted: ends after {turns} turns\n"

@@ -7,7 +7,7 @@ ghost use Rattle.host_sockets.specs.Ports.{ListensAt, addresses};
 ghost use Rattle.remoted.specs.Launching.{KnowsInstances};
 
 use crate::beginning::{
-    begin, can_open, can_run, guard_against_leases, keep_freed_memory, slots_of,
+    begin, can_open, can_run, can_write, guard_against_leases, keep_freed_memory, slots_of,
 };
 use crate::clock::milliseconds_between;
 use crate::exit::{DONE, Exit, FAILED};
@@ -20,7 +20,7 @@ use host_programs::{HostPrograms, HostSpawner, Launcher, launcher_path};
 use host_shells::Sessions;
 use host_sockets::{HostSockets, ListenError, SocketCounts};
 use host_wires::ThisHost;
-use instance_words::{Instances, InstancesFault, instances_of};
+use instance_words::{Instances, InstancesFault, instances_of, mistake_of};
 use job_runs::JobRunner;
 use keyed_maps::MapKey;
 use serve::{ErrorLines, Sockets, Tally, serve};
@@ -49,6 +49,9 @@ fn tell_fault<E: Write>(words: &[&str], fault: InstancesFault, errors: &mut E) -
         InstancesFault::Bad(place, reason) => {
             let word = words.get(place).copied().unwrap_or("");
             writeln!(errors, "remoted: bad instance {word}: {reason}")?;
+            if let Some(mistake) = mistake_of(word, reason) {
+                writeln!(errors, "remoted: {mistake}")?;
+            }
         }
         InstancesFault::TooMany => {
             writeln!(errors, "remoted: {fault}")?;
@@ -270,7 +273,7 @@ fn serve_turns(
     let count = configs.instances().len();
     let mut lines = ErrorLines::new(alloc, StandardError::new(rt), count)?;
     let mut operator = operator_of(rt, configs, folders, refusals, service)?;
-    operator.tell_start();
+    operator.tell_start(&sockets, service);
     let served = serve(
         alloc,
         key,
@@ -336,7 +339,10 @@ fn serve_instances<'a, O: Write, E: Write>(
     let Some(launcher) = launcher_of(rt, service, instances, errors)? else {
         return Ok(FAILED);
     };
-    if !can_open(instances, errors)? || is_stopped(rt, service, errors)? {
+    if !can_write(rt, errors)?
+        || !can_open(instances, errors)?
+        || is_stopped(rt, service, errors)?
+    {
         return Ok(FAILED);
     }
     let key = map_key(rt)?;

@@ -17,19 +17,19 @@ const LOOKING: u64 = 1_000;
 
 /// Says when something is due that is done once in so many milliseconds.
 #[derive(Clone, Copy)]
-struct Due {
+pub struct Due {
     every: u64,
     /// When it was done last, if it was.
     last: Option<u64>,
 }
 
 impl Due {
-    fn every(every: u64) -> Due {
+    pub fn every(every: u64) -> Due {
         Due { every, last: None }
     }
 
     /// Whether it is due at a moment; if so, it is taken to be done then.
-    fn take(&mut self, moment: u64) -> bool {
+    pub fn take(&mut self, moment: u64) -> bool {
         let is_due = match self.last {
             None => true,
             Some(last) => moment.saturating_sub(last) >= self.every,

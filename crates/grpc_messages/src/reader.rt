@@ -1,6 +1,6 @@
 //! Received bytes, cut anywhere, back into messages.
 
-ghost use Rattle.std.specs.Prelude.{◌≡◌, ◌≢◌, ◌↔◌, IsTrue, ◌+◌, ◌-◌, ◌++◌, ◌<◌, ◌≤◌, [], take, drop, length, List, ℕ, Ok, Err, IfOk, IfErr, IfNone, IfSome, OnOk, OnErr, OnSome, IsErrOf, IsOk, Result};
+ghost use Rattle.std.specs.Prelude.{◌≡◌, ◌≢◌, ◌↔◌, IsTrue, ◌+◌, ◌-◌, ◌*◌, max, vec_capacity, ◌++◌, ◌<◌, ◌≤◌, [], take, drop, length, List, ℕ, Ok, Err, IfOk, IfErr, IfNone, IfSome, OnOk, OnErr, OnSome, IsErrOf, IsOk, Result};
 ghost use Rattle.grpc_messages.specs.declared.error.MessagesError.{MessagesError};
 ghost use Rattle.grpc_messages.specs.Wire.{end_of_rest};
 ghost use Rattle.grpc_messages.specs.Reading.{split, whole_at};
@@ -23,6 +23,9 @@ pub const PREFIX_LENGTH: usize = 5;
 
 /// What may come with the end of a message, as in a frame that begins the next one.
 const SLACK: usize = 16_384;
+
+/// The room for a message of which less has come.
+const FIRST_ROOM: usize = 65_536;
 
 /// Splits the data of one request into messages, in whatever pieces its bytes come.
 ///
@@ -251,7 +254,7 @@ fn behind_given(behind: &[u8], given: usize) -> &[u8]
 /// How many bytes are missing of the message behind the prefix, of which `come` have come. Of one
 /// that is refused none are wanted.
 fn missing(prefix: &[u8], come: usize) -> usize
-    ensures { result ≤ MESSAGE_LIMIT }
+    ensures announced { 0 < result → come + result ≤ MESSAGE_LIMIT }
 {
     if prefix.len() < PREFIX_LENGTH {
         return 0;
@@ -264,9 +267,43 @@ fn missing(prefix: &[u8], come: usize) -> usize
     }
 }
 
+/// The room for the bytes of a message that have come, where so many more are announced: never more
+/// than is announced, nor than twice what has come, but for the first room and the slack.
+fn room_for(come: usize, missing: usize) -> usize
+    requires short { come ≤ MESSAGE_LIMIT }
+    requires announced { missing ≤ MESSAGE_LIMIT }
+    ensures come { come ≤ result }
+    ensures announced { result ≤ come + missing + SLACK }
+    ensures doubled { result ≤ 2 * come + FIRST_ROOM + SLACK }
+{
+    come + missing.min(come.max(FIRST_ROOM)) + SLACK
+}
+
+/// Makes room for `more` bytes behind what is there, where `given` bytes are of the messages before
+/// and so many are missing of the message behind them, which is not whole with those `more`.
+fn make_room(
+    behind: &mut Vec<u8>,
+    given: usize,
+    more: usize,
+    missing: usize,
+) -> Result<(), AllocError>
+    requires given { given ≤ length behind.old.items }
+    requires unfinished { more < missing }
+    requires announced { length behind.old.items - given + missing ≤ MESSAGE_LIMIT }
+    ensures items { behind.new.items ≡ behind.old.items }
+    ensures doubled { OnOk result (vec_capacity behind.new ≤ max (vec_capacity behind.old)
+        (given + (2 * (length behind.old.items - given + more) + FIRST_ROOM + SLACK))) }
+{
+    if behind.capacity() - behind.len() < more {
+        let come = behind.len() - given + more;
+        behind.reserve_exact(given + room_for(come, missing - more) - behind.len())?;
+    }
+    Ok(())
+}
+
 /// Appends the piece: to the prefix, until that is whole, and else behind it, where `given` bytes
-/// are of the messages before. For a message that is not whole with the piece, the room for all
-/// that is missing is asked for at once.
+/// are of the messages before. Room is made for what has come of a message, and not for what it
+/// announces.
 fn extend(
     prefix: &mut ArrayVec<u8, PREFIX_LENGTH>,
     behind: &mut Vec<u8>,
@@ -287,7 +324,7 @@ fn extend(
     append_to_prefix(&mut joined, &piece[..count]);
     let missing = missing(joined.as_slice(), behind.len() - given);
     if missing > piece.len() - count {
-        behind.reserve(missing + SLACK)?;
+        make_room(behind, given, piece.len() - count, missing)?;
     }
     behind.extend_from_slice(&piece[count..])?;
     *prefix = joined;

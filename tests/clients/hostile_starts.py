@@ -11,7 +11,7 @@ import time
 
 from execution_context import expect
 from executing import Peer
-from server import free_ports
+from server import BEGINNING, free_ports
 from teams import PYTHON, Skipped, listed, started
 
 
@@ -214,7 +214,8 @@ def no_slots(stage):
     with stage.serve(slots=(0, 0)) as (server, _):
         expect(os.listdir(stage.work), [], "what is in the folder")
         status, errors = started(stage, f"--work={work}", instance(0), turns=50)
-        expect((status, errors, os.path.lexists(work)), (0, "", False), "a second server without a folder")
+        said = [line for line in errors.splitlines() if not BEGINNING.fullmatch(line)]
+        expect((status, said, os.path.lexists(work)), (0, [], False), "a second server without a folder")
     return "nothing is made or held there"
 
 

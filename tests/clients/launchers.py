@@ -14,6 +14,8 @@ PROGRAM is the built `remoted`. Parts:
   host, forged codes, folders of runs below what is seen, memory, and words told as the launcher's; as this user and as a
   plain one.
 - `words`: words of one team's actions that mean something to `srun`, with and without the sandbox on the node.
+- `lines`: that no program of a launcher has a word, a variable, the directory or the instance of an action on its line or
+  in its variables, but bubblewrap behind its `--`; and that words which are lost, as on a full disk, fail the run.
 - `hung`: slurmctld does not answer for 50 seconds, while 24 actions at a time come to their timeouts of a second; and what
   cannot be cancelled.
 - `lost`: launchers that end by a signal, or are gone: the words that the server writes.
@@ -34,12 +36,14 @@ import tempfile
 import launchers_attacks as attacks
 import launchers_cost
 import launchers_hung
+import launchers_lines
 import launchers_lost
 import launchers_sandbox as sandbox
 import launchers_slurm as slurm
 import slurm_cluster
 
 PLAIN = 65534
+OF_PLAIN = {"user": PLAIN, "group": PLAIN, "extra_groups": []}
 
 
 class Report:
@@ -70,11 +74,11 @@ def as_this_user(report, program):
 
 
 def as_plain_user(report, program):
-    plain, who = {"user": PLAIN, "group": PLAIN, "extra_groups": []}, "as a plain user"
-    sandbox.reach(report, program, who, **plain)
-    sandbox.nothing_started(report, program, who, **plain)
-    sandbox.ended_alone(report, who, **plain)
-    sandbox.own_descriptors(report, who, **plain)
+    who = "as a plain user"
+    sandbox.reach(report, program, who, **OF_PLAIN)
+    sandbox.nothing_started(report, program, who, **OF_PLAIN)
+    sandbox.ended_alone(report, who, **OF_PLAIN)
+    sandbox.own_descriptors(report, who, **OF_PLAIN)
 
 
 def cost(report, program, options):
@@ -86,7 +90,7 @@ def attacked(report, program, no_group):
     """As this user, and as a plain one."""
     ways = {"as this user": {}}
     if os.geteuid() == 0:
-        ways["as a plain user"] = {"user": PLAIN, "group": PLAIN, "extra_groups": []}
+        ways["as a plain user"] = OF_PLAIN
     for who, more in ways.items():
         for attack in [attacks.inside, attacks.hidden, attacks.told_words]:
             attack(report, program, who, **more)
@@ -97,7 +101,7 @@ def attacked(report, program, no_group):
 
 
 def main():
-    parts = ["lost", "sandbox", "plain", "attacks", "slurm", "both", "words", "hung", "cost"]
+    parts = ["lost", "sandbox", "plain", "attacks", "lines", "slurm", "both", "words", "hung", "cost"]
     parser = argparse.ArgumentParser(description=__doc__, formatter_class=argparse.RawDescriptionHelpFormatter)
     parser.add_argument("program")
     parser.add_argument("--only", nargs="*", default=parts, choices=parts, metavar="PART")
@@ -115,6 +119,7 @@ def main():
         "sandbox": (no_sandbox, lambda: as_this_user(report, program)),
         "plain": (no_sandbox + no_root, lambda: as_plain_user(report, program)),
         "attacks": (no_sandbox, lambda: attacked(report, program, attacks.Group.lacking())),
+        "lines": (no_sandbox, lambda: launchers_lines.lines(report, program, OF_PLAIN)),
         "words": (no_cluster + no_sandbox, lambda: launchers_hung.escape(report, program)),
         "hung": (no_cluster, lambda: (launchers_hung.hung(report, program), launchers_hung.not_cancelled(report, program))),
         "slurm": (no_cluster, lambda: (slurm.on_nodes(report, program), slurm.next_missing(report, program))),

@@ -127,9 +127,9 @@ def made(folder):
         if not count:
             raise SystemExit(f"launchers/sandbox has no setting {name}")
     # This Linux shows tables of more than 4 KiB of mounts now and then without their last line, which bubblewrap looks for.
-    text, count = re.subn(r"for each in acpi .*?; do", "for each in keys; do", text, count=1, flags=re.DOTALL)
+    text, count = re.subn(r'^hidden=".*?"$', "hidden=keys", text, count=1, flags=re.DOTALL | re.MULTILINE)
     if not count:
-        raise SystemExit("launchers/sandbox has no list of what it masks")
+        raise SystemExit("launchers/sandbox has no list of what it hides")
     with open(path, "w") as file:
         file.write(text)
     filled = {"here": folder, "registers": PLAIN_REGISTERS}

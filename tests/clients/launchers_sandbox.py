@@ -280,9 +280,9 @@ def ended_alone(report, who, **more):
             for name in [root, f"{root}.aside"]:
                 os.mkdir(name)
                 os.chmod(name, 0o777)
-            words = ["/usr/bin/setsid", "--", launcher, "red", root, ".", f"MARK={folder}", "/bin/sleep", "4321"]
+            words = [launcher, "red", root, ".", f"MARK={folder}", "/bin/sleep", "4321"]
             nowhere = {"stdin": subprocess.DEVNULL, "stdout": subprocess.DEVNULL, "stderr": subprocess.DEVNULL}
-            begun = subprocess.Popen(words, env={}, cwd="/", **nowhere, **more)
+            begun = subprocess.Popen(words, env={}, cwd="/", start_new_session=True, **nowhere, **more)
             time.sleep((5 + 2 * n) / 1000)
             if n % 2:
                 os.killpg(begun.pid, signal.SIGTERM)

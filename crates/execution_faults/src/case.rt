@@ -224,13 +224,14 @@ fn cut_short(
     output.print_text(format!(in alloc; "after {turns} turns: "));
     tell_left(&runs.runs, output);
     let calls = runs.runs.runner().folder().folder.calls.count;
+    let mut runner = runs.into_runs();
     for _ in 0..TURNS {
-        if runs.runs.end_all(configs, sockets.now(), &mut errors) == 0 {
+        if runner.end_all(configs, sockets.now(), &mut errors) == 0 {
             break;
         }
     }
     output.print(b"all ended: ");
-    tell_left(&runs.runs, output);
+    tell_left(&runner, output);
     output.print(&errors.output);
     Ok(calls)
 }

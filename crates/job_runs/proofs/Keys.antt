@@ -38,7 +38,7 @@ none-back : (k : RunKey) (xs ys : List RunKey) → has_key k (xs ++ ys) ≡ fals
 none-back k [] ys h = h
 none-back k (x ∷ xs) ys h = none-back k xs ys (or-false (is_key k x) (has_key k (xs ++ ys)) h).1
 
-none-without : (k key : RunKey) (ks : List RunKey) → has_key k ks ≡ false → has_key k (without_key key ks) ≡ false
+pub none-without : (k key : RunKey) (ks : List RunKey) → has_key k ks ≡ false → has_key k (without_key key ks) ≡ false
 none-without k key [] h = refl
 none-without k key (x ∷ ks) h =
     let both = or-false (is_key k x) (has_key k ks) h in
@@ -47,7 +47,7 @@ none-without k key (x ∷ ks) h =
       go true same apart later = rw same later
       go false other apart later = rw other (or-both (is_key k x) (has_key k (without_key key ks)) apart later)
 
-none-left : (key : RunKey) (ks : List RunKey) → has_key key (without_key key ks) ≡ false
+pub none-left : (key : RunKey) (ks : List RunKey) → has_key key (without_key key ks) ≡ false
 none-left key [] = refl
 none-left key (x ∷ ks) = go (is_key key x) refl (none-left key ks) where
   go : (b : Bool) → is_key key x ≡ b → has_key key (without_key key ks) ≡ false → has_key key (without_key key (x ∷ ks)) ≡ false

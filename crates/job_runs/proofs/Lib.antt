@@ -5,3 +5,7 @@ pub mod Killed
 mod Numbering
 mod Parts
 mod Spans
+mod Ran
+mod Linked
+mod Went
+mod Carrying

@@ -1,6 +1,6 @@
 -- Runs that are to begin stay so until they are given.
 use Rattle.std.proofs.Common.{◌≡◌, List, ap, sym, subst, inl, inr}
-use Rattle.std.specs.Prelude.{◌⊎◌, Option, Some, None}
+use Rattle.std.specs.Prelude.{◌⊎◌, Option, Some}
 use Rattle.run_calls.specs.declared.task.RunKey.{RunKey}
 use Rattle.job_runs.specs.declared.span.Span.{Span}
 use Rattle.job_runs.specs.Keys.{IsToBegin}

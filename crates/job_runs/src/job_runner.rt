@@ -1,6 +1,6 @@
 //! Runs that a runner carries out.
 
-ghost use Rattle.std.specs.Prelude.{◌≡◌, ◌≤◌, ◌<◌, ◌⊎◌, ◌+◌, ◌++◌, ◌∷◌, ◌||◌, [], true, false, Some, None, Ok, OnOk, OnErr, IfOk, length, nat_lt, slice_get, vec_capacity, vec_len};
+ghost use Rattle.std.specs.Prelude.{◌≡◌, ◌≤◌, ◌<◌, ◌⊎◌, ◌+◌, ◌++◌, ◌∷◌, ◌||◌, [], true, false, Some, None, Ok, OnOk, OnErr, IfOk, IfSome, length, nat_lt, slice_get, vec_capacity, vec_len};
 ghost use Rattle.std.specs.List.{list_any};
 ghost use Rattle.std.specs.Option.{is_some, option_map};
 ghost use Rattle.runner.specs.Faults.{Counted};
@@ -11,6 +11,9 @@ ghost use Rattle.server_core.specs.Lent.{lent_shown};
 ghost use Rattle.run_calls.specs.declared.task.RunKey.{RunKey};
 ghost use Rattle.job_runs.specs.Spans.{IsAmong};
 ghost use Rattle.job_runs.specs.Keys.{AreOnce, IsToBegin, all_keys, asked_keys, count_of, has_key, is_key, next_in, turn_in, without_key};
+ghost use Rattle.execution.specs.Orders.{kill, start};
+ghost use Rattle.serve.specs.RunEvents.{CarriesRuns, asked_events, ordered};
+ghost use Rattle.job_runs.specs.Running.{Carry};
 ghost use Rattle.job_runs.specs.Runs.{AreKilled, IsAnsweredFor, IsBegun, IsBegunIf, IsEnded, IsKilledAt, IsOnlyEnded};
 
 use crate::lent::LentTexts;
@@ -53,6 +56,9 @@ impl<F: Folder + Drop, P: Programs + Drop> JobRunner<F, P> {
         ensures to_begin { IfOk result (λ r. r.to_begin.items ≡ []) }
         ensures together { IfOk result (λ r. r.together ≡ None) }
         ensures room { IfOk result (λ r. most ≤ vec_capacity r.to_begin) }
+        ensures carries { IfSome (F.asked folder) (λ h. h ≡ []) → IfSome (P.asked programs)
+            (λ h. h ≡ []) → IfOk result (λ r. Carry r.runner.runs.items r.to_begin.items
+            (F.asked r.runner.folder) (P.asked r.runner.programs) []) }
     {
         Ok(JobRunner {
             alloc,
@@ -255,7 +261,18 @@ fn texts_of<'a>(task: LentTask<'a>) -> LentTexts<'a>
 }
 
 impl<F: Folder + Drop, P: Programs + Drop> Runs for JobRunner<F, P> {
+    ghost use Rattle.job_runs.specs.Running.{Carry};
+
+    ghost carries = { λ r h. Carry r.runner.runs.items r.to_begin.items
+        (F.asked r.runner.folder) (P.asked r.runner.programs) h };
+
     fn start(&mut self, run: RunKey, _task: LentTask<'_>)
+        ensures carries { CarriesRuns
+            (Carry self.old.runner.runs.items self.old.to_begin.items
+            (F.asked self.old.runner.folder) (P.asked self.old.runner.programs))
+            (Carry self.new.runner.runs.items self.new.to_begin.items
+            (F.asked self.new.runner.folder) (P.asked self.new.runner.programs))
+            (ordered run.instance (start run.job (lent_shown _task.entry)) ∷ []) }
         ensures noted { IsToBegin run self.new.to_begin.items self.new.together }
         ensures others { (key : RunKey) → IsToBegin key self.old.to_begin.items self.old.together
             → IsToBegin key self.new.to_begin.items self.new.together }
@@ -277,6 +294,12 @@ impl<F: Folder + Drop, P: Programs + Drop> Runs for JobRunner<F, P> {
     }
 
     fn kill(&mut self, run: RunKey)
+        ensures carries { CarriesRuns
+            (Carry self.old.runner.runs.items self.old.to_begin.items
+            (F.asked self.old.runner.folder) (P.asked self.old.runner.programs))
+            (Carry self.new.runner.runs.items self.new.to_begin.items
+            (F.asked self.new.runner.folder) (P.asked self.new.runner.programs))
+            (ordered run.instance (kill run.job) ∷ []) }
         ensures noted { has_key run self.old.to_begin.items ≡ true →
             self.new.runner ≡ self.old.runner }
         ensures killed { has_key run self.old.to_begin.items ≡ false → IsEnded run
@@ -305,6 +328,12 @@ impl<F: Folder + Drop, P: Programs + Drop> Runs for JobRunner<F, P> {
     }
 
     fn next(&mut self) -> Option<RunKey>
+        ensures carries { CarriesRuns
+            (Carry self.old.runner.runs.items self.old.to_begin.items
+            (F.asked self.old.runner.folder) (P.asked self.old.runner.programs))
+            (Carry self.new.runner.runs.items self.new.to_begin.items
+            (F.asked self.new.runner.folder) (P.asked self.new.runner.programs))
+            ([]) }
         ensures key { let keys = asked_keys self.old.runner.runs.items
             self.old.to_begin.items self.old.together in
             result ≡ slice_get keys (turn_in (count_of keys) self.old.next) }
@@ -336,6 +365,12 @@ impl<F: Folder + Drop, P: Programs + Drop> Runs for JobRunner<F, P> {
     }
 
     fn ask(&mut self, run: RunKey, task: Option<LentTask<'_>>) -> Result<Option<Outcome>, RunFault>
+        ensures carries { CarriesRuns
+            (Carry self.old.runner.runs.items self.old.to_begin.items
+            (F.asked self.old.runner.folder) (P.asked self.old.runner.programs))
+            (Carry self.new.runner.runs.items self.new.to_begin.items
+            (F.asked self.new.runner.folder) (P.asked self.new.runner.programs))
+            (asked_events run task.entry result) }
         ensures begun { HasNone run self.old.runner.runs.items →
             IsBegunIf (option_map lent_shown task.entry) run result
             self.old.runner.runs.items self.new.runner.runs.items }

@@ -11,6 +11,6 @@ mod span;
 mod tasks;
 
 pub use job_runner::JobRunner;
-pub use laws::a_number_finds_the_text_of_its_digest;
+pub use laws::{a_number_finds_the_text_of_its_digest, what_ran};
 pub use lent::LentTexts;
 pub use tasks::run_task;

@@ -2,8 +2,9 @@
 use Rattle.std.proofs.Common.{◌≡◌, ◌≤◌, inl, ℕ, ◌+◌, List, [], ◌∷◌, ◌++◌, refl, ap, sym, ◌∙◌, append-nil, append_assoc, subst}
 use Rattle.std.specs.Prelude.{Option, Result, Ok, Err}
 use Rattle.run_calls.specs.Values.{PlaceValue}
+use Rattle.run_calls.specs.declared.task.RunKey.{RunKey}
 use Rattle.std.specs.declared.io.ErrorKind.{ErrorKind}
-use Rattle.run_calls.specs.Calls.{FolderCall, FolderQuestion, FolderAnswer, ProgramCall, ProgramQuestion, ProgramAnswer, of_folder, of_programs, folder_call, program_call, folder_calls, program_calls, call, called, Adds, collect}
+use Rattle.run_calls.specs.Calls.{FolderCall, FolderQuestion, FolderAnswer, ProgramCall, ProgramQuestion, ProgramAnswer, RunCall, of_folder, of_programs, folder_call, program_call, folder_calls, program_calls, call, called, Adds, collect}
 use Rattle.runner.specs.Made.{made, made_by}
 use Rattle.runner.specs.Gathered.{items_answered, call_items, answer_items}
 use Rattle.runner.specs.Told.{items_told, call_told, starts, start_of, forgets, forget_of, failures, failure_of}
@@ -12,6 +13,7 @@ use Rattle.runner.specs.Steps.{GoesWith, Goes, to_make, to_start, to_look, has_g
 use Rattle.runner.specs.declared.stage.Stage.{Stage}
 use Rattle.runner.specs.declared.stage.Step.{Step}
 use Rattle.runner.specs.declared.stage.Step.TheVariants as steps
+use Rattle.runner.specs.Own.{folder_run, program_run, AreOwn}
 use Rattle.runner.specs.Sizes.{most_bytes, held, folder_told, program_told, Fits}
 use Rattle.runner.proofs.Calls.{adds_more, adds_none, adds_same}
 use Rattle.runner.proofs.Sizes.{fits_append, held_then}
@@ -33,6 +35,11 @@ behinds f xs ys a b c first next =
     next ∙ ap (λ zs. zs ++ collect f ys) first ∙ append_assoc a (collect f xs) (collect f ys)
     ∙ ap (λ zs. a ++ zs) (sym (collect_append f xs ys))
 
+-- all of it is asked for one run
+pub own_append : (run : RunKey) (xs ys : List RunCall) → AreOwn run xs → AreOwn run ys → AreOwn run (xs ++ ys)
+own_append run [] ys first next = next
+own_append run (x ∷ xs) ys first next = (first.0, own_append run xs ys first.1 next)
+
 -- ---- steps
 
 -- nothing was asked
@@ -43,6 +50,7 @@ pub goes_drops : (text : ℕ → List ℕ) (place : PlaceValue) (from : Stage) (
     → Goes text place from to f f p p
 goes_drops text place from to f p makes starts_it looks_at gathers told closes = record {
   calls = [];
+  own = tt;
   folder_asked = adds_none f;
   programs_asked = adds_none p;
   makes = makes;
@@ -65,13 +73,14 @@ goes_alone text place from to f p makes starts_it looks_at gathers told same =
 
 -- one thing was asked of folders
 pub goes_folder_with : (before : Walk) (text : ℕ → List ℕ) (place : PlaceValue) (from : Stage) (to : Step) (f g : Option (List FolderCall)) (p : Option (List ProgramCall)) (q : FolderQuestion) (a : Result FolderAnswer ErrorKind)
-    → Adds f g (call q a)
+    → folder_run q ≡ place.run → Adds f g (call q a)
     → to_make text place from ≡ made_by q ++ then_to_make text place to → to_start place from ≡ then_to_start place to → to_look place from ≡ look_of q ++ then_to_look place to
     → then_gathered place to ≡ has_gathered place from ++ call_items q a → then_told place to ≡ has_told place from
     → held from + folder_told q a ≤ most_bytes → Moves before q a (walk_then place to)
     → GoesWith before text place from to f g p p
-goes_folder_with before text place from to f g p q a adds makes starts_it looks_at gathers told fits moves = record {
+goes_folder_with before text place from to f g p q a own adds makes starts_it looks_at gathers told fits moves = record {
   calls = of_folder record { question = q; answer = a } ∷ [];
+  own = (own, tt);
   folder_asked = adds;
   programs_asked = adds_none p;
   makes = makes ∙ ap (λ zs. zs ++ then_to_make text place to) (sym (append-nil (made_by q)));
@@ -86,23 +95,24 @@ goes_folder_with before text place from to f g p q a adds makes starts_it looks_
 }
 
 pub goes_folder : (text : ℕ → List ℕ) (place : PlaceValue) (from : Stage) (to : Step) (f g : Option (List FolderCall)) (p : Option (List ProgramCall)) (q : FolderQuestion) (a : Result FolderAnswer ErrorKind)
-    → Adds f g (call q a)
+    → folder_run q ≡ place.run → Adds f g (call q a)
     → to_make text place from ≡ made_by q ++ then_to_make text place to → to_start place from ≡ then_to_start place to → to_look place from ≡ look_of q ++ then_to_look place to
     → then_gathered place to ≡ has_gathered place from ++ call_items q a → then_told place to ≡ has_told place from
     → held from + folder_told q a ≤ most_bytes → Moves (walk_at place from) q a (walk_then place to)
     → Goes text place from to f g p p
-goes_folder text place from to f g p q a adds makes starts_it looks_at gathers told fits moves =
-    goes_folder_with (walk_at place from) text place from to f g p q a adds makes starts_it looks_at gathers told fits moves
+goes_folder text place from to f g p q a own adds makes starts_it looks_at gathers told fits moves =
+    goes_folder_with (walk_at place from) text place from to f g p q a own adds makes starts_it looks_at gathers told fits moves
 
 -- one thing was asked of programs
 pub goes_program : (text : ℕ → List ℕ) (place : PlaceValue) (from : Stage) (to : Step) (f : Option (List FolderCall)) (p s : Option (List ProgramCall)) (q : ProgramQuestion) (a : Result ProgramAnswer ErrorKind)
-    → Adds p s (called q a)
+    → program_run q ≡ place.run → Adds p s (called q a)
     → to_make text place from ≡ then_to_make text place to → to_start place from ≡ start_of q ++ then_to_start place to → to_look place from ≡ then_to_look place to
     → then_gathered place to ≡ has_gathered place from → then_told place to ≡ has_told place from ++ call_told q a
     → held from + program_told q a ≤ most_bytes → walk_at place from ≡ walk_then place to → forget_of q ≡ [] → failure_of q a ≡ []
     → Goes text place from to f f p s
-goes_program text place from to f p s q a adds makes starts_it looks_at gathers told fits same keeps succeeds = record {
+goes_program text place from to f p s q a own adds makes starts_it looks_at gathers told fits same keeps succeeds = record {
   calls = of_programs record { question = q; answer = a } ∷ [];
+  own = (own, tt);
   folder_asked = adds_none f;
   programs_asked = adds;
   makes = makes;
@@ -124,6 +134,7 @@ goes_on text place from mid cost to f g h p s t first next =
     let programs : program_calls (first.calls ++ next.calls) ≡ program_calls first.calls ++ program_calls next.calls = collect_append program_call first.calls next.calls in
     record {
       calls = first.calls ++ next.calls;
+      own = own_append place.run first.calls next.calls first.own next.own;
       folder_asked = adds_same f h _ _ (sym folders) (adds_more f g h (folder_calls first.calls) (folder_calls next.calls) first.folder_asked next.folder_asked);
       programs_asked = adds_same p t _ _ (sym programs) (adds_more p s t (program_calls first.calls) (program_calls next.calls) first.programs_asked next.programs_asked);
       makes = fronts (λ c. made_by c.question) (folder_calls first.calls) (folder_calls next.calls) _ _ _ first.makes next.makes ∙ ap (λ cs. made cs ++ then_to_make text place to) (sym folders);
@@ -156,6 +167,7 @@ pub goes_from : (before : Walk) (text : ℕ → List ℕ) (place : PlaceValue) (
     → GoesWith before text place same to f g p s → GoesWith before text place from to f g p s
 goes_from before text place from same to f g p s makes starts_it looks_at gathers told holds goes = record {
   calls = goes.calls;
+  own = goes.own;
   folder_asked = goes.folder_asked;
   programs_asked = goes.programs_asked;
   makes = makes ∙ goes.makes;
@@ -173,6 +185,7 @@ goes_from before text place from same to f g p s makes starts_it looks_at gather
 pub recost : (text : ℕ → List ℕ) (place : PlaceValue) (from s : Stage) (a b : ℕ) (f g : Option (List FolderCall)) (p q : Option (List ProgramCall)) → Goes text place from (steps.Goes s a) f g p q → Goes text place from (steps.Goes s b) f g p q
 recost text place from s a b f g p q goes = record {
   calls = goes.calls;
+  own = goes.own;
   folder_asked = goes.folder_asked;
   programs_asked = goes.programs_asked;
   makes = goes.makes;

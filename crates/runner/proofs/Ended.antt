@@ -29,7 +29,7 @@ pub ended_goes : (text : ℕ → List ℕ) (place : PlaceValue) (from : Stage) (
     → Goes text place from step f f p q
 ended_goes text place from e step code r f p q adds is range step_is code_is make start look gathered told nothing left =
     subst (λ (s : Step). Goes text place from s f f p q) (sym step_is)
-    (goes_program text place from (steps.Goes (stages.Stopping e) 1) f p q (end_asked place.run) (state_of r) adds make start look (sym gathered)
+    (goes_program text place from (steps.Goes (stages.Stopping e) 1) f p q (end_asked place.run) (state_of r) refl adds make start look (sym gathered)
     (ap (λ z. code_item place.run z ∷ []) (code_is ∙ same_code r code is range)
     ∙ sym (ap (λ zs. zs ++ call_told (end_asked place.run) (state_of r)) told ∙ ap (λ x. call_told (end_asked place.run) (state_of x)) is))
     (fits_still (held from) 0 (subst (λ n. n ≤ most_bytes) (sym nothing) (fits_none 0 refl)) refl) left refl (no_failure (end_asked place.run) state_of r _ is (λ y. refl)))

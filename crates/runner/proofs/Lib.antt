@@ -13,3 +13,4 @@ pub mod WentOn
 pub mod Trees
 pub mod Stopped
 pub mod Whole
+pub mod Begun

@@ -15,6 +15,7 @@ use Rattle.runner.specs.Faults.{FolderAnswered, ProgramsAnswered, folder_fault, 
 use Rattle.std.specs.declared.io.ErrorKind.{ErrorKind}
 use Rattle.run_calls.specs.Calls.{FolderCall, FolderQuestion, FolderAnswer, call, ProgramCall, ProgramQuestion, ProgramAnswer, called, RunCall, of_folder, of_programs, Adds}
 use Rattle.runner.specs.Made.{MadeItem}
+use Rattle.runner.specs.Own.{folder_run, program_run}
 use Rattle.runner.specs.Sizes.{most_bytes, exited_length, nodes_length, held, folder_told, program_told}
 use Rattle.runner.specs.Stops.{IsMadeNext, AsksFolder, AsksPrograms, AsksNext, IsTrueOf, IsOwnFault, IsFolderFault, IsProgramsFault, StopsWith, Stops, FolderStops, FolderStopsWith}
 use Rattle.runner.specs.Listed.{Walk, walk_at}
@@ -79,9 +80,10 @@ is_true Left n calls small = tt
 
 -- one thing was asked of folders
 pub folder_stops_with : (before : Walk) (text : ℕ → List ℕ) (place : PlaceValue) (from : Stage) (fault : RunFault) (f g : Option (List FolderCall)) (p : Option (List ProgramCall)) (q : FolderQuestion) (a : Result FolderAnswer ErrorKind)
-    → IsOfFolder fault a → Adds f g (call q a) → AsksFolder before text place from q → StopsWith before text place from fault f g p p
-folder_stops_with before text place from fault f g p q a small adds asks = record {
+    → folder_run q ≡ place.run → IsOfFolder fault a → Adds f g (call q a) → AsksFolder before text place from q → StopsWith before text place from fault f g p p
+folder_stops_with before text place from fault f g p q a own small adds asks = record {
   calls = of_folder record { question = q; answer = a } ∷ [];
+  own = (own, tt);
   folder_asked = adds;
   programs_asked = adds_none p;
   asks = asks;
@@ -90,14 +92,15 @@ folder_stops_with before text place from fault f g p q a small adds asks = recor
 }
 
 pub folder_stops : (text : ℕ → List ℕ) (place : PlaceValue) (from : Stage) (fault : RunFault) (f g : Option (List FolderCall)) (p : Option (List ProgramCall)) (q : FolderQuestion) (a : Result FolderAnswer ErrorKind)
-    → IsOfFolder fault a → Adds f g (call q a) → AsksFolder (walk_at place from) text place from q → Stops text place from fault f g p p
-folder_stops text place from fault f g p q a small adds asks = folder_stops_with (walk_at place from) text place from fault f g p q a small adds asks
+    → folder_run q ≡ place.run → IsOfFolder fault a → Adds f g (call q a) → AsksFolder (walk_at place from) text place from q → Stops text place from fault f g p p
+folder_stops text place from fault f g p q a own small adds asks = folder_stops_with (walk_at place from) text place from fault f g p q a own small adds asks
 
 -- one thing was asked of programs
 pub program_stops : (text : ℕ → List ℕ) (place : PlaceValue) (from : Stage) (fault : RunFault) (f : Option (List FolderCall)) (p s : Option (List ProgramCall)) (q : ProgramQuestion) (a : Result ProgramAnswer ErrorKind)
-    → IsOfPrograms fault a → Adds p s (called q a) → AsksPrograms place from q → Stops text place from fault f f p s
-program_stops text place from fault f p s q a small adds asks = record {
+    → program_run q ≡ place.run → IsOfPrograms fault a → Adds p s (called q a) → AsksPrograms place from q → Stops text place from fault f f p s
+program_stops text place from fault f p s q a own small adds asks = record {
   calls = of_programs record { question = q; answer = a } ∷ [];
+  own = (own, tt);
   folder_asked = adds_none f;
   programs_asked = adds;
   asks = asks;
@@ -107,9 +110,10 @@ program_stops text place from fault f p s q a small adds asks = record {
 
 -- what it tells of is too large
 pub folder_surpasses_with : (before : Walk) (text : ℕ → List ℕ) (place : PlaceValue) (from : Stage) (f g : Option (List FolderCall)) (p : Option (List ProgramCall)) (q : FolderQuestion) (a : Result FolderAnswer ErrorKind) (k : ℕ) (x : FolderAnswer)
-    → a ≡ Ok x → Adds f g (call q a) → folder_told q a ≡ k → most_bytes < held from + k → AsksFolder before text place from q → StopsWith before text place from TooLarge f g p p
-folder_surpasses_with before text place from f g p q a k x was adds is more asks = record {
+    → folder_run q ≡ place.run → a ≡ Ok x → Adds f g (call q a) → folder_told q a ≡ k → most_bytes < held from + k → AsksFolder before text place from q → StopsWith before text place from TooLarge f g p p
+folder_surpasses_with before text place from f g p q a k x own was adds is more asks = record {
   calls = of_folder record { question = q; answer = a } ∷ [];
+  own = (own, tt);
   folder_asked = adds;
   programs_asked = adds_none p;
   asks = asks;
@@ -118,13 +122,14 @@ folder_surpasses_with before text place from f g p q a k x was adds is more asks
 }
 
 pub folder_surpasses : (text : ℕ → List ℕ) (place : PlaceValue) (from : Stage) (f g : Option (List FolderCall)) (p : Option (List ProgramCall)) (q : FolderQuestion) (a : Result FolderAnswer ErrorKind) (k : ℕ) (x : FolderAnswer)
-    → a ≡ Ok x → Adds f g (call q a) → folder_told q a ≡ k → most_bytes < held from + k → AsksFolder (walk_at place from) text place from q → Stops text place from TooLarge f g p p
-folder_surpasses text place from f g p q a k x was adds is more asks = folder_surpasses_with (walk_at place from) text place from f g p q a k x was adds is more asks
+    → folder_run q ≡ place.run → a ≡ Ok x → Adds f g (call q a) → folder_told q a ≡ k → most_bytes < held from + k → AsksFolder (walk_at place from) text place from q → Stops text place from TooLarge f g p p
+folder_surpasses text place from f g p q a k x own was adds is more asks = folder_surpasses_with (walk_at place from) text place from f g p q a k x own was adds is more asks
 
 pub program_surpasses : (text : ℕ → List ℕ) (place : PlaceValue) (from : Stage) (f : Option (List FolderCall)) (p s : Option (List ProgramCall)) (q : ProgramQuestion) (a : Result ProgramAnswer ErrorKind) (k : ℕ) (x : ProgramAnswer)
-    → a ≡ Ok x → Adds p s (called q a) → program_told q a ≡ k → most_bytes < held from + k → AsksPrograms place from q → Stops text place from TooLarge f f p s
-program_surpasses text place from f p s q a k x was adds is more asks = record {
+    → program_run q ≡ place.run → a ≡ Ok x → Adds p s (called q a) → program_told q a ≡ k → most_bytes < held from + k → AsksPrograms place from q → Stops text place from TooLarge f f p s
+program_surpasses text place from f p s q a k x own was adds is more asks = record {
   calls = of_programs record { question = q; answer = a } ∷ [];
+  own = (own, tt);
   folder_asked = adds_none f;
   programs_asked = adds;
   asks = asks;
@@ -157,6 +162,7 @@ pub memory_refused : {X : Type 0} (r : Result X RunFault) (place : PlaceValue) (
     → IsErrAnd r (λ y. y ≡ NoMemory) → IfErr r (λ fault. FolderStops place from fault f f)
 memory_refused r place from f gives = stops_with r _ gives (λ y same text p. record {
   calls = [];
+  own = tt;
   folder_asked = adds_none f;
   programs_asked = adds_none p;
   asks = tt;
@@ -198,6 +204,7 @@ tree_stops before (Err fault) place g t t' f h nodes one stops = λ text p.
     let was = stops text p in
     record {
       calls = was.calls;
+      own = was.own;
       folder_asked = was.folder_asked;
       programs_asked = was.programs_asked;
       asks = subst (λ (w : Walk). AsksNext w text place (stages.Tree g t) was.calls) one (tree_asks before text place g t t' was.calls was.asks);

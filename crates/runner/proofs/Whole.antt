@@ -22,23 +22,27 @@ use Rattle.runner.specs.Whole.{GoesBy, ExitsBy, IsPart, IsWhole, all_calls}
 use Rattle.runner.proofs.Collect.{collect_append, goes_on}
 
 -- a call of `ask`, by itself
+pub by_itself : (text : ℕ → List ℕ) (place : PlaceValue) (from : Stage) (to : Step) (f g : Option (List FolderCall)) (p q : Option (List ProgramCall)) → (h : Goes text place from to f g p q) → GoesBy text place from to h.calls
+by_itself text place from to f g p q h = record {
+  calls = h.calls;
+  own = h.own;
+  folder_asked = inr refl;
+  programs_asked = inr refl;
+  makes = h.makes;
+  starts_it = h.starts_it;
+  looks_at = h.looks_at;
+  gathers = h.gathers;
+  is_told = h.is_told;
+  fits = h.fits;
+  meets = h.meets;
+  keeps = h.keeps;
+  succeeds = h.succeeds;
+}
+
 pub is_part : (text : ℕ → List ℕ) (place : PlaceValue) (from : Stage) (to : Step) (f g : Option (List FolderCall)) (p q : Option (List ProgramCall)) → Goes text place from to f g p q → IsPart text place from to f g p q
 is_part text place from to f g p q h = record {
   calls = h.calls;
-  goes_by = record {
-    calls = h.calls;
-    folder_asked = inr refl;
-    programs_asked = inr refl;
-    makes = h.makes;
-    starts_it = h.starts_it;
-    looks_at = h.looks_at;
-    gathers = h.gathers;
-    is_told = h.is_told;
-    fits = h.fits;
-    meets = h.meets;
-    keeps = h.keeps;
-    succeeds = h.succeeds;
-  };
+  goes_by = by_itself text place from to f g p q h;
   folder_asked = h.folder_asked;
   programs_asked = h.programs_asked;
 }
@@ -47,7 +51,7 @@ of_some : {A : Type 0} (x y : A) → Some x ≡ Some y → x ≡ y
 of_some x y is = let same : x ≡ y = cc in same
 
 -- the calls that were added, where all are known
-added : {C : Type 0} (xs ys more : List C) → Adds (Some xs) (Some ys) more → ys ≡ xs ++ more
+pub added : {C : Type 0} (xs ys more : List C) → Adds (Some xs) (Some ys) more → ys ≡ xs ++ more
 added xs ys more (inl lost) = let same : ys ≡ xs ++ more = cc in same
 added xs ys more (inr adds) = of_some ys (xs ++ more) adds
 
@@ -55,6 +59,7 @@ added xs ys more (inr adds) = of_some ys (xs ++ more) adds
 behind : (text : ℕ → List ℕ) (place : PlaceValue) (from : Stage) (to : Step) (fs : List FolderCall) (ps : List ProgramCall) (calls : List RunCall) → GoesBy text place from to calls → Goes text place from to (Some fs) (Some (fs ++ folder_calls calls)) (Some ps) (Some (ps ++ program_calls calls))
 behind text place from to fs ps calls h = record {
   calls = h.calls;
+  own = h.own;
   folder_asked = inr (ap (λ cs. Some (fs ++ cs)) (added [] (folder_calls calls) (folder_calls h.calls) h.folder_asked));
   programs_asked = inr (ap (λ cs. Some (ps ++ cs)) (added [] (program_calls calls) (program_calls h.calls) h.programs_asked));
   makes = h.makes;
@@ -70,7 +75,7 @@ behind text place from to fs ps calls h = record {
 
 -- ---- all of them
 
-joined : (text : ℕ → List ℕ) (place : PlaceValue) (from next : Stage) (cost : ℕ) (to : Step) (calls later : List RunCall) → GoesBy text place from (steps.Goes next cost) calls → GoesBy text place next to later → GoesBy text place from to (calls ++ later)
+pub joined : (text : ℕ → List ℕ) (place : PlaceValue) (from next : Stage) (cost : ℕ) (to : Step) (calls later : List RunCall) → GoesBy text place from (steps.Goes next cost) calls → GoesBy text place next to later → GoesBy text place from to (calls ++ later)
 joined text place from next cost to calls later first next_by =
     subst (λ (cs : List FolderCall). Goes text place from to (Some []) (Some cs) (Some []) (Some (program_calls (calls ++ later)))) (sym (collect_append folder_call calls later))
     (subst (λ (cs : List ProgramCall). Goes text place from to (Some []) (Some (folder_calls calls ++ folder_calls later)) (Some []) (Some cs)) (sym (collect_append program_call calls later))
@@ -84,7 +89,7 @@ exits text place from (calls ∷ more ∷ parts) e x =
 
 -- ---- from the start
 
-whole : (text : ℕ → List ℕ) (place : PlaceValue) (task : Task) (from : Stage) (calls : List RunCall) (e : Exited) → IsStageOf from task → GoesBy text place from (steps.Exits e) calls → IsWhole text place task e calls
+pub whole : (text : ℕ → List ℕ) (place : PlaceValue) (task : Task) (from : Stage) (calls : List RunCall) (e : Exited) → IsStageOf from task → GoesBy text place from (steps.Exits e) calls → IsWhole text place task e calls
 whole text place task (stages.Making (makings.Root n)) calls e h g =
     let fs : folder_calls g.calls ≡ folder_calls calls = sym (added [] (folder_calls calls) (folder_calls g.calls) g.folder_asked) in
     let ps : program_calls g.calls ≡ program_calls calls = sym (added [] (program_calls calls) (program_calls g.calls) g.programs_asked) in

@@ -1,4 +1,5 @@
 pub mod Faults
+pub mod Own
 pub mod Made
 pub mod Gathered
 pub mod Told
@@ -8,3 +9,4 @@ pub mod Steps
 pub mod Stops
 pub mod Runs
 pub mod Whole
+pub mod Begun

@@ -24,6 +24,7 @@ use Rattle.runner.specs.Gathered.{ItemValue, items_answered, file_item, found_it
 use Rattle.runner.specs.Gathered as Gathered
 use Rattle.runner.specs.Told.{ToldItem, code_item, killed_item, stream_bytes, whole_stream, items_told, starts, forgets, failures}
 use Rattle.runner.specs.Listed.{Walk, walk_at, walk_then, Meets}
+use Rattle.runner.specs.Own.{AreOwn}
 use Rattle.runner.specs.Sizes.{held, Fits}
 
 -- ---- what is still to be made, to be started and to be looked at
@@ -195,12 +196,13 @@ looks calls = collect (λ c. look_of c.question) calls
 -- What was asked meanwhile, in some order of both kinds of calls, is a front of what was to be
 -- made, to be started and to be looked at, and what was answered is what was gathered and told
 -- since; none of it was too large. Of output directories each entry is met that was left or told
--- of, in order, until nothing is left or so many nodes are met. No program is let go of, and
--- nothing that was asked of programs failed, but to end one.
+-- of, in order, until nothing is left or so many nodes are met. All was asked for this run. No
+-- program is let go of, and nothing that was asked of programs failed, but to end one.
 pub record GoesWith (before : Walk) (text : ℕ → List ℕ) (place : PlaceValue) (from : Stage)
     (to : Step) (f_before f_now : Option (List FolderCall))
     (p_before p_now : Option (List ProgramCall)) : Type 0 where
   pub calls : List RunCall
+  pub own : AreOwn place.run calls
   pub folder_asked : Adds f_before f_now (folder_calls calls)
   pub programs_asked : Adds p_before p_now (program_calls calls)
   pub makes : to_make text place from ≡ made (folder_calls calls) ++ then_to_make text place to

@@ -11,6 +11,7 @@ use Rattle.runner.specs.declared.stage.Stage.TheVariants as stages
 use Rattle.run_calls.specs.Values.{PlaceValue, command_shown}
 use Rattle.run_calls.specs.Calls.{FolderCall, FolderQuestion, FolderAnswer, bytes_asked, ProgramCall, ProgramQuestion, ProgramAnswer, start_asked, end_asked, length_asked, read_asked, RunCall, of_folder, of_programs, folder_calls, program_calls, Adds}
 use Rattle.runner.specs.Made.{MadeItem, made_by}
+use Rattle.runner.specs.Own.{AreOwn}
 use Rattle.runner.specs.Steps.{making_left, to_look}
 use Rattle.runner.specs.Listed.{Walk, walk_at, most_nodes}
 use Rattle.runner.specs.Sizes.{held, Fits}
@@ -91,11 +92,12 @@ IsFaultOf fault (of_folder c ∷ []) = IsFolderFault fault c.answer
 IsFaultOf fault (of_programs c ∷ []) = IsProgramsFault fault c.answer
 IsFaultOf fault (c ∷ d ∷ cs) = ⊥
 
--- A run at this stage has this fault, and asked for one thing more at most.
+-- A run at this stage has this fault, and asked for one thing more at most, which is its own.
 pub record StopsWith (before : Walk) (text : ℕ → List ℕ) (place : PlaceValue) (from : Stage)
     (fault : RunFault) (f_before f_now : Option (List FolderCall))
     (p_before p_now : Option (List ProgramCall)) : Type 0 where
   pub calls : List RunCall
+  pub own : AreOwn place.run calls
   pub folder_asked : Adds f_before f_now (folder_calls calls)
   pub programs_asked : Adds p_before p_now (program_calls calls)
   pub asks : AsksNext before text place from calls

@@ -68,3 +68,8 @@ AddsAllRuns before after more = after ≡ option_map (λ h. h ++ more) before
 -- where it is known then what happened, it was known before, and this happened next
 abbrev pub AddsRuns : Option (List RunEvent) → Option (List RunEvent) → List RunEvent → Type 0
 AddsRuns before after more = (after ≡ None) ⊎ AddsAllRuns before after more
+
+-- whatever list stood for it before, with these events it stands for it afterwards
+abbrev pub CarriesRuns : (List RunEvent → Type 0) → (List RunEvent → Type 0) → List RunEvent →
+    Type 0
+CarriesRuns old new more = (h : List RunEvent) → old h → new (h ++ more)

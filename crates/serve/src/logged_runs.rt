@@ -1,6 +1,6 @@
 //! Runs that keep a log of what happened at them.
 
-ghost use Rattle.std.specs.Prelude.{◌≡◌, ◌⊎◌, [], ◌∷◌, Some, Err, IfOk, IsTrue};
+ghost use Rattle.std.specs.Prelude.{◌≡◌, ◌⊎◌, [], ◌∷◌, List, None, Some, Err, IfOk, IsTrue};
 ghost use Rattle.std.specs.Option.{option_map};
 ghost use Rattle.execution.specs.Job.{TaskValue};
 ghost use Rattle.execution.specs.Orders.{kill, start};
@@ -9,7 +9,7 @@ ghost use Rattle.runner.specs.declared.fault.RunFault.TheVariants.{NoMemory};
 ghost use Rattle.run_calls.specs.Calls.{Adds};
 ghost use Rattle.serve.specs.Logged.{IsKept};
 ghost use Rattle.serve.specs.LoggedRuns.{faults_logged, run_event, run_events, runs_logged, task_copied};
-ghost use Rattle.serve.specs.RunEvents.{AddsRuns, IsBegun, asked_events, faults_of, lent, ordered, outcome_events};
+ghost use Rattle.serve.specs.RunEvents.{AddsRuns, IsBegun, RunEvent, asked_events, faults_of, lent, ordered, outcome_events};
 
 use crate::copies::{TaskCopy, copied_task, two_outcomes};
 use crate::runs::Runs;
@@ -34,10 +34,11 @@ pub enum RunRecord {
 /// memory is refused for one, that log is lost. A run whose outcome was to be logged then has the
 /// fault that memory was refused, as its outcome is used up where it is read.
 #[derive(Drop)]
-pub struct LoggedRuns<R> {
+pub struct LoggedRuns<R: Runs> {
     pub runs: R,
     pub log: Option<Vec<RunRecord>>,
     pub faults: Option<Vec<(RunKey, RunFault)>>,
+    ghost carried: { (h : List RunEvent) → runs_logged log ≡ Some h → ∥ R.carries runs h ∥₁ },
     alloc: Global,
 }
 
@@ -124,7 +125,9 @@ fn log_answer(
 ) -> Result<Option<Outcome>, RunFault>
     ensures adds { AddsRuns (runs_logged log.old) (runs_logged log.new)
         (outcome_events run result) }
-    ensures told { (result ≡ Err NoMemory) ⊎ (outcome_events run result
+    ensures told { (runs_logged log.new ≡ None) ⊎ (outcome_events run result
+        ≡ outcome_events run answer) }
+    ensures refused { (result ≡ Err NoMemory) ⊎ (outcome_events run result
         ≡ outcome_events run answer) }
 {
     if log.is_none() {
@@ -153,6 +156,7 @@ fn log_answer(
 impl<R: Runs> LoggedRuns<R> {
     /// Runs at which nothing has happened yet.
     pub fn new(alloc: Global, runs: R) -> LoggedRuns<R>
+        requires new { R.carries runs [] }
         ensures log { runs_logged result.log ≡ Some [] }
         ensures faults { faults_logged result.faults ≡ Some [] }
     {
@@ -162,6 +166,21 @@ impl<R: Runs> LoggedRuns<R> {
             faults: Some(Vec::new(alloc)),
             alloc,
         }
+    }
+
+    /// The runs, without their logs.
+    pub fn into_runs(self) -> R
+        ensures { result ≡ self.runs }
+    {
+        let LoggedRuns {
+            runs,
+            log,
+            faults,
+            alloc: _,
+        } = self;
+        drop(log);
+        drop(faults);
+        runs
     }
 }
 

@@ -1,6 +1,6 @@
 //! Runs of jobs, none of which is waited for.
 
-ghost use Rattle.std.specs.Prelude.{List, Option, None, IfOk, IfSome, ◌≡◌, ◌≤◌, ◌∷◌, [], length};
+ghost use Rattle.std.specs.Prelude.{List, Option, None, IfOk, IfSome, ◌≡◌, ◌≤◌, ◌∷◌, [], length, ⊤};
 
 use run_calls::RunKey;
 use run_outcomes::Outcome;
@@ -13,10 +13,13 @@ pub trait Runs {
     ghost use Rattle.execution.specs.Orders.{start, kill};
     ghost use Rattle.server_core.specs.Lent.{lent_shown};
     ghost use Rattle.run_calls.specs.Calls.{Adds};
-    ghost use Rattle.serve.specs.RunEvents.{FaultValue, RunEvent, ordered, asked_events, faults_of, AddsRuns, WasBegun};
+    ghost use Rattle.serve.specs.RunEvents.{FaultValue, RunEvent, ordered, asked_events, faults_of, AddsRuns, CarriesRuns, WasBegun};
 
     // All that happened at the runs, in order, where it is known.
     ghost happened: { Self → Option (List RunEvent) } = { λ _. None };
+
+    // What the runs themselves are when such a list is what happened at them.
+    ghost carries: { Self → List RunEvent → Type 0 } = { λ _ _. ⊤ };
 
     // The faults that runs answered, in order, where they are known.
     ghost faulted: { Self → Option (List FaultValue) } = { λ _. None };
@@ -25,11 +28,15 @@ pub trait Runs {
     fn start(&mut self, run: RunKey, task: LentTask<'_>)
         ensures adds { AddsRuns (happened self.old) (happened self.new)
             (ordered run.instance (start run.job (lent_shown task.entry)) ∷ []) }
+        ensures carries { CarriesRuns (carries self.old) (carries self.new)
+            (ordered run.instance (start run.job (lent_shown task.entry)) ∷ []) }
         ensures no_fault { faulted self.new ≡ faulted self.old };
 
     /// Ends the run of a job, which gives no outcome then.
     fn kill(&mut self, run: RunKey)
         ensures adds { AddsRuns (happened self.old) (happened self.new)
+            (ordered run.instance (kill run.job) ∷ []) }
+        ensures carries { CarriesRuns (carries self.old) (carries self.new)
             (ordered run.instance (kill run.job) ∷ []) }
         ensures no_fault { faulted self.new ≡ faulted self.old };
 
@@ -41,12 +48,15 @@ pub trait Runs {
     fn next(&mut self) -> Option<RunKey>
         ensures begun { IfSome result (λ run. WasBegun run (happened self.new)) }
         ensures adds { AddsRuns (happened self.old) (happened self.new) [] }
+        ensures carries { CarriesRuns (carries self.old) (carries self.new) [] }
         ensures no_fault { faulted self.new ≡ faulted self.old };
 
     /// Goes on with a run by a bounded piece of work. What came of it, or `None` while it goes on.
     /// Its task is lent as long as its job runs. With an outcome or a fault the run is over.
     fn ask(&mut self, run: RunKey, task: Option<LentTask<'_>>) -> Result<Option<Outcome>, RunFault>
         ensures adds { AddsRuns (happened self.old) (happened self.new)
+            (asked_events run task.entry result) }
+        ensures carries { CarriesRuns (carries self.old) (carries self.new)
             (asked_events run task.entry result) }
         ensures fault { Adds (faulted self.old) (faulted self.new) (faults_of run result) };
 

@@ -25,7 +25,7 @@ returns-clause-goes g c = λ text p.
     let items = ap (λ r. call_items q (entries_of r)) is
     ∙ ap (λ s. directory_item place s asked ∷ []) (c.as_str.ensures.value ∙ ap string_bytes c.in_ok-tree.ensures.path)
     ∙ ap (λ ns. directory_item place (string_bytes c.args.tree.path) ns ∷ []) c.above-names.ensures in
-    goes_folder_with _ text place _ _ _ _ p q _ c.list.ensures.adds refl refl refl
+    goes_folder_with _ text place _ _ _ _ p q _ refl c.list.ensures.adds refl refl refl
     (one_behind (output_items place c.args.gathering.exited.outputs.items) (tree_items place c.args.tree) _ _
     (c.in_ok-tree.ensures.items place ∙ ap (λ is. tree_items place c.args.tree ++ is) (sym items)))
     refl
@@ -47,7 +47,7 @@ returns-clause-counted g c = (
 
 pub returns-in_err-entries-clause-stops : goal.returns-in_err-entries-clause-stops
 returns-in_err-entries-clause-stops g c = folder_failed c.from_residual-in_err-entries.result _ _ _ _ c.from_residual-in_err-entries.ensures.1 c.of_folder.ensures c.in_err-entries.was entries_of (λ e. refl) (λ fault small text p.
-    folder_stops_with _ text (place_shown c.args.place.now) _ fault _ _ p (list_asked (place_shown c.args.place.now) c.as_str.result.now (map string_bytes c.above-names.result.now) 10001) _ small c.list.ensures.adds (
+    folder_stops_with _ text (place_shown c.args.place.now) _ fault _ _ p (list_asked (place_shown c.args.place.now) c.as_str.result.now (map string_bytes c.above-names.result.now) 10001) _ refl small c.list.ensures.adds (
       omega (arith, c.requires.few),
       _,
       ap (λ s. list_asked (place_shown c.args.place.now) s (names_at c.args.tree.nodes.above c.args.inner.level (string_bytes c.args.inner.name)) most_nodes ∷ tree_to_meet (place_shown c.args.place.now) c.args.tree) (sym (c.as_str.ensures.value ∙ ap string_bytes c.in_ok-tree.ensures.path))
@@ -56,7 +56,7 @@ returns-in_err-entries-clause-stops g c = folder_failed c.from_residual-in_err-e
 
 pub returns-in_err-set_apart-clause-stops : goal.returns-in_err-set_apart-clause-stops
 returns-in_err-set_apart-clause-stops g c = memory_failed c.from_residual-in_err-set_apart.result _ _ _ (ap entries_of (was_ok _ _ _ c.of_folder.ensures c.in_ok-entries.was)) c.from_residual-in_err-set_apart.ensures.1 (λ fault small text p.
-    folder_stops_with _ text (place_shown c.args.place.now) _ fault _ _ p (list_asked (place_shown c.args.place.now) c.as_str.result.now (map string_bytes c.above-names.result.now) 10001) _ small c.list.ensures.adds (
+    folder_stops_with _ text (place_shown c.args.place.now) _ fault _ _ p (list_asked (place_shown c.args.place.now) c.as_str.result.now (map string_bytes c.above-names.result.now) 10001) _ refl small c.list.ensures.adds (
       omega (arith, c.requires.few),
       _,
       ap (λ s. list_asked (place_shown c.args.place.now) s (names_at c.args.tree.nodes.above c.args.inner.level (string_bytes c.args.inner.name)) most_nodes ∷ tree_to_meet (place_shown c.args.place.now) c.args.tree) (sym (c.as_str.ensures.value ∙ ap string_bytes c.in_ok-tree.ensures.path))

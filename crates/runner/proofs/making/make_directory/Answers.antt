@@ -13,7 +13,7 @@ returns-clause-goes g c = λ text p.
     let place = place_shown c.args.place.now in
     let q = directory_asked place in
     let to = c.parents-parents.ensures in
-    goes_folder text place _ _ _ _ p q _ c.make_working_directory.ensures.adds
+    goes_folder text place _ _ _ _ p q _ refl c.make_working_directory.ensures.adds
     (ap (λ l. directory_item place ∷ map (λ o. parents_item place (string_bytes o)) l.items) (sym to.left))
     (ap (λ m. start_asked place (command_shown m) ∷ []) (sym to.command))
     (ap (λ l. map (look_asked place) (map string_bytes l.items)) (sym to.left)
@@ -23,4 +23,4 @@ returns-clause-goes g c = λ text p.
 
 pub returns-in_err-of_folder-clause-stops : goal.returns-in_err-of_folder-clause-stops
 returns-in_err-of_folder-clause-stops g c = folder_failed c.from_residual.result _ _ _ _ c.from_residual.ensures.1 c.of_folder.ensures c.in_err-of_folder.was done_of (λ e. refl) (λ fault small text p.
-    folder_stops text (place_shown c.args.place.now) _ fault _ _ p (directory_asked (place_shown c.args.place.now)) _ small c.make_working_directory.ensures.adds (_, refl))
+    folder_stops text (place_shown c.args.place.now) _ fault _ _ p (directory_asked (place_shown c.args.place.now)) _ refl small c.make_working_directory.ensures.adds (_, refl))

@@ -29,7 +29,7 @@ pub returns-clause-goes : goal.returns-clause-goes
 returns-clause-goes g c = λ text p.
     let names = map rc_str_bytes c.push.new.self.items in
     let q = node_asked c.args.place.now.run (map rc_str_bytes c.push.new.self.items) (kind_shown c.in-Some.node.kind) in
-    goes_folder text (place_shown c.args.place.now) _ _ _ _ p q _
+    goes_folder text (place_shown c.args.place.now) _ _ _ _ p q _ refl
     (subst (λ ns. Adds (g.F.Folder.asked c.args.folder.now) (g.F.Folder.asked c.make_node.new.self) (call (node_asked c.args.place.now.run (map rc_str_bytes ns) (kind_shown c.in-Some.node.kind)) (done_of c.make_node.result)))
     c.deref.ensures.value c.make_node.ensures.adds)
     (node_step text c.args.place.now.run (map rc_str_bytes c.args.nodes.above.items) names c.in-Some.node _ _ _ _
@@ -43,7 +43,7 @@ returns-clause-goes g c = λ text p.
 
 pub returns-in_err-of_folder-clause-stops : goal.returns-in_err-of_folder-clause-stops
 returns-in_err-of_folder-clause-stops g c = folder_failed c.from_residual-in_err-of_folder.result _ _ _ _ c.from_residual-in_err-of_folder.ensures.1 c.of_folder.ensures c.in_err-of_folder.was done_of (λ e. refl) (λ fault small text p.
-    folder_stops text (place_shown c.args.place.now) _ fault _ _ p (node_asked c.args.place.now.run (map rc_str_bytes c.push.new.self.items) (kind_shown c.in-Some.node.kind)) _ small
+    folder_stops text (place_shown c.args.place.now) _ fault _ _ p (node_asked c.args.place.now.run (map rc_str_bytes c.push.new.self.items) (kind_shown c.in-Some.node.kind)) _ refl small
     (subst (λ ns. Adds (g.F.Folder.asked c.args.folder.now) (g.F.Folder.asked c.make_node.new.self) (call (node_asked c.args.place.now.run (map rc_str_bytes ns) (kind_shown c.in-Some.node.kind)) (done_of c.make_node.result)))
     c.deref.ensures.value c.make_node.ensures.adds) (
       _,

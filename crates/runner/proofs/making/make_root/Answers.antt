@@ -8,10 +8,10 @@ use Rattle.runner.proofs.making.make_root.Goals as goal
 
 pub returns-clause-goes : goal.returns-clause-goes
 returns-clause-goes g c = λ text p.
-    goes_folder text (place_shown c.args.place.now) _ _ _ _ p (root_asked c.args.place.now.run) _
+    goes_folder text (place_shown c.args.place.now) _ _ _ _ p (root_asked c.args.place.now.run) _ refl
     c.make_root.ensures.adds refl refl refl (sym (quiet (root_asked c.args.place.now.run) _ (λ x. refl))) refl (fits_none _ refl)
     (tt, [], refl, refl)
 
 pub returns-in_err-of_folder-clause-stops : goal.returns-in_err-of_folder-clause-stops
 returns-in_err-of_folder-clause-stops g c = folder_failed c.from_residual.result _ _ _ _ c.from_residual.ensures.1 c.of_folder.ensures c.in_err-of_folder.was done_of (λ e. refl) (λ fault small text p.
-    folder_stops text (place_shown c.args.place.now) _ fault _ _ p (root_asked c.args.place.now.run) _ small c.make_root.ensures.adds (_, refl))
+    folder_stops text (place_shown c.args.place.now) _ fault _ _ p (root_asked c.args.place.now.run) _ refl small c.make_root.ensures.adds (_, refl))

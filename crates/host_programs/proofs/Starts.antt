@@ -12,7 +12,7 @@ use Rattle.host_programs.specs.declared.launching.Launcher.{Launcher}
 use Rattle.host_programs.specs.Launching.{StartsBare, StartsLauncher, Text, launcher_words, session_words}
 use Rattle.run_calls.specs.Calls.{Adds}
 use Rattle.host_programs.specs.Ways.{SoughtValue}
-use Rattle.host_programs.specs.Spawning.{IsAlike, StartsAtMost, StartsBy, StartsItself, StartsOne, StartsOrdered, set_by}
+use Rattle.host_programs.specs.Spawning.{IsAlike, MayStartBy, StartsAtMost, StartsBy, StartsItself, StartsNone, StartsOne, StartsOrdered, set_by}
 
 pub one_started : {C : Type 0} (IsSo : C → Type 0) (before after : Option (List C)) (c : C)
     → Adds before after (c ∷ []) → IsSo c → StartsOne IsSo before after
@@ -31,16 +31,11 @@ of_more {C} {X} {E} IsSo IsMore r before after more = go r
 
     go : (q : Result X E) → StartsBy IsSo q before after → StartsBy IsMore q before after
     go (Ok x) s = one s
-    go (Err e) s = elim s [ inl none ↦ inl none | inr t ↦ inr (one t) ]
-
-pub of_one : {C X E : Type 0} (IsSo : C → Type 0) (r : Result X E)
-    (before after : Option (List C)) → StartsOne IsSo before after → StartsBy IsSo r before after
-of_one IsSo (Ok x) before after s = s
-of_one IsSo (Err e) before after s = inr s
+    go (Err e) s = s
 
 pub at_most : {C X E : Type 0} (IsSo : C → Type 0) (r : Result X E)
     (before after : Option (List C)) → StartsBy IsSo r before after
-    → StartsAtMost IsSo before after
+    → MayStartBy IsSo r before after
 at_most IsSo (Ok x) before after s = inr s
 at_most IsSo (Err e) before after s = s
 
@@ -53,8 +48,8 @@ not_started {C} {X} {E} IsTold IsItself l r e before after is same =
     subst (λ (q : Result X E). StartsOrdered l IsTold IsItself q before after) (sym is) (go l)
   where
     go : (o : Option Launcher) → StartsOrdered {X = X} o IsTold IsItself (Err e) before after
-    go None = inl same
-    go (Some launcher) = inl same
+    go None = inr same
+    go (Some launcher) = inr same
 
 module _ {C X E : Type 0} (IsTold : Launcher → C → Type 0) (IsItself : C → Type 0) where
   pub launched : (l : Option Launcher) (launcher : Launcher) (r : Result X E)
@@ -65,7 +60,7 @@ module _ {C X E : Type 0} (IsTold : Launcher → C → Type 0) (IsItself : C →
       subst (λ (o : Option Launcher). StartsOrdered o IsTold IsItself r before after) (sym is) s
 
   pub as_they_are : (l : Option Launcher) (r : Result X E) (before after : Option (List C))
-      → l ≡ None → StartsAtMost IsItself before after
+      → l ≡ None → MayStartBy IsItself r before after
       → StartsOrdered l IsTold IsItself r before after
   as_they_are l r before after is s =
       subst (λ (o : Option Launcher). StartsOrdered o IsTold IsItself r before after) (sym is) s
@@ -186,10 +181,10 @@ pub found_starts : {C X E : Type 0} (IsItself : Text → CommandValue → C → 
     (s : SoughtValue) (directory : Text) (command : CommandValue) (r : Result X E)
     (before after : Option (List C)) → directory ≡ s.directory → command ≡ s.command
     → StartsBy (IsItself directory command) r before after
-    → StartsAtMost (λ c. IsSomeAnd (Some s) (λ t. IsItself t.directory t.command c)) before after
+    → MayStartBy (λ c. IsSomeAnd (Some s) (λ t. IsItself t.directory t.command c)) r before after
 found_starts {C} IsItself s directory command r before after same_directory same_command starts =
-    subst (λ (d : Text). StartsAtMost (IsItself d s.command) before after) same_directory
-    (subst (λ (o : CommandValue). StartsAtMost (IsItself directory o) before after) same_command
+    subst (λ (d : Text). MayStartBy (IsItself d s.command) r before after) same_directory
+    (subst (λ (o : CommandValue). MayStartBy (IsItself directory o) r before after) same_command
     (at_most (IsItself directory command) r before after starts))
 
 pub since_found : {C : Type 0} (IsItself : Text → CommandValue → C → Type 0) (s : SoughtValue)
@@ -199,3 +194,9 @@ pub since_found : {C : Type 0} (IsItself : Text → CommandValue → C → Type 
 since_found {C} IsItself s o before after is starts =
     subst (λ (f : Option SoughtValue). StartsAtMost (λ c. IsSomeAnd f (λ t. IsItself t.directory
     t.command c)) before after) is starts
+
+pub none_by : {C X E : Type 0} (IsSo : C → Type 0) (r : Result X E) (e : E)
+    (before after : Option (List C)) → r ≡ Err e → StartsNone before after
+    → MayStartBy IsSo r before after
+none_by {C} {X} {E} IsSo r e before after is none =
+    subst (λ (q : Result X E). MayStartBy IsSo q before after) (sym is) none

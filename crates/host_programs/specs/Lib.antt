@@ -1,3 +1,4 @@
 pub mod Launching
 pub mod Spawning
 pub mod Ways
+pub mod Known

@@ -29,11 +29,21 @@ StartsOne {C} IsSo before after =
 abbrev pub StartsAtMost : {C : Type 0} → (C → Type 0) → Option (List C) → Option (List C) → Type 0
 StartsAtMost IsSo before after = (after ≡ before) ⊎ StartsOne IsSo before after
 
--- after a call that went well one was started; after one that failed one at most
+-- none was, as far as it is known
+abbrev pub StartsNone : {C : Type 0} → Option (List C) → Option (List C) → Type 0
+StartsNone before after = (after ≡ None) ⊎ (after ≡ before)
+
+-- after a call that went well one was started; after one that failed none was
 abbrev pub StartsBy : {C X E : Type 0} → (C → Type 0) → Result X E → Option (List C) →
     Option (List C) → Type 0
 StartsBy IsSo (Ok x) before after = StartsOne IsSo before after
-StartsBy IsSo (Err e) before after = StartsAtMost IsSo before after
+StartsBy IsSo (Err e) before after = StartsNone before after
+
+-- .. one at most
+abbrev pub MayStartBy : {C X E : Type 0} → (C → Type 0) → Result X E → Option (List C) →
+    Option (List C) → Type 0
+MayStartBy IsSo (Ok x) before after = StartsAtMost IsSo before after
+MayStartBy IsSo (Err e) before after = StartsNone before after
 
 -- what a name is set to by variables, where something was said of it before: of several of one
 -- name the last counts
@@ -57,4 +67,4 @@ abbrev pub StartsOrdered : {C X E : Type 0} → Option Launcher → (Launcher �
     (C → Type 0) → Result X E → Option (List C) → Option (List C) → Type 0
 StartsOrdered (Some launcher) IsTold IsItself result before after =
     StartsBy (IsTold launcher) result before after
-StartsOrdered None IsTold IsItself result before after = StartsAtMost IsItself before after
+StartsOrdered None IsTold IsItself result before after = MayStartBy IsItself result before after

@@ -10,7 +10,7 @@ use Rattle.host_programs.specs.declared.sought.Sought.{Sought}
 use Rattle.host_programs.specs.declared.way.Way.{Way}
 use Rattle.host_programs.specs.declared.way.Way.TheVariants.{By, AsTheyAre}
 use Rattle.host_programs.specs.Launching.{StartsLauncher, Text}
-use Rattle.host_programs.specs.Spawning.{StartsAtMost, StartsItself, StartsOrdered}
+use Rattle.host_programs.specs.Spawning.{MayStartBy, StartsItself, StartsOrdered}
 
 -- a program that is looked for: what is to be started for which run, and where
 pub record SoughtValue : Type 0 where
@@ -80,7 +80,7 @@ StartsFor table place command result before after = StartsOrdered (launcher_of t
     result before after
 
 -- of what was looked for, where it was, that is started as it is, or nothing yet
-abbrev pub StartsFound : {R S A : Type 0} → Table R S → Option SoughtValue →
+abbrev pub StartsFound : {R S X E A : Type 0} → Table R S → Option SoughtValue → Result X E →
     Option (List (Command A)) → Option (List (Command A)) → Type 0
-StartsFound table found before after = StartsAtMost (λ command. IsSomeAnd found (λ sought.
-    StartsItself table.has_sessions sought.directory sought.command command)) before after
+StartsFound table found result before after = MayStartBy (λ command. IsSomeAnd found (λ sought.
+    StartsItself table.has_sessions sought.directory sought.command command)) result before after

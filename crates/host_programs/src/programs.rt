@@ -1,11 +1,12 @@
 //! Programs of this host.
 
-ghost use Rattle.std.specs.Prelude.{◌≡◌, ◌≤◌, [], None, Ok, Some, IfOk, IfSome, find, length, string_bytes};
+ghost use Rattle.std.specs.Prelude.{◌≡◌, ◌<◌, ◌≤◌, ◌+◌, [], None, Ok, Some, IfOk, IfSome, OnOk, find, length, string_bytes, vec_capacity, vec_len};
 ghost use Rattle.run_calls.specs.Calls.{Adds, bytes_of, called, end_asked, forget_asked, kill_asked, killed_of, length_asked, length_of, program_done, read_asked, start_asked, started_of, state_of};
 ghost use Rattle.run_calls.specs.Failures.{Counts};
 ghost use Rattle.run_calls.specs.Values.{IsInRange, command_shown, place_shown};
 ghost use Rattle.host_files.specs.Folders.{root_path};
 ghost use Rattle.host_programs.specs.Launching.{StartsLauncher};
+ghost use Rattle.host_programs.specs.Known.{HasEndedWith, IsOfAt, KnowsOneMore, started_as};
 ghost use Rattle.host_programs.specs.Spawning.{IsAlike, StartsBy, StartsItself};
 ghost use Rattle.host_programs.specs.Ways.{AddsAtMost, AddsNone, KeepsWay, StartsFor, StartsFound, is_of, launcher_of, sought_for, sought_of, sought_shown};
 
@@ -28,17 +29,13 @@ use std::process::{Child, Command};
 use std::rt::{Clock, Files};
 use std::time::Instant;
 
-/// The program of a run, among those that were started.
-fn program_of(started: &mut [Started], run: RunKey) -> io::Result<&mut Started>
-    ensures own { IfOk result (λ s. s.now.run ≡ run) }
+/// Which of these is the program of a run.
+fn place_of(started: &[Started], run: RunKey) -> io::Result<usize>
+    ensures within { IfOk result (λ at. at < length started.now) }
+    ensures own { IfOk result (λ at. IsOfAt run started.now at) }
 {
-    let place = started.iter().position(|each| each.is_of(run));
-    let found = match place {
-        Some(at) => started.get_mut(at),
-        None => None,
-    };
-    match found {
-        Some(started) => Ok(started),
+    match started.iter().position(|each| each.is_of(run)) {
+        Some(at) => Ok(at),
         None => Err(io::Error::from(ErrorKind::NotFound)),
     }
 }
@@ -57,10 +54,15 @@ fn refresh<R: Clock>(
     Ok(())
 }
 
-/// Makes room for a program, and for it once it is forgotten.
-fn make_room(started: &mut Vec<Started>, left: &mut Vec<Child>) -> io::Result<()> {
+/// Makes room for a program, and for all there are once they are forgotten.
+fn make_room(started: &mut Vec<Started>, left: &mut Vec<Child>) -> io::Result<()>
+    ensures same { started.new.items ≡ started.old.items }
+    ensures room { OnOk result (vec_len started.new < vec_capacity started.new) }
+    ensures left { OnOk result (vec_len left.new + (vec_len started.new + 1)
+        ≤ vec_capacity left.new) }
+{
     started.reserve(1)?;
-    left.reserve(started.len().saturating_add(1))?;
+    left.reserve(started.len() + 1)?;
     Ok(())
 }
 
@@ -91,6 +93,8 @@ impl<'a, R: Clock + Files<File = File> + AllocGlobal, S: Spawner> Table<'a, R, S
     fn start(&mut self, place: &Place, ordered: &Ordered) -> io::Result<()>
         ensures starts { StartsFor self.old (place_shown place.now) (command_shown ordered.now)
             result (S.started self.old.spawner) (S.started self.new.spawner) }
+        ensures known { KnowsOneMore place.now.run (started_as self.old.way)
+            self.old.started.items self.new.started.items }
         ensures sought { AddsAtMost (sought_for self.old (place_shown place.now)
             (command_shown ordered.now)) self.old.way self.new.way }
         ensures same { KeepsWay self.old self.new }
@@ -129,8 +133,10 @@ impl<'a, R: Clock + Files<File = File> + AllocGlobal, S: Spawner> Table<'a, R, S
     fn seek(&mut self, place: &Place, ordered: &Ordered) -> io::Result<()>
         requires { launcher_of self.old.way ≡ None }
         ensures starts { StartsFound self.old (Some (sought_for self.old (place_shown place.now)
-            (command_shown ordered.now))) (S.started self.old.spawner)
+            (command_shown ordered.now))) result (S.started self.old.spawner)
             (S.started self.new.spawner) }
+        ensures known { KnowsOneMore place.now.run StartedAs.Itself
+            self.old.started.items self.new.started.items }
         ensures sought { AddsAtMost (sought_for self.old (place_shown place.now)
             (command_shown ordered.now)) self.old.way self.new.way }
         ensures same { KeepsWay self.old self.new }
@@ -153,6 +159,8 @@ impl<'a, R: Clock + Files<File = File> + AllocGlobal, S: Spawner> Table<'a, R, S
         ensures starts { StartsBy (StartsItself self.old.has_sessions directory.now
             (command_shown ordered.now)) result (S.started self.old.spawner)
             (S.started self.new.spawner) }
+        ensures known { KnowsOneMore run StartedAs.Itself
+            self.old.started.items self.new.started.items }
         ensures way { self.new.way ≡ self.old.way }
         ensures same { KeepsWay self.old self.new }
     {
@@ -171,6 +179,8 @@ impl<'a, R: Clock + Files<File = File> + AllocGlobal, S: Spawner> Table<'a, R, S
     ) -> io::Result<()>
         ensures starts { StartsBy (IsAlike command.old) result (S.started self.old.spawner)
             (S.started self.new.spawner) }
+        ensures known { KnowsOneMore run started_as self.old.started.items
+            self.new.started.items }
         ensures way { self.new.way ≡ self.old.way }
         ensures same { KeepsWay self.old self.new }
     {
@@ -183,14 +193,14 @@ impl<'a, R: Clock + Files<File = File> + AllocGlobal, S: Spawner> Table<'a, R, S
             &mut self.spawner,
             command,
         )?;
-        self.started.push(started)?;
+        self.started.push_reserved(started);
         Ok(())
     }
 
     /// Goes on looking for a program, and starts it where it is found.
     fn go_on(&mut self, sought: Sought) -> io::Result<()>
         requires { launcher_of self.old.way ≡ None }
-        ensures starts { StartsFound self.old (Some (sought_shown sought))
+        ensures starts { StartsFound self.old (Some (sought_shown sought)) result
             (S.started self.old.spawner) (S.started self.new.spawner) }
         ensures sought { AddsAtMost (sought_shown sought) self.old.way self.new.way }
         ensures same { KeepsWay self.old self.new }
@@ -210,7 +220,9 @@ impl<'a, R: Clock + Files<File = File> + AllocGlobal, S: Spawner> Table<'a, R, S
 
     fn ask(&mut self, run: RunKey) -> io::Result<Option<i32>>
         ensures range { IfOk result (λ state. IfSome state IsInRange) }
-        ensures starts { StartsFound self.old (find (is_of run) (sought_of self.old.way))
+        ensures ended { IfOk result (λ state. IfSome state
+            (HasEndedWith run self.new.started.items)) }
+        ensures starts { StartsFound self.old (find (is_of run) (sought_of self.old.way)) result
             (S.started self.old.spawner) (S.started self.new.spawner) }
         ensures none { find (is_of run) (sought_of self.old.way) ≡ None
             → self.new.spawner ≡ self.old.spawner }
@@ -228,7 +240,10 @@ impl<'a, R: Clock + Files<File = File> + AllocGlobal, S: Spawner> Table<'a, R, S
                 self.go_on(sought)?;
                 Ok(None)
             }
-            None => program_of(&mut self.started, run)?.ask(),
+            None => {
+                let at = place_of(&self.started, run)?;
+                self.started[at].ask()
+            }
         }
     }
 
@@ -264,7 +279,8 @@ impl<'a, R: Clock + Files<File = File> + AllocGlobal, S: Spawner> Table<'a, R, S
         ensures way { self.new.way ≡ self.old.way }
         ensures same { KeepsWay self.old self.new }
     {
-        let length = program_of(&mut self.started, run)?.length()?;
+        let at = place_of(&self.started, run)?;
+        let length = self.started[at].length()?;
         started::check_room(self.rt, self.work.as_str(), run)?;
         Ok(length)
     }
@@ -276,16 +292,15 @@ impl<'a, R: Clock + Files<File = File> + AllocGlobal, S: Spawner> Table<'a, R, S
         ensures same { KeepsWay self.old self.new }
     {
         let alloc = self.rt.alloc();
-        program_of(&mut self.started, run)?.read(alloc, stream, from, most)
+        let at = place_of(&self.started, run)?;
+        self.started[at].read(alloc, stream, from, most)
     }
 
     fn last_words(&self, run: RunKey, most: u32) -> io::Result<Vec<u8>>
         ensures { IfOk result (λ bytes. length bytes.items ≤ most) }
     {
-        match self.started.iter().find(|started| started.is_of(run)) {
-            Some(started) => started.last_words(self.rt.alloc(), most),
-            None => Err(io::Error::from(ErrorKind::NotFound)),
-        }
+        let at = place_of(&self.started, run)?;
+        self.started[at].last_words(self.rt.alloc(), most)
     }
 
     fn forget(&mut self, run: RunKey)
@@ -358,6 +373,8 @@ impl<'a, R: Clock + Files<File = File> + AllocGlobal, S: Spawner> Programs
         ensures starts { StartsFor self.old.table (place_shown place.now)
             (command_shown command.now) result (S.started self.old.table.spawner)
             (S.started self.new.table.spawner) }
+        ensures known { KnowsOneMore place.now.run (started_as self.old.table.way)
+            self.old.table.started.items self.new.table.started.items }
         ensures sought { AddsAtMost (sought_for self.old.table (place_shown place.now)
             (command_shown command.now)) self.old.table.way self.new.table.way }
         ensures same { KeepsWay self.old.table self.new.table }
@@ -370,9 +387,11 @@ impl<'a, R: Clock + Files<File = File> + AllocGlobal, S: Spawner> Programs
     fn ask(&mut self, run: RunKey) -> io::Result<Option<i32>>
         ensures adds { Adds None None (called (end_asked run) (state_of result)) }
         ensures range { IfOk result (λ state. IfSome state IsInRange) }
+        ensures ended { IfOk result (λ state. IfSome state
+            (HasEndedWith run self.new.table.started.items)) }
         ensures counts { Counts result self.old.faults self.new.faults }
         ensures starts { StartsFound self.old.table (find (is_of run)
-            (sought_of self.old.table.way)) (S.started self.old.table.spawner)
+            (sought_of self.old.table.way)) result (S.started self.old.table.spawner)
             (S.started self.new.table.spawner) }
         ensures none { find (is_of run) (sought_of self.old.table.way) ≡ None
             → self.new.table.spawner ≡ self.old.table.spawner }

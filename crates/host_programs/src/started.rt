@@ -2,9 +2,10 @@
 
 ghost use Rattle.std.specs.Prelude.{◌≡◌, ◌≤◌, [], None, Ok, IfOk, IfSome, IsErrAnd, OnOk, length};
 ghost use Rattle.std.specs.IoError.{error_kind};
-ghost use Rattle.std.specs.Process.{exit_code};
+ghost use Rattle.std.specs.Process.{child_status, exit_code};
 ghost use Rattle.std.specs.declared.io.ErrorKind.TheVariants.{ConnectionAborted};
 ghost use Rattle.run_calls.specs.Values.{IsInRange};
+ghost use Rattle.host_programs.specs.Known.{IsCodeOf};
 ghost use Rattle.host_programs.specs.Spawning.{IsAlike, StartsBy};
 ghost use Rattle.host_programs.specs.Ways.{is_run};
 ghost use Rattle.host_programs.specs.declared.started.StartedAs.TheVariants.{Launcher};
@@ -155,7 +156,10 @@ pub(crate) fn start<R: Files<File = File> + AllocGlobal, S: Spawner>(
     spawner: &mut S,
     command: &mut Command,
 ) -> io::Result<Started>
-    ensures { StartsBy (IsAlike command.old) result (S.started spawner.old) (S.started spawner.new) }
+    ensures starts { StartsBy (IsAlike command.old) result (S.started spawner.old)
+        (S.started spawner.new) }
+    ensures run { IfOk result (λ started. started.run ≡ run) }
+    ensures known { IfOk result (λ started. started.started_as ≡ started_as) }
 {
     let stdout = stream_file(rt, work, run, OUTPUT_ENDING)?;
     let stderr = stream_file(rt, work, run, ERROR_ENDING)?;
@@ -224,7 +228,9 @@ impl Started {
 
     /// The code with which it ended, or `None` while it runs.
     pub(crate) fn ask(&mut self) -> io::Result<Option<i32>>
-        ensures { IfOk result (λ state. IfSome state IsInRange) }
+        ensures range { IfOk result (λ state. IfSome state IsInRange) }
+        ensures ended { IfOk result (λ state. IfSome state (IsCodeOf (child_status self.new.child))) }
+        ensures run { self.new.run ≡ self.old.run }
     {
         match self.child.try_wait()? {
             None => Ok(None),

@@ -10,14 +10,14 @@ use Rattle.std.proofs.lemmas.Bool.{true≢false}
 use Rattle.std.proofs.lemmas.Bool.Decides.{eqb_tells}
 use Rattle.std.proofs.lemmas.List.Sums.{fold-append}
 use Rattle.serve.specs.declared.sockets.Socket.{Socket}
-use Rattle.serve.specs.SocketEvents.{Carries, SocketEvent, accept_events, clock, failed, is_unready, read_events, shutdown_events, write_events}
-use Rattle.wires.specs.Wires.{WireEvent, Adds, IsNew}
+use Rattle.serve.specs.SocketEvents.{Carries, SocketEvent, accept_events, clock, failed, read_events, shutdown_events, write_events}
+use Rattle.wires.specs.Wires.{WireEvent, Adds, IsNew, is_unready}
 use Rattle.wires.specs.Wires as wires
 use Rattle.host_sockets.specs.declared.port.Port.{Port}
 use Rattle.host_sockets.specs.declared.watched.Watched.{Watched}
 use Rattle.host_sockets.specs.Laid.{AreLaid, on_wire, wire_events}
 use Rattle.host_sockets.specs.Told.{AreTold, IsTold, OnlyTold}
-use Rattle.host_sockets.specs.Ports.{BecomesAt, ClosesAt, HappensAt, LetsInAt, OnlyClosedGo, OpenStay, OthersHold, OthersStay, Turns, on, wire_at, wires_of}
+use Rattle.host_sockets.specs.Ports.{BecomesAt, ClosesAt, HappensAt, IsLetIn, LetsInAt, OnlyClosedGo, OpenStay, OthersHold, OthersStay, Turns, on, wire_at, wires_of}
 use Rattle.host_sockets.proofs.Laid.{Goes, OthersAre, accepted_laid, closed_laid, failed_laid, read_laid, same_laid, still_laid, written_laid}
 
 some_is_there : {X : Type 0} (o : Option X) (x : X) → o ≡ Some x → o ≡ None → ⊥
@@ -92,13 +92,15 @@ module _ {D W : Type 0} (happened : W → Option (List WireEvent)) where
 
     -- a call that answers an error, by whether nothing was ready
     failure_carries : (b : Bool) → OthersStay at.instance old new
-        → BecomesAt at.instance (HappensAt happened at.connection []) old new
+        → BecomesAt at.instance (HappensAt happened at.connection
+        (cond b [] (wires.failed ∷ []))) old new
         → Carries (AreLaid happened old) (AreLaid happened new)
         (cond b [] (failed at.instance at.connection ∷ []))
     failure_carries true stay own h = still_laid (on happened) (wires_of old) (wires_of new)
         at.instance at.connection h (happens_others [] stay own) (happens_goes [] own)
     failure_carries false stay own h = failed_laid (on happened) (wires_of old) (wires_of new)
-        at.instance at.connection h (happens_others [] stay own) (happens_goes [] own)
+        at.instance at.connection h (happens_others (wires.failed ∷ []) stay own)
+        (happens_goes (wires.failed ∷ []) own)
 
     pub write_carries : (r : Result ℕ Error) (bytes : List ℕ)
         → OthersStay at.instance old new
@@ -107,8 +109,8 @@ module _ {D W : Type 0} (happened : W → Option (List WireEvent)) where
         → Carries (AreLaid happened old) (AreLaid happened new) (write_events at r bytes)
     write_carries (Ok n) bytes stay own h = written_laid (on happened) (wires_of old) (wires_of new)
         at.instance at.connection h (take n bytes)
-        (happens_others (wires.write_events {E = Error} (Ok n) bytes) stay own)
-        (happens_goes (wires.write_events {E = Error} (Ok n) bytes) own)
+        (happens_others (wires.write_events (Ok n) bytes) stay own)
+        (happens_goes (wires.write_events (Ok n) bytes) own)
     write_carries (Err e) bytes stay own h =
         failure_carries (is_unready (error_kind e)) stay own h
 
@@ -119,8 +121,8 @@ module _ {D W : Type 0} (happened : W → Option (List WireEvent)) where
         → Carries (AreLaid happened old) (AreLaid happened new) (read_events at r room)
     read_carries (Ok n) room stay own h = read_laid (on happened) (wires_of old) (wires_of new)
         at.instance at.connection h (take n room)
-        (happens_others (wires.read_events {E = Error} (Ok n) room) stay own)
-        (happens_goes (wires.read_events {E = Error} (Ok n) room) own)
+        (happens_others (wires.read_events (Ok n) room) stay own)
+        (happens_goes (wires.read_events (Ok n) room) own)
     read_carries (Err e) room stay own h =
         failure_carries (is_unready (error_kind e)) stay own h
 
@@ -139,42 +141,42 @@ module _ {D W : Type 0} (happened : W → Option (List WireEvent)) where
         gone (Some p) None bad = absurd bad
         gone (Some p) (Some q) so = so.0.0
 
-    pub accept_carries : {E : Type 0} (given : D → Option (List W))
-        (opened_at : D → Option SocketAddr) (r : Result ⊤ E)
+    pub accept_carries : {E : Type 0} (number : W → Option ℕ) (given : D → Option (List W))
+        (opened_at : D → Option (SocketAddr × ℕ)) (r : Result ⊤ E)
         → OthersStay at.instance old new
-        → BecomesAt at.instance (LetsInAt happened given opened_at at.connection r) old new
+        → BecomesAt at.instance (LetsInAt happened number given opened_at at.connection r) old new
         → Carries (AreLaid happened old) (AreLaid happened new) (accept_events at r)
-    accept_carries {E} given opened_at (Ok x) stay own h = accepted_laid (on happened) (wires_of old)
+    accept_carries {E} number given opened_at (Ok x) stay own h = accepted_laid (on happened) (wires_of old)
         (wires_of new) at.instance at.connection h
         (others_are old new at.instance at.connection stay
-        (hold (LetsInAt {D = D} {W = W} {E = E} happened given opened_at at.connection (Ok x))
-        at.connection
+        (hold (LetsInAt {D = D} {W = W} {E = E} happened number given opened_at at.connection
+        (Ok x)) at.connection
         (λ p q so. so.0.1) (slice_get old at.instance) (slice_get new at.instance) own))
         (fresh (slice_get old at.instance) (slice_get new at.instance) own)
       where
-        let_in : (o : Option (Watched W)) (G : Watched W → Type 0)
-            → IsSomeAnd o (λ w. G w × IsNew (on happened w))
+        let_in : (before after : Option (List W)) (o : Option (Watched W))
+            → IsSomeAnd o (λ w. IsLetIn happened number at.connection before after w.wire)
             → (v : Watched W) → o ≡ Some v → IsNew (on happened v)
-        let_in None G bad v is = absurd bad
-        let_in (Some w) G so v is =
-            subst (λ (y : Watched W). IsNew (on happened y)) (ap (got v) is) so.1
+        let_in before after None bad v is = absurd bad
+        let_in before after (Some w) so v is =
+            subst (λ (y : Watched W). IsNew (on happened y)) (ap (got v) is) so.new
 
         fresh : (o n : Option (Port D W))
-            → Turns (LetsInAt {D = D} {W = W} {E = E} happened given opened_at at.connection
-            (Ok x)) o n
+            → Turns (LetsInAt {D = D} {W = W} {E = E} happened number given opened_at
+            at.connection (Ok x)) o n
             → (v : Watched W) → at_port at.connection n ≡ Some v → IsNew (on happened v)
         fresh None n is v there = absurd (some_is_there (at_port at.connection n) v there
             (ap (at_port at.connection) is))
         fresh (Some p) None bad v there = absurd bad
         fresh (Some p) (Some q) so v there =
-            let_in (wire_at at.connection q.wires.entries)
-            (λ w. Adds (given p.door) (given q.door) (w.wire ∷ [])) so.0.0 v there
-    accept_carries {E} given opened_at (Err e) stay own h = same_laid (on happened) (wires_of old)
+            let_in (given p.door) (given q.door) (wire_at at.connection q.wires.entries) so.0.0 v
+            there
+    accept_carries {E} number given opened_at (Err e) stay own h = same_laid (on happened) (wires_of old)
         (wires_of new) h (h ++ []) all_same (λ i c. ap (wire_events i c) (append-nil h))
       where
         at_own : (o n : Option (Port D W))
-            → Turns (LetsInAt {D = D} {W = W} {E = E} happened given opened_at at.connection
-            (Err e)) o n
+            → Turns (LetsInAt {D = D} {W = W} {E = E} happened number given opened_at
+            at.connection (Err e)) o n
             → (d : ℕ) → at_port d n ≡ at_port d o
         at_own None n is d = ap (at_port d) is
         at_own (Some p) None bad d = absurd bad

@@ -5,10 +5,10 @@ use Rattle.std.proofs.lemmas.Bool.{ne_eqb, true≢false}
 use Rattle.std.proofs.lemmas.Bool.Decides.{eqb_tells}
 use Rattle.host_sockets.specs.declared.lingering.Lingering.{Lingering}
 use Rattle.host_sockets.specs.declared.watched.Watched.{Watched}
-use Rattle.wires.specs.Wires.{WireEvent, Adds, IsNew, shut}
+use Rattle.wires.specs.Wires.{WireEvent, Adds, shut}
 use Rattle.wires.specs.declared.News.{News}
 use Rattle.host_sockets.specs.Told.{IsTold}
-use Rattle.host_sockets.specs.Ports.{Closes, HappensOn, IsKept, OthersHold, Turns, on, wire_at}
+use Rattle.host_sockets.specs.Ports.{Closes, HappensOn, IsKept, IsLetIn, OthersHold, Turns, on, wire_at}
 
 module _ {W S : Type 0} (happened : W → Option (List WireEvent)) (c : ℕ) where
   -- one is written to through what the table lent
@@ -27,17 +27,17 @@ module _ {W S : Type 0} (happened : W → Option (List WireEvent)) (c : ℕ) whe
 
 module _ {W S : Type 0} (happened : W → Option (List WireEvent)) (c : ℕ) where
   -- one is put in
-  pub put_in : (old room new : HashMap ℕ (Watched W) S) (w : Watched W) (x : W)
-      (before after : Option (List W))
+  pub put_in : (number : W → Option ℕ) (old room new : HashMap ℕ (Watched W) S) (w : Watched W)
+      (x : W) (before after : Option (List W))
       → IsReordered nat_eq old room → Updates nat_eq room new c (Some w) → w.wire ≡ x
-      → Adds before after (x ∷ []) → IsNew (happened x)
+      → IsLetIn happened number c before after x
       → IsSomeAnd (wire_at c new.entries)
-      (λ v. Adds before after (v.wire ∷ []) × IsNew (on happened v))
+      (λ v. IsLetIn happened number c before after v.wire)
       × OthersHold c old.entries new.entries
-  put_in old room new w x before after reordered updates is adds fresh = (
+  put_in number old room new w x before after reordered updates is let_in = (
     subst (λ (o : Option (Watched W)). IsSomeAnd o
-        (λ v. Adds before after (v.wire ∷ []) × IsNew (on happened v))) (sym updates.1)
-        (subst (λ (y : W). Adds before after (y ∷ []) × IsNew (happened y)) (sym is) (adds, fresh)),
+        (λ v. IsLetIn happened number c before after v.wire)) (sym updates.1)
+        (subst (λ (y : W). IsLetIn happened number c before after y) (sym is) let_in),
     λ d apart. updates.2 d (ne_eqb c d (λ same. apart (sym same))) ∙ reordered.2 d,
   )
 

@@ -8,7 +8,7 @@ use Rattle.std.proofs.lemmas.List.Sums.{fold-append}
 use Rattle.serve.specs.SocketEvents.{PortEvent, SocketEvent, port, failed, accepted, read, written, shut}
 use Rattle.wires.specs.Wires.{WireEvent, Adds, IsNew, came, sent}
 use Rattle.wires.specs.Wires as wire
-use Rattle.host_sockets.specs.Laid.{at_number, on_wire, wire_events}
+use Rattle.host_sockets.specs.Laid.{at_number, failed_at, on_wire, wire_events}
 
 abbrev kept : Option (List WireEvent) → List WireEvent
 kept None = []
@@ -65,6 +65,29 @@ elsewhere i c h j x apart = more_here i c h j x ∙ elim apart [
     stays : (b : Bool) → (number_of x == c) ≡ false
         → (if b then at_number c (wire_events i c h) x else wire_events i c h) ≡ wire_events i c h
     stays true is = other_number c (wire_events i c h) x is
+    stays false is = refl
+
+-- where a call failed
+fails_here : (h : List SocketEvent) (j d : ℕ)
+    → wire_events j d (h ++ failed j d ∷ []) ≡ wire_events j d h ++ wire.failed ∷ []
+fails_here h j d = fold-append (on_wire j d) [] h (failed j d ∷ [])
+    ∙ if_true (j == j) (failed_at d (wire_events j d h) d) (wire_events j d h) (same_number j)
+    ∙ if_true (d == d) (wire_events j d h ++ wire.failed ∷ []) (wire_events j d h) (same_number d)
+
+fails_elsewhere : (i c : ℕ) (h : List SocketEvent) (j d : ℕ) → (i ≢ j) ⊎ (c ≢ d)
+    → wire_events i c (h ++ failed j d ∷ []) ≡ wire_events i c h
+fails_elsewhere i c h j d apart = fold-append (on_wire i c) [] h (failed j d ∷ []) ∙ elim apart [
+  | inl other ↦ if_false (j == i) (failed_at c (wire_events i c h) d) (wire_events i c h)
+      (differs j i other)
+  | inr other ↦ stays (j == i)
+      (if_false (d == c) (wire_events i c h ++ wire.failed ∷ []) (wire_events i c h)
+      (differs d c other))
+]
+  where
+    stays : (b : Bool) → failed_at c (wire_events i c h) d ≡ wire_events i c h
+        → (if b then failed_at c (wire_events i c h) d else wire_events i c h)
+        ≡ wire_events i c h
+    stays true is = is
     stays false is = refl
 
 module _ {W : Type 0} (happened : W → Option (List WireEvent)) where
@@ -155,12 +178,10 @@ module _ {W : Type 0} (happened : W → Option (List WireEvent)) where
         (ap (wire_events j d) (append-nil h) ∙ sym (append-nil (wire_events j d h))) others own
 
     -- a call on it failed
-    pub failed_laid : OthersAre j d old new → Goes j d [] old new → Laid old h
+    pub failed_laid : OthersAre j d old new → Goes j d (wire.failed ∷ []) old new → Laid old h
         → Laid new (h ++ failed j d ∷ [])
-    failed_laid others own = goes old new j d h (h ++ failed j d ∷ []) []
-        (λ i c apart. fold-append (on_wire i c) [] h (failed j d ∷ []))
-        (fold-append (on_wire j d) [] h (failed j d ∷ []) ∙ sym (append-nil (wire_events j d h)))
-        others own
+    failed_laid others own = goes old new j d h (h ++ failed j d ∷ []) (wire.failed ∷ [])
+        (λ i c apart. fails_elsewhere i c h j d apart) (fails_here h j d) others own
 
     -- a new client has a number
     pub accepted_laid : OthersAre j d old new

@@ -1,12 +1,14 @@
 -- What is left of the connections that linger.
-use Rattle.std.proofs.Common.{◌≡◌, ◌⊎◌, inl, inr, refl, sym, ap, subst, ◌∙◌, ℕ, Bool, true, false, List, [], ◌∷◌, ◌++◌, map, Option, None, Some, Result, Ok, Err, take, append-nil, append_assoc, cond}
+use Rattle.std.proofs.Common.{◌≡◌, ◌⊎◌, inl, inr, refl, sym, ap, subst, ◌∙◌, ℕ, Bool, true, false, List, [], ◌∷◌, ◌++◌, Option, None, Some, Result, Ok, Err, take, append-nil, append_assoc, cond}
 use Rattle.std.specs.Option.{option_map}
 use Rattle.std.specs.List.Retain.{RetainsInTurn}
-use Rattle.std.proofs.lemmas.List.{map-append}
-use Rattle.wires.specs.Wires.{WireEvent, Adds, came, read_events}
+use Rattle.std.specs.List.{AllByRecursion}
+use Rattle.std.specs.IoError.{error_kind}
+use Rattle.std.specs.declared.io.Error.{Error}
+use Rattle.wires.specs.Wires.{WireEvent, Adds, came, failed, is_unready, read_events}
 use Rattle.host_sockets.specs.declared.lingering.Lingering.{Lingering}
 use Rattle.host_sockets.specs.declared.port.Port.{Port}
-use Rattle.host_sockets.specs.Came.{OnlyCame}
+use Rattle.host_sockets.specs.Came.{IsHeard, OnlyCame}
 use Rattle.host_sockets.specs.Ports.{AreLeft, OnlyClosedGo, OpenStay}
 
 pub adds_none : (o : Option (List WireEvent)) → Adds o o []
@@ -28,22 +30,34 @@ adds_both x y z m n first next = elim next [
     join None = refl
     join (Some h) = ap Some (append_assoc h m n)
 
+both_heard : (m n : List WireEvent) → AllByRecursion IsHeard m → AllByRecursion IsHeard n
+    → AllByRecursion IsHeard (m ++ n)
+both_heard [] n first next = next
+both_heard (x ∷ m) n first next = (first.0, both_heard m n first.1 next)
+
+failure_heard : (b : Bool) → AllByRecursion IsHeard (cond b [] (failed ∷ []))
+failure_heard true = tt
+failure_heard false = (tt, tt)
+
 module _ {W : Type 0} (happened : W → Option (List WireEvent)) where
   pub none_came : (w : W) → OnlyCame happened w w
-  none_came w = ([], adds_none (happened w))
+  none_came w = ([], tt, adds_none (happened w))
 
   -- one call of `read`, whatever it answers
-  pub one_read : {E : Type 0} (w v : W) (r : Result ℕ E) (room : List ℕ)
+  pub one_read : (w v : W) (r : Result ℕ Error) (room : List ℕ)
       → Adds (happened w) (happened v) (read_events r room) → OnlyCame happened w v
-  one_read w v (Ok n) room adds = (take n room ∷ [], adds)
-  one_read w v (Err e) room adds = ([], adds)
+  one_read w v (Ok n) room adds = (came (take n room) ∷ [], (tt, tt), adds)
+  one_read w v (Err e) room adds = (
+    cond (is_unready (error_kind e)) [] (failed ∷ []),
+    failure_heard (is_unready (error_kind e)),
+    adds,
+  )
 
   both_came : (u v w : W) → OnlyCame happened u v → OnlyCame happened v w → OnlyCame happened u w
   both_came u v w first next = (
     first.0 ++ next.0,
-    subst (Adds (happened u) (happened w)) (sym (map-append came first.0 next.0))
-        (adds_both (happened u) (happened v) (happened w) (map came first.0) (map came next.0)
-        first.1 next.1),
+    both_heard first.0 next.0 first.1 next.1,
+    adds_both (happened u) (happened v) (happened w) first.0 next.0 first.2 next.2,
   )
 
   all_left : (xs : List (Lingering W)) → AreLeft happened xs xs

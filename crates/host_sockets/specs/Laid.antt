@@ -15,10 +15,13 @@ at_number c so (read d bytes) = if d == c then so ++ came bytes ∷ [] else so
 at_number c so (written d bytes) = if d == c then so ++ sent bytes ∷ [] else so
 at_number c so (shut d) = if d == c then so ++ wire.shut ∷ [] else so
 
+abbrev pub failed_at : ℕ → List WireEvent → ℕ → List WireEvent
+failed_at c so d = if d == c then so ++ wire.failed ∷ [] else so
+
 abbrev pub on_wire : ℕ → ℕ → List WireEvent → SocketEvent → List WireEvent
 on_wire i c so (clock n) = so
 on_wire i c so (port j x) = if j == i then at_number c so x else so
-on_wire i c so (failed j d) = so
+on_wire i c so (failed j d) = if j == i then failed_at c so d else so
 
 abbrev pub wire_events : ℕ → ℕ → List SocketEvent → List WireEvent
 wire_events i c h = fold (on_wire i c) [] h

@@ -43,14 +43,22 @@ HappensOn happened c more old new =
 abbrev pub on : {W : Type 0} → (W → Option (List WireEvent)) → Watched W → Option (List WireEvent)
 on happened watched = happened watched.wire
 
+-- it was let in next, nothing happened on it yet, and what comes on it is told under this number
+pub record IsLetIn {W : Type 0} (happened : W → Option (List WireEvent)) (number : W → Option ℕ)
+    (c : ℕ) (before after : Option (List W)) (wire : W) : Type 0 where
+  pub next : Adds before after (wire ∷ [])
+  pub new : IsNew (happened wire)
+  pub told : IfSome (number wire) (λ n. n ≡ c)
+
 -- the client with this number is the one that the door let in next, and new; without an answer the
 -- door let nobody in
-abbrev pub LetsIn : {W E : Type 0} → (W → Option (List WireEvent)) → ℕ → Result ⊤ E →
-    Option (List W) → List (ℕ × Watched W) → Option (List W) → List (ℕ × Watched W) → Type 0
-LetsIn happened c (Ok x) before old after new =
-    IsSomeAnd (wire_at c new) (λ w. Adds before after (w.wire ∷ []) × IsNew (on happened w))
+abbrev pub LetsIn : {W E : Type 0} → (W → Option (List WireEvent)) → (W → Option ℕ) → ℕ →
+    Result ⊤ E → Option (List W) → List (ℕ × Watched W) → Option (List W) → List (ℕ × Watched W) →
+    Type 0
+LetsIn happened number c (Ok x) before old after new =
+    IsSomeAnd (wire_at c new) (λ w. IsLetIn happened number c before after w.wire)
     × OthersHold c old new
-LetsIn happened c (Err e) before old after new =
+LetsIn happened number c (Err e) before old after new =
     Adds before after [] × ((d : ℕ) → wire_at d new ≡ wire_at d old)
 
 -- what is kept of a connection, among those that linger, was shut; where there was none, none is
@@ -88,10 +96,11 @@ pub record ListensAt {H D W : Type 0} (ip : IpAddr) (numbers : List ℕ)
   pub on_ports : map socket_port (addresses sockets) ≡ numbers
   pub at_ip : AllByRecursion (λ address. socket_ip address ≡ ip) (addresses sockets)
 
--- each door is where its port is said to be, as far as it is known
-abbrev pub AreAt : {D W : Type 0} → (D → Option SocketAddr) → List (Port D W) → Type 0
-AreAt at ports =
-    AllByRecursion (λ port. IfSome (at port.door) (λ address. address ≡ port.address)) ports
+-- each door is where its port is said to be, and what comes there is told under the port's place,
+-- as far as it is known
+abbrev pub AreAt : {D W : Type 0} → (D → Option (SocketAddr × ℕ)) → List (Port D W) → Type 0
+AreAt {D} {W} at ports = (place : ℕ) (port : Port D W) → slice_get ports place ≡ Some port
+    → IfSome (at port.door) (λ known. known ≡ (port.address, place))
 
 -- the connection of a number at the port of an instance, if there is one
 abbrev pub wires_of : {D W : Type 0} → List (Port D W) → ℕ → ℕ → Option (Watched W)
@@ -127,10 +136,11 @@ HappensAt happened connection more old new =
 
 -- a client is let in by the port's own door, as `LetsIn` says, which is where it was; what lingers
 -- is the same
-abbrev pub LetsInAt : {D W E : Type 0} → (W → Option (List WireEvent)) →
-    (D → Option (List W)) → (D → Option SocketAddr) → ℕ → Result ⊤ E → Port D W → Port D W → Type 0
-LetsInAt happened given at connection result old new =
-    LetsIn happened connection result (given old.door) old.wires.entries (given new.door)
+abbrev pub LetsInAt : {D W E : Type 0} → (W → Option (List WireEvent)) → (W → Option ℕ) →
+    (D → Option (List W)) → (D → Option (SocketAddr × ℕ)) → ℕ → Result ⊤ E → Port D W →
+    Port D W → Type 0
+LetsInAt happened number given at connection result old new =
+    LetsIn happened number connection result (given old.door) old.wires.entries (given new.door)
     new.wires.entries × (at new.door ≡ at old.door) × (new.lingering ≡ old.lingering)
 
 -- a connection is closed, as `Closes` says; the door is the same

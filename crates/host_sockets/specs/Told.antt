@@ -1,6 +1,6 @@
 -- What is told of doors and connections: it stays so until a call finds nothing there, and where
 -- something is left of which nothing more is told nobody waits for long.
-use Rattle.std.specs.Prelude.{◌≡◌, ◌⊎◌, ◌||◌, ℕ, Bool, true, min, if◌then◌else◌, nat_lt, List, length, slice_get, IfSome, Option, None, Some, Result, Ok, Err}
+use Rattle.std.specs.Prelude.{◌≡◌, ◌⊎◌, ◌||◌, ℕ, Bool, true, min, if◌then◌else◌, nat_lt, List, length, slice_get, IfSome, Option, None, Some, Result, Ok, Err, ⊤}
 use Rattle.std.specs.List.{AllByRecursion, AllZip, list_any}
 use Rattle.std.specs.HashMap.{values}
 use Rattle.std.specs.IoError.{error_kind}
@@ -25,6 +25,10 @@ abbrev pub StaysToldAt : {D W : Type 0} → ℕ → Result ℕ Error → Port D 
 StaysToldAt connection result old new =
     Turns (λ w v. StaysTold result w.may_read v.may_read)
     (wire_at connection old.wires.entries) (wire_at connection new.wires.entries)
+
+-- that a client may wait stays told, but where none is found
+abbrev pub StaysToldOf : {D W : Type 0} → Result ⊤ Error → Port D W → Port D W → Type 0
+StaysToldOf result old new = StaysTold result old.may_wait new.may_wait
 
 -- it is the same connection, and what is told of it stays so
 pub record IsTold {W : Type 0} (old new : Watched W) : Type 0 where

@@ -1,13 +1,13 @@
 //! The sockets of a host, and its clock.
 #![tactic(auto)]
 
-ghost use Rattle.std.specs.Prelude.{◌≡◌, ◌++◌, ℕ, [], ◌∷◌, None, Some, slice_get, IfOk, OnOk};
+ghost use Rattle.std.specs.Prelude.{◌≡◌, ◌<◌, ◌++◌, ℕ, [], ◌∷◌, None, Some, length, slice_get, IfOk, OnOk};
 ghost use Rattle.std.specs.Io.{ReadsAtMost, WritesAtMost};
 ghost use Rattle.serve.specs.SocketEvents.{Adds, Carries, accept_events, clock, read_events, shutdown_events, write_events};
 ghost use Rattle.wires.specs.Wires as wires;
 ghost use Rattle.host_sockets.specs.Ports.{AreAt, BecomesAt, ClosesAt, HappensAt, IsOpen, LetsInAt, ListensAt, NoneIsOpen, OpenStay, OthersStay, addresses};
 ghost use Rattle.host_sockets.specs.Laid.{AreLaid};
-ghost use Rattle.host_sockets.specs.Told.{ArePassedOn, AreTold, StaysToldAt, wait_of};
+ghost use Rattle.host_sockets.specs.Told.{ArePassedOn, AreTold, StaysToldAt, StaysToldOf, wait_of};
 
 mod counts;
 mod laws;
@@ -19,15 +19,12 @@ use crate::port::Port;
 pub use counts::SocketCounts;
 pub use laws::{what_is_laid, wrong_bodies_are_refused};
 pub use lingering::LINGERING_LIMIT;
-use serve::{Socket, Sockets, is_not_ready};
+use serve::{Socket, Sockets};
 use std::alloc::Global;
 use std::io::{self, ErrorKind};
 use std::net::{IpAddr, SocketAddr};
 use thiserror::Error;
-use wires::{Door, Host, Wire};
-
-/// The most bytes that are dropped of a closed connection at a time.
-const DROP_LIMIT: usize = 16_384;
+use wires::{Door, Host, Wire, is_not_ready};
 
 /// Why there are no sockets.
 #[derive(Debug, Drop, Error)]
@@ -49,8 +46,6 @@ pub struct HostSockets<'a, H: Host> {
     host: H,
     /// By the instances' numbers.
     ports: Vec<Port<H::Door>>,
-    /// Where dropped bytes are read to.
-    room: Vec<u8>,
     /// What the clock showed last.
     moment: u64,
     faults: u64,
@@ -92,7 +87,6 @@ impl<'a, H: Host> HostSockets<'a, H> {
         Ok(HostSockets {
             host,
             ports: Vec::new(alloc),
-            room: vec![in alloc; 0; DROP_LIMIT]?,
             moment: 0,
             faults: 0,
             counts: None,
@@ -141,8 +135,11 @@ impl<'a, H: Host> HostSockets<'a, H> {
 
     fn accept_now(&mut self, socket: Socket) -> io::Result<()>
         ensures open { OnOk result (IsOpen socket.instance socket.connection self.new.ports.items) }
-        ensures own { BecomesAt socket.instance (LetsInAt H.Door.Wire.happened H.Door.given
-            H.Door.at socket.connection result) self.old.ports.items self.new.ports.items }
+        ensures own { BecomesAt socket.instance (LetsInAt H.Door.Wire.happened
+            H.Door.Wire.number H.Door.given H.Door.at socket.connection result)
+            self.old.ports.items self.new.ports.items }
+        ensures told { BecomesAt socket.instance (StaysToldOf result)
+            self.old.ports.items self.new.ports.items }
         ensures others { OthersStay socket.instance self.old.ports.items self.new.ports.items }
     {
         match self.ports.get_mut(socket.instance as usize) {
@@ -152,6 +149,7 @@ impl<'a, H: Host> HostSockets<'a, H> {
     }
 
     fn read_now(&mut self, socket: Socket, room: &mut [u8]) -> io::Result<usize>
+        requires room { 0 < length room.old }
         ensures bound { ReadsAtMost result room.new }
         ensures open { OnOk result (IsOpen socket.instance socket.connection self.old.ports.items) }
         ensures own { BecomesAt socket.instance (HappensAt H.Door.Wire.happened
@@ -186,7 +184,7 @@ impl<'a, H: Host> HostSockets<'a, H> {
         ensures { OpenStay H.Door.Wire.happened self.old.ports.items self.new.ports.items }
     {
         self.moment = self.moment.max(self.passed());
-        port::drop_rest(&mut self.ports, self.moment, &mut self.room);
+        port::drop_rest(&mut self.ports, self.moment, &mut [0; 16_384]);
     }
 
     /// Sends no more on a connection, and keeps it for what its client still sends.
@@ -262,8 +260,11 @@ impl<'a, H: Host> Sockets for HostSockets<'a, H> {
 
     fn accept(&mut self, socket: Socket) -> io::Result<()>
         ensures open { OnOk result (IsOpen socket.instance socket.connection self.new.ports.items) }
-        ensures own { BecomesAt socket.instance (LetsInAt H.Door.Wire.happened H.Door.given
-            H.Door.at socket.connection result) self.old.ports.items self.new.ports.items }
+        ensures own { BecomesAt socket.instance (LetsInAt H.Door.Wire.happened
+            H.Door.Wire.number H.Door.given H.Door.at socket.connection result)
+            self.old.ports.items self.new.ports.items }
+        ensures told { BecomesAt socket.instance (StaysToldOf result)
+            self.old.ports.items self.new.ports.items }
         ensures others { OthersStay socket.instance self.old.ports.items self.new.ports.items }
         ensures adds { Adds None None (accept_events socket result) }
         ensures carries { Carries (AreLaid H.Door.Wire.happened self.old.ports.items)
@@ -275,6 +276,7 @@ impl<'a, H: Host> Sockets for HostSockets<'a, H> {
     }
 
     fn read(&mut self, socket: Socket, room: &mut [u8]) -> io::Result<usize>
+        requires room { 0 < length room.old }
         ensures bound { ReadsAtMost result room.new }
         ensures open { OnOk result (IsOpen socket.instance socket.connection self.old.ports.items) }
         ensures own { BecomesAt socket.instance (HappensAt H.Door.Wire.happened

@@ -3,8 +3,7 @@
 ghost use Rattle.std.specs.Prelude.{◌≡◌};
 ghost use Rattle.host_sockets.specs.Came.{OnlyCame};
 
-use serve::is_not_ready;
-use wires::Wire;
+use wires::{Wire, is_not_ready};
 
 /// For how many milliseconds a closed connection is kept at most, for what its client still sends.
 /// If it went at once while such bytes are unread, the system would reset it, and the client might
@@ -13,6 +12,9 @@ const LINGER: u64 = 2_000;
 
 /// How many closed connections of a port are kept so at a time. Any further one goes at once.
 pub const LINGERING_LIMIT: usize = 64;
+
+/// Where bytes are read to that are dropped: as many at a time.
+pub(crate) type Room = [u8; 16_384];
 
 /// A closed connection, and when it was closed.
 #[derive(Drop)]
@@ -30,7 +32,7 @@ impl<W: Wire> Lingering<W> {
     }
 
     /// Drops what came, and says whether the client may still send more, and is not late.
-    pub(crate) fn drop_more(&mut self, now: u64, room: &mut [u8]) -> bool
+    pub(crate) fn drop_more(&mut self, now: u64, room: &mut Room) -> bool
         ensures { OnlyCame W.happened self.old.wire self.new.wire }
     {
         let is_open = match self.wire.read(room) {

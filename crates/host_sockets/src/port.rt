@@ -1,21 +1,20 @@
 //! The port of an instance.
 
-ghost use Rattle.std.specs.Prelude.{◌≡◌, ◌≤◌, [], IfOk, IfSome, IsSomeAnd, OnOk, Some, length, true};
+ghost use Rattle.std.specs.Prelude.{◌≡◌, ◌<◌, ◌≤◌, [], IfOk, IfSome, IsSomeAnd, OnOk, Some, length, true};
 ghost use Rattle.std.specs.List.{list_any};
 ghost use Rattle.std.specs.Io.{ReadsAtMost, WritesAtMost};
 ghost use Rattle.wires.specs.Wires.{read_events, write_events};
 ghost use Rattle.host_sockets.specs.Ports.{Closes, HappensOn, LetsIn, OnlyClosedGo, OpenStay, has_open, on, wire_at};
-ghost use Rattle.host_sockets.specs.Told.{ArePassedOn, AreTold, IsPassedOn, IsToldOf, OnlyTold, StaysToldAt, has_more, may_read};
+ghost use Rattle.host_sockets.specs.Told.{ArePassedOn, AreTold, IsPassedOn, IsToldOf, OnlyTold, StaysTold, StaysToldAt, has_more, may_read};
 
 use crate::counts::SocketCounts;
-use crate::lingering::{LINGERING_LIMIT, Lingering};
+use crate::lingering::{LINGERING_LIMIT, Lingering, Room};
 use crate::watched::Watched;
 use keyed_maps::{KeyedTable, MapKey};
-use serve::is_not_ready;
 use std::alloc::Global;
 use std::io::{self, ErrorKind};
 use std::net::SocketAddr;
-use wires::{Door, Host, NEWS_LIMIT, News, Wire};
+use wires::{Door, Host, NEWS_LIMIT, News, Wire, is_not_ready};
 
 /// The port of an instance, and the connections to its clients.
 #[derive(Drop)]
@@ -96,8 +95,10 @@ impl<D: Door> Port<D> {
         refusals: Option<&SocketCounts>,
     ) -> io::Result<()>
         ensures open { OnOk result (has_open connection self.new.wires.entries ≡ true) }
-        ensures own { LetsIn D.Wire.happened connection result (D.given self.old.door)
-            self.old.wires.entries (D.given self.new.door) self.new.wires.entries }
+        ensures own { LetsIn D.Wire.happened D.Wire.number connection result
+            (D.given self.old.door) self.old.wires.entries
+            (D.given self.new.door) self.new.wires.entries }
+        ensures waits { StaysTold result self.old.may_wait self.new.may_wait }
         ensures told { IfOk result (λ _. IsSomeAnd (wire_at connection self.new.wires.entries)
             (λ w. w.may_read ≡ true)) }
         ensures at { D.at self.new.door ≡ D.at self.old.door }
@@ -127,6 +128,7 @@ impl<D: Door> Port<D> {
 
     /// Takes bytes that came on a connection, and says how many. `WouldBlock` says that none did.
     pub(crate) fn read(&mut self, connection: u32, room: &mut [u8]) -> io::Result<usize>
+        requires room { 0 < length room.old }
         ensures bound { ReadsAtMost result room.new }
         ensures open { OnOk result (has_open connection self.old.wires.entries ≡ true) }
         ensures own { HappensOn (on D.Wire.happened) connection (read_events result room.new)
@@ -180,7 +182,7 @@ impl<D: Door> Port<D> {
     }
 
     /// Drops what closed connections bring, and lets go of those that are over at this moment.
-    pub(crate) fn drop_rest(&mut self, now: u64, room: &mut [u8])
+    pub(crate) fn drop_rest(&mut self, now: u64, room: &mut Room)
         ensures { OnlyClosedGo D.Wire.happened self.old self.new }
     {
         self.lingering
@@ -190,7 +192,7 @@ impl<D: Door> Port<D> {
 
 /// Drops what closed connections of these ports bring, and lets go of those that are over at this
 /// moment.
-pub(crate) fn drop_rest<D: Door>(ports: &mut [Port<D>], now: u64, room: &mut [u8])
+pub(crate) fn drop_rest<D: Door>(ports: &mut [Port<D>], now: u64, room: &mut Room)
     ensures { OpenStay D.Wire.happened ports.old ports.new }
 {
     for port in ports.iter_mut() {

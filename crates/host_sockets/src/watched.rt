@@ -1,6 +1,6 @@
 //! An open connection, and what is told of it.
 
-ghost use Rattle.std.specs.Prelude.{◌≡◌, ◌||◌, true, false};
+ghost use Rattle.std.specs.Prelude.{◌≡◌, ◌<◌, ◌||◌, length, true, false};
 ghost use Rattle.std.specs.Io.{ReadsAtMost, WritesAtMost};
 ghost use Rattle.wires.specs.Wires.{Adds, read_events, write_events};
 ghost use Rattle.host_sockets.specs.Told.{FindsNothing, StaysTold};
@@ -61,6 +61,7 @@ impl<W: Wire> Watched<W> {
     }
 
     pub(crate) fn read(&mut self, room: &mut [u8]) -> io::Result<usize>
+        requires room { 0 < length room.old }
         ensures bound { ReadsAtMost result room.new }
         ensures adds { Adds (W.happened self.old.wire) (W.happened self.new.wire)
             (read_events result room.new) }

@@ -23,10 +23,11 @@ use Rattle.served_instance.specs.declared.refusal.EventRefusal.TheVariants.{Conn
 use Rattle.served_instance.proofs.Opens.{first_past, open_at_is}
 use Rattle.server_core.specs.Marked.{StandsShortAt}
 use Rattle.server_core.specs.StandsFor.{ServerState, StandsAt}
+use Rattle.wires.specs.Wires.{is_unready}
 use Rattle.serve.specs.declared.carrying.Counting.{Counting}
 use Rattle.serve.specs.declared.open_socket.OpenSocket.{OpenSocket}
 use Rattle.serve.specs.declared.sockets.Socket.{Socket}
-use Rattle.serve.specs.SocketEvents.{SocketEvent, PortEvent, port, failed, accepted, read, written, shut, is_unready, failure_events, moment_after, moment_of, Adds, AddsAll}
+use Rattle.serve.specs.SocketEvents.{SocketEvent, PortEvent, port, failed, accepted, read, written, shut, failure_events, moment_after, moment_of, Adds, AddsAll}
 use Rattle.serve.specs.RunEvents.{RunEvent, ordered}
 use Rattle.serve.specs.Happenings.{event_told}
 use Rattle.serve.specs.Closings.{Client, HasTurnedAway, IsFaulty, IsFull, IsIdle, IsSilent, MakesRoom, MayBeShut, not_there, faulty, left, gives_way, own_from, own_past, silence_limit}

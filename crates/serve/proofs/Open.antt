@@ -1,9 +1,10 @@
 -- What a server has open, as more happens.
-use Rattle.std.proofs.Common.{◌≡◌, ◌≢◌, ℕ, ◌<◌, ◌+◌, List, [], ◌∷◌, ◌++◌, map, length, take, drop, get_or, refl, ap, ◌∙◌, sym, subst, add-one, inl, inr, append-nil}
+use Rattle.std.proofs.Common.{◌≡◌, ◌≢◌, ℕ, ◌<◌, ◌≤◌, ◌+◌, List, [], ◌∷◌, ◌++◌, map, length, take, drop, get_or, refl, ap, ◌∙◌, sym, subst, arith, add-one, inl, inr, append-nil}
 use Rattle.std.specs.Prelude.{◌==◌, ◌||◌, min, fold, Bool, true, false, Option, Some, None, IfSome}
 use Rattle.std.specs.List.{AllByRecursion, list_any}
 use Rattle.std.proofs.Math.ListN.{set}
-use Rattle.std.proofs.lemmas.Bool.{eq-eqb, ne_eqb, true≢false}
+use Rattle.std.proofs.lemmas.Bool.{cases_lt, eq-eqb, ne_eqb, true≢false}
+use Rattle.std.proofs.lemmas.Bool.Decides.{eqb_tells}
 use Rattle.std.proofs.lemmas.List.{map-append, set-get_or, set_split}
 use Rattle.std.proofs.lemmas.List.Folds.{list_any-append}
 use Rattle.std.proofs.lemmas.List.Sums.{fold_push}
@@ -264,6 +265,33 @@ any_mapped n (c ∷ cs) = ap (λ (b : Bool). (c.socket.connection == n) || b) (a
 
 pub found_free : (n number : ℕ) (cs : List OpenSocket) (answer : Bool) → n ≢ number → answer ≡ list_any (λ (c : OpenSocket). c.socket.connection == n) cs → answer ≡ false → IsNext number (sockets_of cs) (Some n)
 found_free n number cs answer ne is free = (ne, any_mapped n cs ∙ sym is ∙ free)
+
+-- all of these numbers are taken
+abbrev pub AreTaken : List OpenSocket → ℕ → ℕ → Type 0
+AreTaken cs first end = (n : ℕ) → first ≤ n → n < end → is_taken n (sockets_of cs) ≡ true
+
+pub none_taken : (cs : List OpenSocket) (n : ℕ) → AreTaken cs n n
+none_taken cs n m le lt = absurd (omega (arith, le, lt))
+
+-- one more is
+pub one_taken : (cs : List OpenSocket) (first end n : ℕ) (answer : Bool) → end ≡ n → answer ≡ list_any (λ (c : OpenSocket). c.socket.connection == n) cs → answer ≡ true → AreTaken cs first end → AreTaken cs first (n + 1)
+one_taken cs first end n answer so is taken before m le lt = elim (eqb_tells m n) [
+  | inl t ↦ subst (λ (k : ℕ). is_taken k (sockets_of cs) ≡ true) (sym t.1) (any_mapped n cs ∙ sym is ∙ taken)
+  | inr t ↦ before m le (below m t.1 lt)
+]
+  where
+    below : (m : ℕ) → m ≢ n → m < n + 1 → m < end
+    below m apart lt = omega (arith, apart, lt, so)
+
+pub all_taken : (cs : List OpenSocket) (number top : ℕ) → AreTaken cs (number + 1) top → AreTaken cs 0 number
+    → (n : ℕ) → n < top → n ≢ number → is_taken n (sockets_of cs) ≡ true
+all_taken cs number top above below n lt apart = elim (cases_lt n number) [
+  | inl less ↦ below n (omega arith) less
+  | inr more ↦ above n (beyond more) lt
+]
+  where
+    beyond : number ≤ n → number + 1 ≤ n
+    beyond more = omega (arith, more, apart)
 
 -- ---- by their places
 

@@ -1,6 +1,6 @@
 -- Why a connection is closed: for a reason of its own instance, and of no other one. To be read from
 -- `MayBeShut` up.
-use Rattle.std.specs.Prelude.{◌≡◌, ◌-◌, ◌+◌, ◌≤◌, ◌==◌, ℕ, Bool, true, false, nat_lt, if◌then◌else◌, List, [], ◌∷◌, ◌++◌, length, fold, Some, None, IsSomeAnd}
+use Rattle.std.specs.Prelude.{◌≡◌, ◌⊎◌, ◌-◌, ◌+◌, ◌≤◌, ◌==◌, ℕ, Bool, true, false, nat_lt, if◌then◌else◌, List, [], ◌∷◌, ◌++◌, length, fold, Some, None, IsSomeAnd}
 use Rattle.std.specs.Option.{option_map}
 use Rattle.served_instance.specs.Bytes.{pending_bytes}
 use Rattle.served_instance.specs.CallsInCourse.{has_calls}
@@ -89,6 +89,10 @@ pub record MakesRoom (m c : ℕ) (past : List (ℕ × SocketEvent)) (l : LoneIns
 abbrev pub IsFaulty : ℕ → LoneInstance → Type 0
 IsFaulty c l = IsSomeAnd (open_at c l.connections)
     (λ p. (has_failed p.history ≡ true) × (pending_bytes p.history ≡ []))
+
+-- the instance has no such connection open, or is done with it
+abbrev pub IsOver : ℕ → LoneInstance → Type 0
+IsOver c l = (open_at c l.connections ≡ None) ⊎ IsFaulty c l
 
 -- at moment m, where this happened at the port of an instance, which has come to l, and nothing
 -- else is asked

@@ -1,6 +1,6 @@
 -- Which sockets are open while a server serves, under which numbers, and what is known of their
 -- clients. For the code alone: `Numbers.antt` and `Closings.antt` say what comes of it.
-use Rattle.std.specs.Prelude.{◌≡◌, ◌≢◌, ◌<◌, ◌==◌, ◌⊎◌, ℕ, min, Bool, true, false, List, [], ◌∷◌, ◌++◌, map, Contains, Option, IfSome}
+use Rattle.std.specs.Prelude.{◌≡◌, ◌≢◌, ◌<◌, ◌==◌, ◌⊎◌, ◌^◌, ℕ, min, Bool, true, false, List, [], ◌∷◌, ◌++◌, map, Contains, Option, Some, None, IfSome}
 use Rattle.std.specs.List.{AllByRecursion, list_any}
 use Rattle.served_instance.specs.Lone.{LoneInstance}
 use Rattle.server_core.specs.StandsFor.{ServerState, StandsAt}
@@ -42,10 +42,11 @@ abbrev pub AreApart : List Socket → Type 0
 AreApart [] = Unit {0}
 AreApart (s ∷ sockets) = (is_taken s.connection sockets ≡ false) × AreApart sockets
 
--- a number that none of them has, and that is not this one
+-- a number that none of them has, and that is not this one; none only where all others are taken
 abbrev pub IsNext : ℕ → List Socket → Option ℕ → Type 0
-IsNext number sockets next =
-    IfSome next (λ n. (n ≢ number) × (is_taken n sockets ≡ false))
+IsNext number sockets (Some n) = (n ≢ number) × (is_taken n sockets ≡ false)
+IsNext number sockets None =
+    (n : ℕ) → n < 2 ^ 32 → n ≢ number → is_taken n sockets ≡ true
 
 -- what is known of a client is what happened
 abbrev pub client_at : Socket → List SocketEvent → Client

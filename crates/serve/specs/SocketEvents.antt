@@ -1,11 +1,10 @@
 -- What happens at the sockets of a server, and which event of its instance it is.
-use Rattle.std.specs.Prelude.{◌≡◌, ◌⊎◌, ℕ, Bool, true, false, if◌then◌else◌, List, [], ◌∷◌, ◌++◌, length, take, fold, Option, None, Result, Ok, Err, ⊤}
+use Rattle.std.specs.Prelude.{◌≡◌, ◌⊎◌, ℕ, if◌then◌else◌, List, [], ◌∷◌, ◌++◌, length, take, fold, Option, None, Result, Ok, Err, ⊤}
 use Rattle.std.specs.Option.{option_map}
 use Rattle.std.specs.IoError.{error_kind}
 use Rattle.std.specs.declared.io.Error.{Error}
-use Rattle.std.specs.declared.io.ErrorKind.{ErrorKind}
-use Rattle.std.specs.declared.io.ErrorKind.TheVariants.{Interrupted, WouldBlock}
 use Rattle.server_events.specs.Events.{WhatValue, opened, received, took, closed}
+use Rattle.wires.specs.Wires.{is_unready}
 use Rattle.serve.specs.declared.sockets.Socket.{Socket}
 
 -- at a port a connection was accepted under a number; these bytes were read from it; these were
@@ -24,12 +23,6 @@ pub data SocketEvent : Type 0 where
   failed : ℕ → ℕ → SocketEvent
 
 -- ---- what a call of the sockets adds, by its result
-
--- nothing can be moved now, and may be later
-abbrev pub is_unready : ErrorKind → Bool
-is_unready WouldBlock = true
-is_unready Interrupted = true
-is_unready kind = false
 
 abbrev pub failure_events : Socket → Error → List SocketEvent
 failure_events at e =

@@ -1,11 +1,10 @@
 //! What is moved between one connection's socket and the server.
 
-ghost use Rattle.std.specs.Prelude.{◌≡◌, ◌≤◌, ◌⊎◌, ◌∷◌, [], length, take, true, Some, None, option_map, IfSome, IfOk};
+ghost use Rattle.std.specs.Prelude.{◌≡◌, ◌≤◌, ◌∷◌, [], length, take, true, None, IfSome, IfOk};
 ghost use Rattle.served_instance.specs.Connections.{open_at};
-ghost use Rattle.served_instance.specs.History.{has_failed};
 ghost use Rattle.served_instance.specs.Lone.{LoneInstance};
 ghost use Rattle.server_core.specs.StandsFor.{StandsAt};
-ghost use Rattle.serve.specs.Closings.{IsFaulty};
+ghost use Rattle.serve.specs.Closings.{IsOver};
 ghost use Rattle.serve.specs.SocketEvents.{Adds, port, shut};
 ghost use Rattle.serve.specs.KeepsOpen.{IsGoneAt, MayClose, StayOpen, StayOpenAs, StayOpenBut, StayOpenUnless};
 ghost use Rattle.serve.specs.KeepsServing.{KeepsServingAt};
@@ -87,6 +86,7 @@ static BLANK: [u8; READ_LIMIT] = [0; READ_LIMIT];
 /// Makes room for so many bytes, and says whether it is there.
 fn has_room(room: &mut Vec<u8>, size: usize) -> bool
     requires { size ≤ 16384 }
+    ensures made { result ≡ true → length room.new.items ≡ size }
 {
     room.truncate(size);
     room.extend_from_slice(&BLANK[room.len()..size]).is_ok()
@@ -212,32 +212,32 @@ fn send<S: Sockets, R: Runs>(
     }
 }
 
-/// The error that was met on a connection, if one was.
-fn fault_on(server: &Server, socket: Socket) -> Option<Occurrence>
-    ensures { IfSome result (λ _. (l : LoneInstance)
-        → StandsAt socket.instance server.now.instances l
-        → option_map (λ p. has_failed p.history) (open_at socket.connection l.connections)
-        ≡ Some true) }
-{
-    match server.ended(socket.instance, socket.connection) {
-        Some(true) => {
-            let served = server.instance(socket.instance)?;
-            Some(Occurrence::Faulty(served.failure(socket.connection)?))
-        }
-        _ => None,
+/// The error that was met on a connection, for an operator.
+fn fault_on(server: &Server, socket: Socket) -> Occurrence {
+    let failure = match server.instance(socket.instance) {
+        Some(served) => served.failure(socket.connection),
+        None => None,
+    };
+    match failure {
+        Some(code) => Occurrence::Faulty(code),
+        None => Occurrence::Broken,
     }
 }
 
 /// Why the connection is to be closed, if it is: the server let go of it, where memory was refused;
 /// or an error of it was met, and the client was sent all that waited for it.
 fn ending_of(server: &Server, socket: Socket) -> Option<Occurrence>
-    ensures { IfSome result (λ _. (l : LoneInstance)
-        → StandsAt socket.instance server.now.instances l
-        → (open_at socket.connection l.connections ≡ None) ⊎ IsFaulty socket.connection l) }
+    ensures reason { IfSome result (λ _. (l : LoneInstance)
+        → StandsAt socket.instance server.now.instances l → IsOver socket.connection l) }
+    ensures all { result ≡ None → (l : LoneInstance)
+        → StandsAt socket.instance server.now.instances l → IsOver socket.connection l → ⊥ }
 {
     match server.pending(socket.instance, socket.connection) {
         None => Some(Occurrence::Broken),
-        Some([]) => fault_on(server, socket),
+        Some([]) => match server.ended(socket.instance, socket.connection) {
+            Some(true) => Some(fault_on(server, socket)),
+            _ => None,
+        },
         Some(_) => None,
     }
 }
@@ -288,6 +288,9 @@ pub(crate) fn exchange<S: Sockets, R: Runs>(
     ensures stays { StayOpenUnless result moment opened.old opened.new
         (S.happened sockets.old) (S.happened sockets.new) }
     ensures socket { opened.new.socket ≡ opened.old.socket }
+    ensures over { (l : LoneInstance)
+        → StandsAt opened.old.socket.instance counting.new.server.instances l
+        → IsOver opened.old.socket.connection l → result ≡ Tried.Over }
 {
     let received = receive_all(alloc, counting, sockets, runs, moment, opened, rooms);
     let socket = opened.socket;

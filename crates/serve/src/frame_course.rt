@@ -1,6 +1,6 @@
 //! How far the frame reaches that comes in on a connection.
 
-ghost use Rattle.std.specs.Prelude.{◌≤◌};
+ghost use Rattle.std.specs.Prelude.{◌<◌, ◌≤◌};
 
 /// The most bytes that are read from a connection at a time.
 pub(crate) const READ_LIMIT: usize = 16_384;
@@ -47,7 +47,8 @@ impl FrameCourse {
 
     /// How many bytes are read now at most: the rest of a payload, or a short piece.
     pub(crate) fn read_limit(&self) -> usize
-        ensures { result ≤ 16384 }
+        ensures some { 0 < result }
+        ensures bound { result ≤ 16384 }
     {
         if self.left > 0 {
             READ_LIMIT.min(self.left as usize)

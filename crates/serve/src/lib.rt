@@ -26,5 +26,5 @@ pub use logged::{LoggedSockets, SocketRecord};
 pub use logged_runs::{LoggedRuns, RunRecord};
 pub use runs::Runs;
 pub use serving::{Tally, serve};
-pub use sockets::{Socket, Sockets, is_not_ready};
+pub use sockets::{Socket, Sockets};
 pub use watch::{Nobody, Sight, Watch};

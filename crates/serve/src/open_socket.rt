@@ -73,7 +73,8 @@ impl OpenSocket {
 
     /// How many bytes are read from it now at most.
     pub(crate) fn read_limit(&self) -> usize
-        ensures { result ≤ 16384 }
+        ensures some { 0 < result }
+        ensures bound { result ≤ 16384 }
     {
         self.course.read_limit()
     }

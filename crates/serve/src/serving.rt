@@ -39,17 +39,17 @@ fn is_taken(connections: &[OpenSocket], number: u32) -> bool
         .any(|open| open.socket.connection == number)
 }
 
-/// The next number that no open socket has. There is one: of one number more than there are sockets
-/// one is free.
+/// The next number that no open socket has, in a circle. There is none only where all others are
+/// taken.
 fn number_after(connections: &[OpenSocket], number: u32) -> Option<u32>
     ensures { IsNext number (sockets_of connections.now) result }
 {
-    let mut next = number;
-    for _ in 0..=connections.len() {
-        next = next.wrapping_add(1);
-        if next == number {
-            return None;
+    for before in number..u32::MAX {
+        if !is_taken(connections, before + 1) {
+            return Some(before + 1);
         }
+    }
+    for next in 0..number {
         if !is_taken(connections, next) {
             return Some(next);
         }

@@ -1,22 +1,36 @@
 //! Connections to clients, and the doors at which these come, one by one.
 #![tactic(auto)]
 
-ghost use Rattle.std.specs.Prelude.{◌≡◌, ℕ, [], ◌∷◌, List, Option, None};
+ghost use Rattle.std.specs.Prelude.{◌≡◌, ◌<◌, ℕ, [], ◌∷◌, List, Option, None, length};
 ghost use Rattle.std.specs.Io.{ReadsAtMost, WritesAtMost};
+ghost use Rattle.std.specs.IoError.{error_kind};
+ghost use Rattle.wires.specs.Wires.{is_unready};
 
-use std::io;
+use std::io::{self, ErrorKind};
 use std::net::SocketAddr;
 
-/// A connection to a client. No call waits: where one cannot be carried out now, it answers
-/// `WouldBlock` or `Interrupted`. Where it is dropped, it is closed.
+/// Nothing can be moved now, and may be later.
+pub fn is_not_ready(error: &io::Error) -> bool
+    ensures { result ≡ is_unready (error_kind error.now) }
+{
+    matches!(error.kind(), ErrorKind::WouldBlock | ErrorKind::Interrupted)
+}
+
+/// A connection to a client. No call waits: where one cannot be carried out now, it answers an
+/// error for which [`is_not_ready`] holds. Where it is dropped, it is closed.
 pub trait Wire: Drop {
     ghost use Rattle.wires.specs.Wires.{WireEvent, Adds, read_events, write_events, shut};
 
     // All that happened on it, in order, where it is known.
     ghost happened: { Self → Option (List WireEvent) } = { λ _. None };
 
-    /// Takes bytes that came, and says how many. With none the client sends no more.
+    // Under which number what comes on it is told, where that is known.
+    ghost number: { Self → Option ℕ } = { λ _. None };
+
+    /// Takes bytes that came, and says how many. With none the client sends no more: no room for
+    /// any would be taken for that.
     fn read(&mut self, room: &mut [u8]) -> io::Result<usize>
+        requires room { 0 < length room.old }
         ensures bound { ReadsAtMost result room.new }
         ensures adds { Adds (happened self.old) (happened self.new)
             (read_events result room.new) };
@@ -36,14 +50,14 @@ pub trait Wire: Drop {
 /// Where clients come.
 pub trait Door: Drop {
     ghost use Rattle.wires.specs.Wires.{Adds, IsNew, let_in};
-    ghost use Rattle.std.specs.Prelude.{IfOk};
+    ghost use Rattle.std.specs.Prelude.{IfOk, IfSome};
     ghost use Rattle.std.specs.declared.net.socket_addr.SocketAddr.{SocketAddr};
 
     /// A connection to one of its clients.
     type Wire: Wire;
 
-    // Where it was opened, where it is known.
-    ghost at: { Self → Option SocketAddr } = { λ _. None };
+    // Where it was opened, and under which place what comes there is told, where it is known.
+    ghost at: { Self → Option (SocketAddr × ℕ) } = { λ _. None };
 
     // All that it let in, in order, where it is known.
     ghost given: { Self → Option (List Self.Wire) } = { λ _. None };
@@ -53,6 +67,7 @@ pub trait Door: Drop {
     fn next(&mut self, number: u32) -> io::Result<Self::Wire>
         ensures adds { Adds (given self.old) (given self.new) (let_in result) }
         ensures new { IfOk result (λ wire. IsNew (Self.Wire.happened wire)) }
+        ensures number { IfOk result (λ wire. IfSome (Self.Wire.number wire) (λ n. n ≡ number)) }
         ensures stays { at self.new ≡ at self.old };
 
     /// The number of its port, which the system may have chosen.
@@ -92,7 +107,8 @@ pub trait Host: Drop {
 
     /// Opens a door at an address. What comes there is told of this place from then on.
     fn open(&mut self, address: SocketAddr, place: usize) -> io::Result<Self::Door>
-        ensures at { IfOk result (λ door. IfSome (Self.Door.at door) (λ at. at ≡ address)) };
+        ensures at { IfOk result (λ door. IfSome (Self.Door.at door)
+            (λ at. at ≡ (address, place))) };
 
     /// Learns what came at doors and on wires, some of it or all, and waits for it for at most so
     /// many milliseconds. Of a door or a wire nothing more is told until a call there answered

@@ -1,4 +1,9 @@
+use Rattle.std.proofs.Common.{◌+◌}
+use Rattle.serve.proofs.Open.{AreTaken}
 use Rattle.serve.proofs.serving.number_after.Given as goal
 
-abbrev pub invariant-loop : goal.invariant-loop
-invariant-loop l = Unit {0}
+abbrev pub invariant-loop-before : goal.invariant-loop-before
+invariant-loop-before l = AreTaken l.connections (l.number + 1) (l.before + 1)
+
+abbrev pub invariant-loop-next : goal.invariant-loop-next
+invariant-loop-next l = AreTaken l.connections 0 l.next

@@ -1,6 +1,6 @@
 //! Going on with the runs of jobs, and what the server is told of them.
 
-ghost use Rattle.std.specs.Prelude.{◌≡◌, ℕ, List, Option, IfSome};
+ghost use Rattle.std.specs.Prelude.{◌≡◌, ℕ, List, Option, IfSome, false, min, true};
 ghost use Rattle.run_calls.specs.declared.task.RunKey.{RunKey};
 ghost use Rattle.serve.specs.FaultLines.{IsSaid, TellsAnswer, TellsFault, WritesLinesAt};
 ghost use Rattle.serve.specs.RunEvents.{fault_events, gave_events, outcome_events};
@@ -16,6 +16,9 @@ use run_outcomes::Outcome;
 use runner::RunFault;
 use server_events::{Configs, What};
 use std::io::Write;
+
+/// How many runs are asked at most in a millisecond where all wait.
+const MOST_WAITING: usize = 64;
 
 /// How much is told at most of what was said last.
 const MOST_SAID: u32 = 200;
@@ -111,8 +114,25 @@ fn ask<R: Runs, E: Write>(
     }
 }
 
+/// How many of so many runs are asked in a turn. Where none can go on at once, all wait for programs
+/// or folders: some are asked then where it is due, once a millisecond, and else none.
+fn most_asked(count: usize, is_busy: bool, is_due: bool) -> usize
+    ensures busy { is_busy ≡ true → result ≡ count }
+    ensures due { is_busy ≡ false → is_due ≡ true → result ≡ min count 64 }
+    ensures waiting { is_busy ≡ false → is_due ≡ false → result ≡ 0 }
+{
+    if is_busy {
+        count
+    } else if is_due {
+        count.min(MOST_WAITING)
+    } else {
+        0
+    }
+}
+
 /// Goes on with each run, or with as many as it takes until the clock goes on: the next turn begins
-/// with the others. It says whether a run can go on at once.
+/// with the others. Where all wait for programs or folders, a share of them is asked once a
+/// millisecond, which is when they are due. It says whether a run can go on at once.
 pub(crate) fn ask_all<S: Sockets, R: Runs, E: Write>(
     counting: &mut Counting,
     configs: &Configs,
@@ -120,6 +140,7 @@ pub(crate) fn ask_all<S: Sockets, R: Runs, E: Write>(
     runs: &mut R,
     errors: &mut ErrorLines<E>,
     moment: u64,
+    is_due: bool,
 ) -> bool
     ensures serving { (count : ℕ) (known : Option (List SocketEvent)) → KeepsServing count
         known (R.happened runs.old) counting.old moment
@@ -128,7 +149,8 @@ pub(crate) fn ask_all<S: Sockets, R: Runs, E: Write>(
         (E.contents errors.old.output) errors.old.backlog
         (E.contents errors.new.output) errors.new.backlog }
 {
-    for _ in 0..runs.count() {
+    let most = most_asked(runs.count(), runs.is_busy(), is_due);
+    for _ in 0..most {
         let Some(run) = runs.next() else {
             break;
         };

@@ -160,14 +160,23 @@ impl Serving {
             (E.contents errors.new.output) errors.new.backlog }
     {
         self.keep_time(sockets, runs);
+        let is_due = self.tried != Some(self.moment);
         let mut moved = false;
-        if self.tried != Some(self.moment) {
+        if is_due {
             self.tried = Some(self.moment);
             moved = self.open_all(sockets, runs);
         }
         let exchanged = self.exchange_all(sockets, runs);
         let counting = &mut self.counting;
-        let is_busy = ask_all(counting, configs, sockets, runs, errors, self.moment);
+        let is_busy = ask_all(
+            counting,
+            configs,
+            sockets,
+            runs,
+            errors,
+            self.moment,
+            is_due,
+        );
         moved || exchanged || is_busy
     }
 
@@ -430,8 +439,9 @@ pub struct Tally {
 /// the preface is not whole.
 ///
 /// What an instance orders is carried out at once. In each turn the runs go on, one after another,
-/// until the clock goes on. A fault of a run is the outcome of a job that failed, and a line of
-/// `errors`, which is not waited for.
+/// until the clock goes on; where all wait for programs or folders, 64 of them at most, once a
+/// millisecond. A fault of a run is the outcome of a job that failed, and a line of `errors`, which
+/// is not waited for.
 ///
 /// `numbers`: between two connections that are accepted under one number at the port of an instance
 /// the first is closed.

@@ -11,7 +11,7 @@ use Rattle.run_outcomes.specs.declared.outcome.Outcome.TheVariants as outcomes
 use Rattle.std.specs.declared.io.ErrorKind.{ErrorKind}
 use Rattle.std.specs.declared.io.ErrorKind.TheVariants.{OutOfMemory, ConnectionAborted}
 use Rattle.runner.specs.declared.fault.RunFault.{RunFault}
-use Rattle.runner.specs.declared.fault.RunFault.TheVariants.{Left}
+use Rattle.runner.specs.declared.fault.RunFault.TheVariants.{Folder, Start, Launcher, TooLarge, NoMemory, Left}
 use Rattle.runner.specs.declared.stage.Making.{Making}
 use Rattle.runner.specs.declared.stage.Making.TheVariants as makings
 use Rattle.runner.specs.declared.stage.Stage.{Stage}
@@ -128,7 +128,11 @@ IsNotLeft f = Unit {0}
 
 own_not_left : (fault : RunFault) → IsOwnFault fault → IsNotLeft fault
 own_not_left Left own = own
-own_not_left fault own = tt
+own_not_left TooLarge own = tt
+own_not_left NoMemory own = tt
+own_not_left Folder own = tt
+own_not_left Start own = tt
+own_not_left Launcher own = tt
 
 folder_not_left : (kind : ErrorKind) → IsNotLeft (folder_fault kind)
 folder_not_left OutOfMemory = tt

@@ -1,5 +1,6 @@
 #!/usr/bin/env python3
-"""executions.py PROGRAM [PART ..] [--count N] [--seconds N] [--in DIR]: what running actions costs a server, and others.
+"""executions.py PROGRAM [PART ..] [--count N] [--seconds N] [--in DIR] [--pictures FOLDER]: what running
+actions costs a server, and others.
 
 PROGRAM is the built `remoted`. The parts, all of them if none is given:
   rates   one client has /bin/true run N times (2,000), with 4 and with 64 slots: actions a second, the server's
@@ -25,6 +26,7 @@ HERE = os.path.dirname(os.path.abspath(__file__))
 sys.path.insert(0, os.path.join(HERE, "..", "tests", "clients"))
 
 import messages as m  # noqa: E402
+import pictures  # noqa: E402
 from executing import EXECUTE, Action, Operation, Peer  # noqa: E402
 from server import Server  # noqa: E402
 
@@ -57,6 +59,7 @@ def executed(peer, action, count, at_once):
 
 def rates(options):
     action = Action([TRUE], variables=(), do_not_cache=True)
+    rows = []
     for slots in [4, 64]:
         with tempfile.TemporaryDirectory(dir=options.below) as folder, Server(
             options.program, [("main", 10**9, slots)], 2**62, None, folder
@@ -67,15 +70,17 @@ def rates(options):
             passed = executed(peer, action, options.count, min(100, 2 * slots))
             each = lambda used: used / options.count * 1e6
             own, children = each(server.cpu_seconds() - own), each(server.children_seconds() - children)
+            rows.append((f"{slots} slots", {"actions": round(options.count / passed)}))
             line = f"{TRUE}, {slots} slots: {options.count / passed:,.0f} actions/s"
             print(
                 f"{line}, {own:,.0f} us of the server's processor time an action, {children:,.0f} of its children's",
                 flush=True,
             )
-    plain(options)
+    plain(options, rows)
+    pictures.bars(options.pictures, "rates", f"Runs of {TRUE}", "a second", rows)
 
 
-def plain(options):
+def plain(options, rows):
     with tempfile.TemporaryDirectory(dir=options.below) as folder:
         program = os.path.join(folder, "plain_runs")
         subprocess.run(["cc", "-O2", "-o", program, os.path.join(HERE, "plain_runs.c")], check=True)
@@ -89,6 +94,7 @@ def plain(options):
                     check=True,
                 )
                 rate, own, children = (float(word) for word in told.stdout.split())
+                rows.append((f"plainly, {os.path.basename(words[0])}, {at_once} at a time", {"actions": round(rate)}))
                 line = f"plainly, {' '.join(words)}, {at_once} at a time: {rate:,.0f} runs/s"
                 print(f"{line}, {own:,.0f} us of processor time a run, {children:,.0f} of its children's", flush=True)
 
@@ -130,14 +136,18 @@ def times(port, seconds):
     return sorted(sent), sorted(due)
 
 
+def part(found, share):
+    return found[min(len(found) - 1, int(len(found) * share))]
+
+
 def shown(sent, due):
-    part = lambda found, share: found[min(len(found) - 1, int(len(found) * share))]
     line = f"median {part(sent, 0.5):.2f} ms, 99th percentile {part(sent, 0.99):.2f} ms, longest {sent[-1]:.1f} ms"
     return f"{line}; of those due each 2 ms {part(due, 0.5):.2f}, {part(due, 0.99):.2f} and {due[-1]:.1f} ms"
 
 
 def beside(options):
     kinds = [[], ["outputs of 100 MB"], ["trees of 10,000 files"], ["outputs of 100 MB", "trees of 10,000 files"]]
+    rows = []
     for names in kinds:
         with Server(options.program, [("calm", 10**9, 0), ("busy", 2 * 10**9, 4)], 2**62) as server:
             with tempfile.TemporaryDirectory() as folder:
@@ -155,12 +165,15 @@ def beside(options):
                 lines = [line for name in os.listdir(folder) for line in open(os.path.join(folder, name))]
                 ran, faults = lines.count("ran\n"), [line for line in lines if line.startswith("FAULT")]
             what = " and ".join(names) or "alone"
+            sent = found[0]
+            rows.append((what, {"99th percentile": round(part(sent, 0.99), 2), "longest": round(sent[-1], 2)}))
             print(
                 f"FindMissingBlobs of 10, {what}: {shown(*found)}; {ran} actions ran, {used:.0%} of a processor",
                 flush=True,
             )
             if faults:
                 raise SystemExit(f"{len(faults)} actions failed: {faults[0]}")
+    pictures.bars(options.pictures, "beside", "FindMissingBlobs beside actions of others", "ms", rows)
 
 
 # replay
@@ -202,6 +215,8 @@ def replay(options):
     each = replayed(options.program)
     for kind, used in each.items():
         print(f"{kind}: {used:,.1f} us of processor time", flush=True)
+    rows = [(kind, {"us": round(used, 1)}) for kind, used in each.items()]
+    pictures.bars(options.pictures, "replay", "Processor time of calls", "us", rows)
     for outputs in ["", "10"]:
         result, cached = each["result" + outputs], each["cached" + outputs]
         less = (cached - each["read"]) / (result - each["read"])
@@ -223,6 +238,7 @@ def main():
     parser.add_argument("--count", type=int, default=2_000)
     parser.add_argument("--seconds", type=int, default=10)
     parser.add_argument("--in", dest="below", default="/dev/shm")
+    pictures.add_option(parser)
     options = parser.parse_args()
     parts = {"rates": rates, "beside": beside, "replay": replay}
     for name in options.parts or parts:

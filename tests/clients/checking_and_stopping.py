@@ -115,7 +115,7 @@ def stop(program):
         expect((done.returncode, done.stdout, done.stderr) == (1, "", told), "a file that is there is a fault", done)
         words[5:6] = [str(path) + ".new", "--metrics", str(path)]
         done = subprocess.run(words, capture_output=True, text=True)
-        told = f"remoted: writing {path} would make {path}.new\n"
+        told = f"remoted: --stop names {path}.new, which --metrics writes first\n"
         expect((done.returncode, done.stderr) == (2, told), "one file for both is a fault", done)
     ports_close_first(program, mark)
     stop_as_the_unit(program, mark)
@@ -184,8 +184,8 @@ def listen(program):
             words = [program, "serve", "--work", "/nowhere", "--listen", address, f"red:{port}:1:0"]
             done = subprocess.run(words, capture_output=True, text=True)
             told = f"[{address}]:{port}" if ":" in address else f"{address}:{port}"
-            told = f"remoted: cannot listen on {told}: Address already in use (os error 98)\n"
-            expect((done.returncode, done.stderr) == (1, told), told.strip(), done)
+            told = f"remoted: cannot listen on {told}\nremoted: port {port}: Address already in use (os error 98)\n"
+            expect((done.returncode, done.stderr) == (1, told), told.split("\n")[0], done)
     done = subprocess.run([*words[:4], "--listen", "localhost", "red:1:1:0"], capture_output=True, text=True)
     told = "remoted: --listen is no IPv4 or IPv6 address: localhost\n"
     expect((done.returncode, done.stderr) == (2, told), told.strip(), done)

@@ -4,9 +4,9 @@
 PROGRAM is the built `remoted`. Each command line is run by itself, and its status, its standard output and its standard
 error are compared whole. Words that are wrong for an instance, ports that are taken, folders that cannot be made or
 taken, files that cannot be read, scripts with bad lines, ends of `probe`, words that are not UTF-8, streams that are
-closed, limits of the host; and what a server says of itself at its start. What is said of the command line's own form
-(a missing option, `--help`) is not compared here. A line for each, `ok` or `FAILED` with what came; it ends with
-`N passed, M failed`, and with status 1 where one failed.
+closed, limits of the host; and what a server says of itself at its start. Of the command line's own form (a missing
+option, `--help`) only what is said of the four numbers is compared. A line for each, `ok` or `FAILED` with what came; it
+ends with `N passed, M failed`, and with status 1 where one failed.
 """
 
 import argparse
@@ -72,6 +72,28 @@ BAD_WORDS = [
 ]
 
 
+# The numbers of an operator: what is said of one that is none, and some that are none.
+BETWEEN = {
+    "--blobs": "error: invalid value '{0}' for '--blobs <N>': {0} is not in 1..=2147483648",
+    "--results": "error: invalid value '{0}' for '--results <N>': {0} is not in 0..=2147483648",
+    "--result-bytes": "error: --result-bytes is not a number of bytes from 4194304 to 2147483648, as 64M or 2G",
+    "--window": "error: --window is not a number of bytes from 65535 to 2147483647, as 64K or 4M",
+}
+BAD_NUMBERS = {
+    "--blobs": ["0", "2147483649"],
+    "--results": ["2147483649"],
+    "--result-bytes": ["4194303", "3M", "2147483649", "3G", "64m", "64MB", "M", ""],
+    "--window": ["65534", "63K", "2147483648", "2G", "1T", "4M4", "x"],
+}
+# What `--help` says that each costs.
+COSTS = {
+    "--blobs": "some 570 bytes of memory for each blob that is there",
+    "--results": "some 250 bytes for each result that is there",
+    "--result-bytes": "as many bytes as results have; they count in no quota",
+    "--window": "nothing by itself: an upload has at most so many bytes on its way",
+}
+
+
 class Checks:
     """Runs of the program, whose whole answers are compared."""
 
@@ -127,13 +149,28 @@ def words_for_instances(checks):
     checks.tell("nothing was made", (0, os.path.lexists(os.path.join(checks.folder, "work")), ""), (0, False, ""))
 
 
+def numbers(checks):
+    """What is said of numbers out of their bounds, and what `--help` says that they cost."""
+    run = lambda *words: subprocess.run(
+        [checks.program, *words], capture_output=True, text=True, timeout=30 * checks.slow, cwd=checks.folder
+    )
+    for option, values in BAD_NUMBERS.items():
+        for value in values:
+            done = run(*checks.serve("work", option, value, "red:1:100:0"))
+            found = (done.returncode, done.stdout, done.stderr.split("\n")[0])
+            checks.tell(f"{option} {value}", found, (2, "", BETWEEN[option].format(value)))
+    told = {" ".join(line.split()) for line in run("serve", "--help").stdout.splitlines()}
+    for option, cost in COSTS.items():
+        checks.tell(f"{option} in --help", (0, f"{option} {cost}" in told, ""), (0, True, ""))
+
+
 def ports(checks):
     first, second = free_ports(2)
     with socket.socket() as taken:
         taken.bind(("127.0.0.1", second))
         taken.listen()
         words = [f"red:{first}:100:1", f"blue:{second}:100:1"]
-        told = f"remoted: cannot listen on {second}: Address already in use (os error 98)\n"
+        told = f"remoted: cannot listen on {second}\nremoted: port {second}: Address already in use (os error 98)\n"
         checks.ends(checks.serve("taken", *words), 1, told)
     checks.tell("no folder was made", (0, os.path.lexists(os.path.join(checks.folder, "taken")), ""), (0, False, ""))
     listening = f"listening red {first}\nlistening blue {second}\n"
@@ -143,6 +180,13 @@ def ports(checks):
 def folders(checks):
     word = lambda: f"red:{free_ports(1)[0]}:100:1"
     checks.ends(["serve", "--work=", word()], 2, "remoted: --work names no folder\n")
+    for options, told in [
+        (["--links", "follow"], "--links is not leave-out or fail: follow"),
+        (["--stop", "a", "--end", "a"], "--stop and --end name one file: a"),
+        (["--metrics", "a", "--stop", "a"], "--metrics and --stop name one file: a"),
+        (["--metrics", "a", "--end", "a.new"], "--end names a.new, which --metrics writes first"),
+    ]:
+        checks.ends(["serve", "--work", "none", *options, word()], 2, f"remoted: {told}\n")
     checks.file("file", "")
     checks.ends(checks.serve("file", word()), 1, "remoted: cannot make file: File exists (os error 17)\n")
     checks.ends(checks.serve("file/in", word()), 1, "remoted: cannot make file/in: Not a directory (os error 20)\n")
@@ -243,14 +287,43 @@ def beginnings(checks):
     """What a server says of what it serves."""
     ports = free_ports(2)
     words = [f"ci:{ports[0]}:8589934592:0", f"red:{ports[1]}:1000:4:ci"]
-    options = ["--metrics", "figures", "--stop", "end", "--listen", "::1"]
+    options = ["--metrics", "figures", "--stop", "end", "--end", "jobs", "--listen", "::1"]
     told = f"remoted: {checks.version} begins with 2 instances\n"
     told += f"remoted: ci: 8589934592 bytes, 0 slots, on [::1]:{ports[0]}\n"
     told += f"remoted: red: 1000 bytes, 4 slots, on [::1]:{ports[1]}, reads ci\n"
     told += "remoted: figures are written to figures\nremoted: ends once end is there\n"
+    told += "remoted: jobs are ended by the lines of jobs\n"
     told += "remoted: ends after 20 turns at the latest\nremoted: ends after 20 turns\n"
     listening = f"listening ci {ports[0]}\nlistening red {ports[1]}\n"
     checks.ends(checks.serve("begun", *options, *words), 0, told, listening)
+    figures_in_words(checks)
+    word = f"red:{ports[0]}:1000:0"
+    first, rest = checks.begun(word).rsplit("remoted: ends", 1)
+    told = "remoted: each keeps 7 blobs, and 0 results of 4194304 bytes, and has windows of 1048576 bytes\n"
+    numbers = ["--blobs", "7", "--results", "0", "--result-bytes", "4M", "--window", "1M"]
+    told = f"{first}{told}remoted: ends{rest}"
+    checks.ends(checks.serve("chosen", *numbers, word), 0, told, f"listening red {ports[0]}\n")
+
+
+def figures_in_words(checks):
+    """What `check` says of the file of figures that the server before has written."""
+    ask = ["check", "--metrics", "figures"]
+    path = os.path.join(checks.folder, "figures")
+    with open(path) as file:
+        text = file.read()
+    for words, wanted in [
+        (ask, "Turns of the server's loop: "),
+        ([*ask, "--instance", "red"], "red: The most bytes of blobs that are stored: 1000\n"),
+        ([*ask, "--instance", "ci"], "ci: The most bytes of blobs that are stored: 8589934592\n"),
+    ]:
+        done = subprocess.run([checks.program, *words], capture_output=True, text=True, cwd=checks.folder)
+        all_its = len(words) == 3 or all(line.startswith(words[4] + ": ") for line in done.stdout.splitlines())
+        found = (done.returncode, wanted in done.stdout and all_its, done.stderr)
+        checks.tell(" ".join(words), found, (0, True, ""))
+    samples = [line for line in text.splitlines() if not line.startswith("#")]
+    checks.tell("all of them", (len(done.stdout.splitlines()) > 20, len(samples) > 60, ""), (True, True, ""))
+    checks.ends([*ask, "--instance", "blue"], 4, "remoted: figures has no figures of blue\n")
+    checks.ends(["check", "--metrics", "none"], 1, "remoted: cannot read none\n")
 
 
 def scripts(checks):
@@ -282,7 +355,7 @@ def answer_two(listening):
         connection.sendall(b"ab")
 
 
-PARTS = [words_for_instances, words_that_are_no_text, ports, folders, launchers, what_is_lacking]
+PARTS = [words_for_instances, numbers, words_that_are_no_text, ports, folders, launchers, what_is_lacking]
 PARTS += [streams_that_are_closed, beginnings, scripts]
 
 

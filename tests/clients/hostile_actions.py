@@ -32,6 +32,7 @@ import time
 
 import hostile_folders as folders
 import hostile_programs as host_programs
+import hostile_removal as removal
 import hostile_starts as starts
 import ways
 from teams import PYTHON, Skipped, Stage, copied
@@ -52,18 +53,18 @@ CASES = [
     folders.leased,
     folders.starved,
     folders.held_up,
-    folders.deep_chain,
-    folders.wide_folders,
-    folders.deep_paths,
-    folders.many_outputs,
-    folders.links_listed,
-    folders.files_of_pieces,
-    folders.large_directory,
-    folders.dear_although_little,
-    folders.remover_killed,
-    folders.remover_stopped,
-    folders.names_of_removal,
-    folders.not_removable,
+    removal.deep_chain,
+    removal.wide_folders,
+    removal.deep_paths,
+    removal.many_outputs,
+    removal.links_listed,
+    removal.files_of_pieces,
+    removal.large_directory,
+    removal.dear_although_little,
+    removal.remover_killed,
+    removal.remover_stopped,
+    removal.names_of_removal,
+    removal.not_removable,
     host_programs.lines_unread,
     host_programs.lines_unheard,
     host_programs.lines_unheard_from_the_start,

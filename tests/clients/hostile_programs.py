@@ -19,7 +19,7 @@ from server import has_leases
 from teams import Skipped
 
 # The line of a run that failed, or one of another kind, as for lines that were dropped. None is within another one.
-LINE = re.compile(rb"remoted: (run red [1-9]\d* failed: folder|(?!run ))((?!remoted: ).)*")
+LINE = re.compile(rb"remoted: (run red [1-9]\d*( failed: folder|: )|(?!run ))((?!remoted: ).)*")
 SMALLEST_PIPE = 4096
 MOST_PROCESSES = 60
 

@@ -69,6 +69,8 @@ class Report:
 
 def as_this_user(report, program):
     sandbox.reach(report, program, "as this user")
+    sandbox.nothing_started(report, program, "as this user")
+    sandbox.lower_limits(report, program, "as this user")
     sandbox.ended_alone(report, "as this user")
     sandbox.own_descriptors(report, "as this user")
 
@@ -77,6 +79,7 @@ def as_plain_user(report, program):
     who = "as a plain user"
     sandbox.reach(report, program, who, **OF_PLAIN)
     sandbox.nothing_started(report, program, who, **OF_PLAIN)
+    sandbox.lower_limits(report, program, who, **OF_PLAIN)
     sandbox.ended_alone(report, who, **OF_PLAIN)
     sandbox.own_descriptors(report, who, **OF_PLAIN)
 

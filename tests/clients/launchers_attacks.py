@@ -4,10 +4,9 @@ import os
 import shutil
 import signal
 import tempfile
-import time
 
 import programs
-from executing import PATH, Action, Peer
+from executing import Peer
 from launchers_sandbox import SOURCE, Told, marked, sandbox
 from server import Server
 
@@ -194,11 +193,27 @@ def memory(report, program, who, **more):
             report.expect((told.code, told.stdout) == (0, HELD), f"{who}: others fill /tmp and /dev/shm", told)
             for each in filling:
                 red.operations(each)
+            ended_for_memory(report, who, red, folder)
+            # A tmpfs would take a kilobyte of the kernel's memory for each empty file.
+            told = Told(red, marked(folder, "stat -f -c %i /work /tmp /dev/shm | uniq | wc -l"))
+            report.expect(told.stdout == "1\n", f"{who}: files in /tmp and /dev/shm take no memory", told)
             for each in (red, blue):
                 each.close()
     finally:
         programs.end(folder)
         shutil.rmtree(folder, ignore_errors=True)
+
+
+GREEDY = "b = bytearray(900 << 20); b[::4096] = b'x' * len(b[::4096])"
+
+
+def ended_for_memory(report, who, peer, folder):
+    """A program that the system ends alone has no result. One that a signal of its own ends has, before and after."""
+    itself = lambda: Told(peer, marked(folder, "kill -KILL $$"))
+    found = itself(), Told(peer, marked(folder, ["/usr/bin/python3", "-c", GREEDY])), itself()
+    ends = [(told.status, told.code) for told in found]
+    wanted = [(0, 137), (13, None), (0, 137)]
+    report.expect(ends == wanted, f"{who}: a program that the system ends for memory is a failed run", ends)
 
 
 def told_words(report, program, who, **more):
@@ -216,8 +231,9 @@ def told_words(report, program, who, **more):
                     os.kill(pid, signal.SIGKILL)
                 status = red.operations(number)[-1].status.code
             programs.settled(lambda: not server.said(), 2 * report.slow)
-            lines = [each for each in server.said() if " failed: " in each]
-            is_own = status == 13 and len(lines) == 1 and "launcher: sandbox: " in lines[0] and "EVIL" not in lines[0]
+            lines = server.said(True)
+            is_own = status == 13 and len(lines) == 2 and lines[0].endswith(" failed: launcher")
+            is_own = is_own and " 1: sandbox: " in lines[1] and "EVIL" not in lines[1].partition(", action ")[0]
             report.expect(is_own, f"{who}: a program's words are not told as the launcher's", (status, lines))
     finally:
         shutil.rmtree(folder, ignore_errors=True)

@@ -9,6 +9,7 @@ for a server and one for sandboxes, as root and as a plain user. It needs root, 
 """
 
 import argparse
+import contextlib
 import importlib.util
 import os
 import re
@@ -24,15 +25,17 @@ from launchers_sandbox import sandbox
 LINUX = "/usr/bin/linux.uml"
 SETTINGS = {"most_memory": 96 << 20, "most_shared": 1 << 30, "most_processes": 60}
 
-# Linux as a program keeps of a processor's registers what processors had long ago, where this host has more than it knows:
-# then it asks for them in vain. Programs in it use no others, so.
+# Linux as a program keeps all of a processor's registers, or where this host has more than it knows, what processors had
+# long ago: then it asks for the others in vain. Programs in it use no others, so.
 STARTING = """import errno, os, sys
 from seccomp import ALLOW, EQ, ERRNO, Arg, SyscallFilter
-made = SyscallFilter(ALLOW)
-made.add_rule(ERRNO(errno.EIO), "ptrace", Arg(0, EQ, 0x4204), Arg(2, EQ, 0x202))
-made.load()
-os.execv(sys.argv[1], sys.argv[1:])
+if sys.argv[1] == "few":
+    made = SyscallFilter(ALLOW)
+    made.add_rule(ERRNO(errno.EIO), "ptrace", Arg(0, EQ, 0x4204), Arg(2, EQ, 0x202))
+    made.load()
+os.execv(sys.argv[2], sys.argv[2:])
 """
+IS_WELL = "root:well code=0"
 PLAIN_REGISTERS = "GLIBC_TUNABLES=glibc.cpu.hwcaps=-AVX512F,-AVX512VL,-AVX512BW,-AVX512DQ,-AVX512CD,-AVX512ER,-AVX2,-AVX"
 
 # What is process 1 there. A line `NAME VALUE ..` goes to the host for each thing that was seen.
@@ -139,16 +142,22 @@ def made(folder):
         os.chmod(os.path.join(folder, name), 0o755)
 
 
-def told(folder, seconds):
-    """The lines that came of it, by their names."""
-    words = ["/usr/bin/python3", f"{folder}/starting", LINUX, "mem=700M", "rootfstype=hostfs", "root=/dev/root", "rw"]
+def told(folder, registers, slow):
+    """The lines that came of it, by their names; with these registers it may do nothing well."""
+    words = ["/usr/bin/python3", f"{folder}/starting", registers, LINUX, "mem=700M", "rootfstype=hostfs", "root=/dev/root", "rw"]
     words += [f"init={folder}/init", f"uml_dir={folder}/uml", "con=null", "con0=null,fd:1"]
+    with contextlib.suppress(FileNotFoundError):
+        os.remove(f"{folder}/told")
     with open(os.path.join(folder, "log"), "wb") as log:
         linux = subprocess.Popen(words, stdin=subprocess.DEVNULL, stdout=log, stderr=log, start_new_session=True)
     try:
-        end, text = time.monotonic() + seconds, ""
-        while not text.endswith("\nend\n") and linux.poll() is None and time.monotonic() < end:
+        begun, text, most = time.monotonic(), "", 60
+        while not text.endswith("\nend\n") and linux.poll() is None and time.monotonic() < begun + most * slow:
             time.sleep(0.5)
+            if IS_WELL in text:
+                most = 300
+            elif "root:well" in text:
+                break
             if os.path.exists(f"{folder}/told"):
                 with open(f"{folder}/told", errors="replace") as file:
                     text = file.read()
@@ -207,7 +216,10 @@ def main():
     os.chmod(folder, 0o777)
     try:
         made(folder)
-        report = Report(told(folder, 300 * options.slow))
+        found = told(folder, "all", options.slow)
+        if IS_WELL not in f"root:well {found.get('root:well')}":
+            found = told(folder, "few", options.slow)
+        report = Report(found)
         report.expect("groups", "control groups of version 2", "memory", "pids")
         for who in ["root", "plain"]:
             judged(report, who)

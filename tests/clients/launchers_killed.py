@@ -125,6 +125,8 @@ class Batch:
         is_killed = bool(found) and kill(random.choice(found))
         self.killed += is_killed
         self.judged(runs.ended(), most_failed=int(is_killed))
+        if self.wrong:
+            self.wrong.append(f"the server said {server.all_said()[-6:]}")
 
     def launcher(self, server, peer):
         self.one_of(server, peer, lambda: launchers(server, self.place.launcher), 1.5 if self.place.cluster else 0.6)

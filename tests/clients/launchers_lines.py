@@ -151,9 +151,9 @@ def words_lost_by_slurm(report, program):
             cutting(here.folder, lost)
             with here.serve(1) as server, Peer(server.ports[0], 100) as red:
                 told = Told(red, here.action(["/bin/echo", "one", "last"]))
-                programs.settled(lambda: not server.said(), 5 * report.slow)
-                lines = server.said()
-            is_lost = told.status == 13 and any("lost" in line or "cut" in line for line in lines)
+                is_said = lambda: any("words are lost" in line or "a word is cut" in line for line in server.all_said())
+                programs.settled(lambda: not is_said(), 5 * report.slow)
+                lines, is_lost = server.all_said(), told.status == 13 and is_said()
             found = (str(told), lines)
             report.expect(is_lost, f"slurm: the file of words loses {what}: the run fails, with a reason", found)
             shutil.rmtree(f"{here.folder}/programs")
@@ -172,6 +172,31 @@ def alone(launcher, work, words, **more):
     done = subprocess.run(line, capture_output=True, timeout=60, **given, **more)
     with open(f"{root}.aside/said") as said:
         return done.returncode, said.read(), done.stdout
+
+
+# What of `launchers/slurm` fails where it is to start itself again.
+UNMADE = {
+    "it is gone": ('-- "$0" KEPT', '-- "$0.gone" KEPT'),
+    "its shell cannot read it": ('-- "$0" KEPT', '-- /bin/sh "$0.gone" KEPT'),
+    "setpriv has no memory": ("  exec setpriv", "  ulimit -v 1000; exec setpriv"),
+    "setpriv knows no such signal": ("  exec setpriv --pdeathsig TERM", "  exec setpriv --pdeathsig NONE"),
+}
+
+
+def not_started_again(report):
+    """`launchers/slurm` cannot start itself again by setpriv: it ends by a signal, and no program has run."""
+    with open(os.path.join(LAUNCHERS, "slurm")) as file:
+        text = file.read()
+    for what, (old, new) in UNMADE.items():
+        if text.count(old) != 1:
+            raise SystemExit(f"launchers/slurm has no {old}")
+        with tempfile.TemporaryDirectory(prefix="launchers-lines-") as folder:
+            path = os.path.join(folder, "slurm")
+            with open(path, "w") as file:
+                file.write(text.replace(old, new))
+            os.chmod(path, 0o755)
+            found = alone(path, folder, ["/bin/echo", "one"])
+        report.expect(found[0] < 0 and not found[2], f"slurm: {what} when it starts itself again: a failed run", found)
 
 
 def disk_full(report, who, launchers, **more):
@@ -205,6 +230,7 @@ def lines(report, program, plain):
     if slurm_cluster.lacking():
         print(f"skipped words on lines by Slurm: it needs {', '.join(slurm_cluster.lacking())}", flush=True)
         return
+    not_started_again(report)
     for following in (False, True):
         of_slurm(report, program, following)
     words_lost_by_slurm(report, program)

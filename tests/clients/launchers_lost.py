@@ -5,12 +5,14 @@ import sys
 import tempfile
 import time
 
+import messages as m
 from executing import Action, Peer
 from server import Server, remove
 
 WELL = 'shift 3; exec /usr/bin/env -i -- "$@"'
 BEGUN = "remoted: run red {} failed: "
 END = "kill -KILL $$"
+GONE = "No such file or directory"
 
 # Asks for leases on a file, and says in it whether it got one.
 LEASE = """
@@ -42,15 +44,18 @@ def told(program, launcher, words=("/bin/true",), before=lambda: None):
         before()
         with Peer(server.ports[0]) as peer:
             operation = peer.execute(Action(list(words)))
-        return operation.status.code, operation.result and operation.result.code, server.said()
+        return operation.status.code, operation.result and operation.result.code, server.said(True)
 
 
 def expect(report, what, found, wanted):
     report.expect(found == wanted, what, f"{found}, not {wanted}")
 
 
-def failed(word):
-    return 13, None, [BEGUN.format(1) + word]
+def failed(word, said=None, words=("/bin/true",)):
+    """What is told of a run that failed so: what was said, the action and its program are on a line of their own."""
+    action = m.first(Action(list(words)).digest, 1).decode()[:6]
+    why = "remoted: run red 1: " + ("" if said is None else said + ", ") + f"action {action}.., {words[0]}"
+    return 13, None, [BEGUN.format(1) + word, why]
 
 
 def lost(report, program):
@@ -80,17 +85,17 @@ def last_words(report, program, folder):
     """What a launcher writes into its own file before it kills itself."""
     says = lambda text: told(program, script(folder, "launcher", f"said=$2.aside/said; {text}; {END}"))
     plain = says("echo no node is up >$said")
-    expect(report, "what it said is in the line", plain, failed("launcher: no node is up\\n"))
+    expect(report, "what it said is in the line", plain, failed("launcher", "no node is up\\n"))
     more = says("echo no node is up >>$said; printf again >>$said")
-    expect(report, "and what it added", more, failed("launcher: no node is up\\nagain"))
+    expect(report, "and what it added", more, failed("launcher", "no node is up\\nagain"))
     odd = says("""printf 'a\\tb\\r\\n"c"\\\\\\033[0m\\303\\251\\0' >$said""")
-    expect(report, "on one line", odd, failed('launcher: a\\tb\\r\\n\\"c\\"\\\\\\x1b[0m\\xc3\\xa9\\x00'))
+    expect(report, "on one line", odd, failed("launcher", 'a\\tb\\r\\n\\"c\\"\\\\\\x1b[0m\\xc3\\xa9\\x00'))
     much = says("printf '%0300dend' 7 >$said")
-    expect(report, "the last 200 bytes of it", much, failed("launcher: " + "0" * 196 + "7end"))
+    expect(report, "the last 200 bytes of it", much, failed("launcher", "0" * 196 + "7end"))
     huge = says("{ head -c 1000000 /dev/zero | tr '\\0' 0; printf 7end; } >$said")
-    expect(report, "of a megabyte, too", huge, failed("launcher: " + "0" * 196 + "7end"))
+    expect(report, "of a megabyte, too", huge, failed("launcher", "0" * 196 + "7end"))
     forged = says("printf 'x\\nremoted: run blue 1 failed: start' >$said")
-    expect(report, "it forges no line", forged, failed("launcher: x\\nremoted: run blue 1 failed: start"))
+    expect(report, "it forges no line", forged, failed("launcher", "x\\nremoted: run blue 1 failed: start"))
 
 
 def words_of_others(report, program, folder):
@@ -114,16 +119,20 @@ def words_of_others(report, program, folder):
         took = time.monotonic() - begun
         report.expect(took < 5 * report.slow, f"nor waited for: {what}", f"{took:.1f} s")
     leased = script(folder, "launcher", f"{sys.executable} -c '{LEASE}' $2.aside/said; {END}")
-    expect(report, "nor can a lease be taken on it", told(program, leased), failed("launcher: refused"))
-    its_own = told(program, script(folder, "launcher", WELL), ("/bin/sh", "-c", "echo a program >&2; kill -KILL $$"))
+    expect(report, "nor can a lease be taken on it", told(program, leased), failed("launcher", "refused"))
+    words = ("/bin/sh", "-c", "echo a program >&2; kill -KILL $$")
+    its_own = told(program, script(folder, "launcher", WELL), words)
+    without = failed("launcher", words=words)
     expect(report, "a program that a signal ends, by a launcher that becomes it", its_own, without)
 
 
 def not_started(report, program, folder):
     """Launchers that were there when the server started."""
     gone = script(folder, "gone", WELL)
-    expect(report, "one that is gone", told(program, gone, before=lambda: os.remove(gone)), failed("start"))
+    expect(report, "one that is gone", told(program, gone, before=lambda: os.remove(gone)), failed("start", GONE))
     bare = script(folder, "bare", WELL)
-    expect(report, "one that may not be run", told(program, bare, before=lambda: os.chmod(bare, 0o644)), failed("start"))
+    found = told(program, bare, before=lambda: os.chmod(bare, 0o644))
+    expect(report, "one that may not be run", found, failed("start", "permission denied"))
     named = told(program, script(folder, "well", WELL), ("A=B", "x"))
-    expect(report, "a program that would be taken for a variable", named, failed("start"))
+    wanted = failed("start", "invalid input parameter", ("A=B", "x"))
+    expect(report, "a program that would be taken for a variable", named, wanted)

@@ -3,6 +3,7 @@
 import contextlib
 import os
 import platform
+import resource
 import shutil
 import signal
 import subprocess
@@ -20,12 +21,19 @@ SECRET, SOURCE = "server-secret", b"the source of blue\n"
 ODD = ["a b", "", "-n", "*", "$HOME", "a\nb", "A=B", "'", '"']
 TOP = "../" * 24
 
-# What a sandbox in which no program can be started has in place of what.
+# What a sandbox in which no program can be started has in place of what. Root has no limit of processes.
+NO_PROCESS = "in which no process can be made"
 UNMADE = {
-    "in which no process can be made": ("most_processes=2000", "most_processes=1"),
+    NO_PROCESS: ("most_processes=2000", "most_processes=1"),
     "on a processor that it is not for": ("/sandbox.allowed", "/of_another/sandbox.allowed"),
     "without its words for setpriv": ("setpriv --pdeathsig", "setpriv --no-such-word"),
     "without the calls that are refused": ("/sandbox.refused", "/of_nobody/sandbox.refused"),
+    "that is gone when setpriv starts it again": ('-- "$0" KEPT', '-- "$0.gone" KEPT'),
+    "that its shell cannot read then": ('-- "$0" KEPT', '-- /bin/sh "$0.gone" KEPT'),
+    "whose setpriv has no memory then": ("  exec setpriv", "  ulimit -v 1000; exec setpriv"),
+    "whose setpriv knows no such signal then": ("  exec setpriv --pdeathsig TERM", "  exec setpriv --pdeathsig NONE"),
+    "whose setsid and env have no memory": ("limits= ", "limits=v=1000 "),
+    "of which the end is lost": ("# ==== The start", "make_nothing() {"),
 }
 
 
@@ -203,11 +211,15 @@ def reach(report, program, who, **more):
 def nothing_started(report, program, who, **more):
     """A sandbox in which no program can be started: that is the launcher's fault, and no result of the action."""
     for what, (old, new) in UNMADE.items():
+        if what == NO_PROCESS and os.geteuid() == 0 and not more:
+            continue
         folder = tempfile.mkdtemp(prefix="launchers-")
         os.chmod(folder, 0o777)
         launcher, work = sandbox(folder, old, new), os.path.join(folder, "work")
+        # The server ignores SIGPIPE, as below systemd.
+        given = {"restore_signals": False, **more}
         try:
-            with Server(program, [("red", 10**8, 1)], 2**62, None, work, True, launcher, **more) as server:
+            with Server(program, [("red", 10**8, 1)], 2**62, None, work, True, launcher, **given) as server:
                 with Peer(server.ports[0], 60 * report.slow) as red:
                     told = Told(red, marked(folder, "true"))
                 programs.settled(lambda: not server.said(), 2 * report.slow)
@@ -216,6 +228,25 @@ def nothing_started(report, program, who, **more):
                 report.expect(is_told, f"{who}: a sandbox {what}", (str(told), lines))
         finally:
             shutil.rmtree(folder, ignore_errors=True)
+
+
+# Hard limits of the server's, lower than those of the script: processes, and seconds of a processor.
+LOWER = {resource.RLIMIT_NPROC: 1500, resource.RLIMIT_CPU: 3000}
+
+
+def lower_limits(report, program, who, **more):
+    """A server that has lower limits than the sandbox's: these stay."""
+    folder = tempfile.mkdtemp(prefix="launchers-")
+    os.chmod(folder, 0o777)
+    launcher, work = sandbox(folder, "limits= ", "limits=t=4000 "), os.path.join(folder, "work")
+    lower = lambda: [resource.setrlimit(each, (most, most)) for each, most in LOWER.items()]
+    try:
+        with Server(program, [("red", 10**8, 1)], 2**62, None, work, True, launcher, preexec_fn=lower, **more) as server:
+            with Peer(server.ports[0], 60 * report.slow) as red:
+                told = Told(red, marked(folder, ["/bin/bash", "-c", "ulimit -u; ulimit -t"]))
+        report.expect((told.code, told.stdout) == (0, "1500\n3000\n"), f"{who}: lower limits of the server's stay", told)
+    finally:
+        shutil.rmtree(folder, ignore_errors=True)
 
 
 def own_descriptors(report, who, **more):

@@ -13,6 +13,7 @@ import time
 import messages as m
 import programs
 from executing import PATH, Action, Peer
+from launchers_lost import script
 from launchers_sandbox import ODD, Told, sandbox
 from sandbox_attacks import REOPENED, REOPENING
 from server import Server
@@ -250,10 +251,20 @@ def node_lost(here, server, peer):
 
 
 def next_missing(report, program):
-    """What is to start programs on the nodes is not there."""
-    with site(report, program, "/no/such") as here, here.serve() as (_, peer):
-        told = here.told(peer, "true")
-        here.expect(told.status == 13, "nothing on the node to start programs: no result", told)
+    """What is to start programs on the nodes is not there, or does not say that they have ended."""
+    with tempfile.TemporaryDirectory(prefix="launchers-next-") as folder:
+        silent = script(folder, "silent", "exit 0")
+        other = script(folder, "other", 'echo 7 >"$2.aside/ended"; exit 3')
+        saying = script(folder, "saying", 'echo 3 >"$2.aside/ended"; exit 3')
+        for following, what, end in [
+            ("/no/such", "nothing on the node to start programs: no result", (13, None)),
+            (silent, "one that does not write the code: no result", (13, None)),
+            (other, "one that writes another one: no result", (13, None)),
+            (saying, "one that writes the code: a result", (0, 3)),
+        ]:
+            with site(report, program, following) as here, here.serve() as (_, peer):
+                told = here.told(peer, "true")
+                here.expect((told.status, told.code) == end, what, told)
 
 
 def sandboxed(report, program):

@@ -38,7 +38,7 @@ class Service:
         self.folder.mkdir()
         self.ports = dict(zip(["8980", "8981"], free_ports(2)))
         self.variables = dict(word.split("=", 1) for line in of_unit("Environment") for word in line.split())
-        self.variables |= {name: self.here(self.variables[name]) for name in ["STOP", "METRICS"]}
+        self.variables |= {name: self.here(self.variables[name]) for name in ["STOP", "END", "METRICS"]}
         self.process = None
 
     def here(self, text):

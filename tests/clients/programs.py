@@ -107,6 +107,12 @@ def children(parents, word=""):
     return [each for each in found if word.encode() in _read(f"/proc/{each}/cmdline")]
 
 
+def begun(parent, word):
+    """The same of one parent, by what the system says of it alone: it can be asked a thousand times a second."""
+    found = [int(name) for name in _read(f"/proc/{parent}/task/{parent}/children").split()]
+    return [each for each in found if word.encode() in _read(f"/proc/{each}/cmdline")]
+
+
 def zombies(server):
     """The ended children of a server for which it has not asked."""
     return [int(name) for name in os.listdir("/proc") if name.isdigit() and _state(name) == ("Z", server)]

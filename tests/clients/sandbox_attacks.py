@@ -72,7 +72,7 @@ for family in (socket.AF_UNIX, socket.AF_INET, socket.AF_INET6, socket.AF_NETLIN
 socket.socketpair()
 os.nice(1)
 os.sched_setaffinity(0, os.sched_getaffinity(0))
-os.sched_setscheduler(0, os.SCHED_IDLE, os.sched_param(0))
+os.sched_setscheduler(0, os.SCHED_BATCH, os.sched_param(0))
 child = os.fork()
 if not child:
     kernel.ptrace(0, 0, 0, 0)

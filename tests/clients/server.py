@@ -12,8 +12,13 @@ import time
 # What a server says at its start of what it serves.
 BEGINNING = re.compile(
     r"remoted: (\S+ begins with \d+ instances|\S+: \d+ bytes, \d+ slots, on \S+(, reads \S+)?"
-    r"|figures are written to .*|ends once .* is there|ends after \d+ turns at the latest)"
+    r"|each keeps \d+ blobs, and \d+ results of \d+ bytes, and has windows of \d+ bytes"
+    r"|figures are written to .*|ends once .* is there|jobs are ended by the lines of .*|ends after \d+ turns at the latest)"
 )
+
+
+# What it says behind the line on a run that failed.
+REASON = re.compile(r"remoted: run \S+ \d+: ")
 
 
 def has_leases():
@@ -117,9 +122,10 @@ class Server:
         size = os.fstat(self.errors.fileno()).st_size
         return os.pread(self.errors.fileno(), size, 0).decode().splitlines()
 
-    def said(self):
+    def said(self, with_reasons=False):
         """The same, but for what it serves."""
-        return [line for line in self.all_said() if not BEGINNING.fullmatch(line)]
+        is_left_out = lambda line: BEGINNING.fullmatch(line) or not with_reasons and REASON.match(line)
+        return [line for line in self.all_said() if not is_left_out(line)]
 
     def start(self):
         """The folder of the server's runs in that of `--work`, the one that was made last; None where there is none."""

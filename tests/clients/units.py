@@ -34,6 +34,7 @@ def one_server(host):
     """One server for two teams."""
     (block,) = blocks("The service")
     host.run(block)
+    without_fault(host, "remoted.service")
     store(8980, b"red's")
     expect(has(8980, b"red's") and not has(8981, b"red's"), "both teams are served, each for itself")
     limits = host.machine.inside("cat", f"/proc/{host.main_process('remoted')}/limits").stdout
@@ -45,6 +46,11 @@ def one_server(host):
     result = host.systemctl("show", "--value", "--property=Result,ExecMainStatus", "remoted").split()
     expect(result == ["success", "0"], "it ends with status 0 and was not killed", result)
     expect(not host.has_file("/run/remoted"), "its folder below /run is gone")
+
+
+def without_fault(host, unit):
+    done = host.machine.inside("systemd-analyze", "verify", unit)
+    expect(done.returncode == 0 and not done.stderr, f"systemd-analyze finds no fault in {unit}", done.stderr)
 
 
 def checked_each_minute(host):
@@ -84,6 +90,7 @@ def a_server_for_each(host):
     """A server for each team, and what each of them notices of the other's changes: nothing."""
     first, another, other_quota = blocks("A server for each team")
     host.run(first)
+    without_fault(host, "remoted@red.service")
     store(8980, b"red's")
     red = host.main_process("remoted@red")
     limits = host.machine.inside("cat", f"/proc/{red}/limits").stdout
@@ -120,9 +127,22 @@ def what_else_is_said(host):
     store(8982, b"ci's")
     expect(has(8983, b"ci's"), "an instance and its parent stand in one file")
     ran(host, 8983, "pwd && test ! -e /etc/remoted", b"/work\n", "in the sandbox no file of the host's is")
+    ended_by_an_operator(host)
     host.systemctl("stop", "remoted@*")
     for team in ["red", "blue", "green"]:
         host.unit_is(f"remoted@{team}", "inactive")
+
+
+def ended_by_an_operator(host):
+    """Root ends a job of a team's server, by the block of WATCHING."""
+    (block,) = blocks("To end jobs", "WATCHING")
+    with Peer(8983) as peer:
+        action = Action("sleep 600")
+        peer.store(action.blobs)
+        number = peer.start(action, is_stored=True)
+        host.run(block.replace("red abandoned", "dev").replace("/run/remoted/", "/run/remoted-green/"))
+        (*_, done) = peer.operations(number)
+        expect((done.status.code, done.status.text) == (13, "run failed"), "a job is ended by the file of the unit")
 
 
 def main():

@@ -3,13 +3,14 @@
 
 PROGRAM is the built `remoted`. Parts: `figures` has known calls made of two instances, and compares each figure with
 what the callers counted; `prometheus` has node_exporter and Prometheus of Debian read them, and asks for the hit
-rate; `unwritable` is a FILE that cannot be written; `hostile` has another user of the host put links, FIFOs, folders
-and files in the way of the files of --metrics and --stop, and `full` fills their disk (both beside a team that goes
-on being served; parts of them need root); `notices` are lines on standard error, each after what it tells of; `flood` has blobs dropped in each second;
-`vanished` has the system look after clients that say nothing (`ss` of iproute2); `check` in each of its ends; `stop`
-ends a server while an action runs, and as the unit of deploy/ does; `listen` serves on other addresses. A line for
-each thing that holds; it ends with status 1 at the first that does not. Debian: prometheus, prometheus-node-exporter,
-python3-grpcio.
+rate, and each query of the dashboard and of the alerts is asked over a server with traffic (`dashboard`);
+`unwritable` is a FILE that cannot be written; `hostile` has another user of the host put links, FIFOs, folders and
+files in the way of the files of --metrics and --stop, and `full` fills their disk (both beside a team that goes on
+being served; parts of them need root); `notices` are lines on standard error, each after what it tells of; `flood`
+has blobs dropped in each second; `vanished` has the system look after clients that say nothing (`ss` of iproute2);
+`check` in each of its ends; `stop` ends a server while an action runs, and as the unit of deploy/ does; `listen`
+serves on other addresses. A line for each thing that holds; it ends with status 1 at the first that does not. Debian:
+prometheus, prometheus-node-exporter, python3-grpcio.
 """
 
 import argparse
@@ -38,6 +39,7 @@ CODES = """OK CANCELLED UNKNOWN INVALID_ARGUMENT DEADLINE_EXCEEDED NOT_FOUND ALR
     RESOURCE_EXHAUSTED FAILED_PRECONDITION ABORTED OUT_OF_RANGE UNIMPLEMENTED INTERNAL UNAVAILABLE DATA_LOSS
     UNAUTHENTICATED""".split()
 DROPPED = "remoted: red: blobs dropped, the youngest used 0 s before: "
+LONG_MESSAGES = "uploads refused, their messages are too long"
 ALWAYS = ["GetActionResult", "Execute", "Read", "Write"]
 
 
@@ -83,6 +85,7 @@ def known_calls(peer):
     name = m.write_name("1", hashlib.sha256(large).hexdigest(), len(large))
     halves = [m.write(name, 0, large[:150_000]), m.write(name, 150_000, large[150_000:], True)]
     peer.call(m.WRITE, *halves)
+    peer.call(m.WRITE, m.write(m.write_name("2", hashlib.sha256(b"").hexdigest(), 10**8), 0, b"x"))
     peer.call(m.BATCH_READ, m.batch_read("", [m.digest(small), absent]))
     for blob in [small, large, b"absent"]:
         peer.call(m.READ, m.read(m.read_name(hashlib.sha256(blob).hexdigest(), len(blob))))
@@ -108,6 +111,11 @@ def of_instance(found, instance, names):
     return {name: found.get(key(name, instance=instance)) for name in names}
 
 
+def by_label(found, family, label):
+    """The samples of a family that are not 0, by one label."""
+    return {dict(labels)[label]: value for (name, *labels), value in found.items() if name == family and value}
+
+
 def compare_counts(found, counts):
     for instance in ["red", "blue"]:
         for method in ALWAYS:
@@ -115,6 +123,8 @@ def compare_counts(found, counts):
             counts[key("calls_total", status="OK", **named)] += 0
             counts[key("received_bytes_total", **named)] += 0
             counts[key("sent_bytes_total", **named)] += 0
+        for method in ["Execute", "Write"]:
+            counts[key("calls_total", instance=instance, method=method, status="RESOURCE_EXHAUSTED")] += 0
     counted = ("remoted_calls_total", "remoted_received_bytes_total", "remoted_sent_bytes_total")
     seen = {name: value for name, value in found.items() if name[0] in counted}
     pairs = {name: (seen.get(name), counts.get(name)) for name in {*seen, *counts}}
@@ -165,6 +175,10 @@ def compare(found, counts, stored, ended):
     expect(seen == wanted, "the figures of actions are those of its calls", (seen, wanted))
     seen = {how: found[key("jobs_ended_total", instance="blue", how=how)] for how in ended}
     expect(seen == ended, "actions ended as they should", (seen, ended))
+    seen = by_label(found, "remoted_run_faults_total", "word")
+    expect(seen == {"start": 1}, "what runs failed by is told by its word", seen)
+    seen = by_label(found, "remoted_refused_total", "cause")
+    expect(seen == {"quota exceeded": 1}, "what a limit ended is told by its cause", seen)
     ran = found[key("jobs_ran_seconds_total", instance="blue")]
     expect(1 <= ran < 30, "the time that actions ran is told", ran)
 
@@ -197,7 +211,7 @@ def running(*words):
 
 def prometheus(program):
     rules = subprocess.run(["promtool", "check", "rules", str(DEPLOY / "alerts.yml")], capture_output=True, text=True)
-    expect(rules.returncode == 0 and "6 rules found" in rules.stdout, "promtool check rules passes", rules.stderr)
+    expect(rules.returncode == 0 and "10 rules found" in rules.stdout, "promtool check rules passes", rules.stderr)
     one_of_two_is_gone()
     node, port = free_ports(2)
     with tempfile.TemporaryDirectory() as folder:
@@ -225,6 +239,64 @@ def prometheus(program):
             expect(sorted(told or []) == [10**6, 10**7], "two servers of a host are told apart", told)
             expect(ask_prometheus(port, "remoted_build_info") == [1, 1], "by what is said of them as a whole, too")
             expect(ask_prometheus(port, "node_textfile_scrape_error") == [0], "and node_exporter finds no fault")
+
+
+def queries():
+    """What the dashboard asks, of all instances, and what the alerts ask."""
+    panels = json.loads((DEPLOY / "grafana.json").read_text())["panels"]
+    for panel in panels:
+        for target in panel["targets"]:
+            yield panel["title"], target["expr"].replace("$instance", ".*")
+
+
+def traffic(red, blue, until):
+    """Calls of each kind, some of which are refused, until a moment."""
+    number = 0
+    while time.monotonic() < until:
+        number += 1
+        red.call(m.FIND_MISSING, m.find_missing("red", [m.digest(b"%d" % number)]))
+        red.call(m.BATCH_UPDATE, m.batch_update("red", [b"%0200d" % number]))
+        known_calls(red)
+        if number % 50 == 1:
+            known_actions(blue)
+        time.sleep(0.02)
+
+
+def alerts_are_asked(port):
+    """Prometheus asks for each alert without a fault, and the one on refused uploads is on."""
+    with urllib.request.urlopen(f"http://127.0.0.1:{port}/api/v1/rules", timeout=5) as answer:
+        (group,) = json.load(answer)["data"]["groups"]
+    told = {rule["name"]: (rule["health"], rule["state"]) for rule in group["rules"]}
+    expect(len(told) == 10 and all(health == "ok" for health, _ in told.values()), "all alerts are asked for", told)
+    expect(told["RemotedUploadsRefused"][1] == "firing", "refused uploads are told", told)
+
+
+def dashboard(program):
+    """Each query of the dashboard answers over a server with traffic."""
+    node, port = free_ports(2)
+    with tempfile.TemporaryDirectory() as folder:
+        textfiles, path = os.path.join(folder, "textfiles"), os.path.join(folder, "remoted.prom")
+        os.mkdir(textfiles)
+        os.symlink(path, os.path.join(textfiles, "remoted.prom"))
+        config = os.path.join(folder, "prometheus.yml")
+        pathlib.Path(config).write_text(
+            f"global: {{scrape_interval: 1s, evaluation_interval: 1s}}\nrule_files: [{DEPLOY}/alerts.yml]\n"
+            f"scrape_configs: [{{job_name: node, static_configs: [{{targets: ['127.0.0.1:{node}']}}]}}]\n"
+        )
+        exporter = ["prometheus-node-exporter", "--collector.disable-defaults", "--collector.textfile"]
+        exporter += [f"--collector.textfile.directory={textfiles}", f"--web.listen-address=127.0.0.1:{node}"]
+        database = ["prometheus", f"--config.file={config}", f"--storage.tsdb.path={folder}/data"]
+        database += [f"--web.listen-address=127.0.0.1:{port}"]
+        with Watched(program, [("red", 10**5), ("blue", 10**7, 2)], ["--metrics", path]) as server:
+            with running(*exporter), running(*database), contextlib.ExitStack() as stack:
+                counts = collections.Counter()
+                peers = [Counted(each, name, counts) for each, name in zip(server.ports, ("red", "blue"))]
+                red, blue = (stack.enter_context(peer) for peer in peers)
+                traffic(red, blue, time.monotonic() + 40)
+                for title, query in queries():
+                    found = ask_prometheus(port, query)
+                    expect(found and all(value == value for value in found), f"{title}: {query}", found)
+                alerts_are_asked(port)
 
 
 def one_of_two_is_gone():
@@ -302,8 +374,15 @@ def notices(program):
             name = m.write_name(f"{number}", hashlib.sha256(b"x" * 15).hexdigest(), 15)
             status = peer.call(m.WRITE, m.write(name, 0, b"x"))[1]
         expect(status[0] == 8, f"an upload more than 64 is refused: {status[1]}", status)
-        hears(server, "remoted: red: uploads refused: 1")
+        hears(server, "remoted: red: uploads refused, 64 are unfinished: 1")
         peer.close()
+    with Watched(program, [("red", 1_000)], [], heard=True) as server, Peer(server.ports[0]) as peer:
+        server.wanted = 0
+        for number, line in [(2_000, "uploads refused by the quota"), (1 << 22, LONG_MESSAGES)]:
+            name = m.write_name(f"{number}", hashlib.sha256(b"").hexdigest(), number)
+            status = peer.call(m.WRITE, m.write(name, 0, b"x" * number))[1]
+            expect(status[0] == 8, f"an upload is refused: {status[1]}", status)
+            hears(server, f"remoted: red: {line}: 1")
     with Watched(program, [("red", 1_000)], [], heard=True) as server, Peer(server.ports[0]) as peer:
         server.wanted = 0
         peer.store([os.urandom(400) for _ in range(3)])
@@ -333,11 +412,13 @@ def vanished(program):
     with Watched(program, [("red", 10**6)], []) as server, Peer(server.ports[0]) as peer:
         peer.call(m.CAPABILITIES, m.capabilities(""))
         words = ["ss", "-tnoH", "state", "established", f"( sport = :{server.ports[0]} )"]
-        found = subprocess.run(words, capture_output=True, text=True, check=True).stdout
-        expect("timer:(keepalive," in found, "the system asks a silent client whether it is there", found)
+        asks = lambda: subprocess.run(words, capture_output=True, text=True, check=True).stdout
+        # Before that the last answer has to be acknowledged.
+        told = within(5, lambda: "timer:(keepalive," in asks())
+        expect(told, "the system asks a silent client whether it is there", asks())
 
 
-PARTS = [figures, prometheus, unwritable, hostile, full, notices, flood, vanished, check, stop, listen]
+PARTS = [figures, prometheus, dashboard, unwritable, hostile, full, notices, flood, vanished, check, stop, listen]
 
 
 def main():

@@ -3,7 +3,7 @@
 use keyed_maps::MapKey;
 use program_status::{Fault, Output};
 use server_core::Server;
-use server_events::{Configs, InstanceConfig};
+use server_events::{Configs, InstanceConfig, Limits};
 
 /// Instances of these names, each with a quota of so many bytes.
 pub fn configs(names: &[&str], quota: u64, output: &mut Output) -> Option<Configs> {
@@ -14,6 +14,7 @@ pub fn configs(names: &[&str], quota: u64, output: &mut Output) -> Option<Config
             name,
             quota,
             slots: 0,
+            limits: Limits::usual(),
             parent: None,
         });
         output.expect(added);

@@ -31,7 +31,7 @@ mod stored;
 
 use program_status::{Fault, Output, Status, read_all};
 use replay::replay;
-use script::lines;
+use script::{Limits, lines};
 use std::process::ExitCode;
 use unary::unary;
 
@@ -77,8 +77,20 @@ fn status_of(
     errors: &mut Vec<u8>,
 ) -> Status {
     match kind {
-        Kind::Unary => unary(rt.alloc(), &mut script, &mut output.text, errors),
-        Kind::Replay => replay(rt.alloc(), &mut script, &mut output.text, errors),
+        Kind::Unary => unary(
+            rt.alloc(),
+            Limits::usual(),
+            &mut script,
+            &mut output.text,
+            errors,
+        ),
+        Kind::Replay => replay(
+            rt.alloc(),
+            Limits::usual(),
+            &mut script,
+            &mut output.text,
+            errors,
+        ),
         Kind::Stored => stored::carry_out(script, output),
         Kind::Limits => limits::carry_out(script, output),
         Kind::Sockets => sockets::carry_out(rt, script, output),

@@ -8,7 +8,7 @@ use crate::numbers::number;
 use program_status::{Fault, Output};
 use script::replay::{EventReader, parse};
 use script::{Parts, ScriptFault, lines, words, write_hex};
-use server_events::{Configs, Event, InstanceConfig};
+use server_events::{Configs, Event, InstanceConfig, Limits};
 
 /// Appends bytes in hexadecimal, with the number of this stream for each `@`.
 fn write_bytes(hex: &[u8], stream: u64, text: &mut Vec<u8>, output: &mut Output) {
@@ -70,7 +70,7 @@ fn chosen(
 
 /// The instances of a script, or just the one of this number.
 pub fn configs(script: &[u8], only: Option<u32>, output: &mut Output) -> Option<Configs> {
-    match parse(output.alloc, script) {
+    match parse(output.alloc, Limits::usual(), script) {
         Ok(script) => {
             let chosen = chosen(script.configs, only, output);
             Configs::new(chosen).ok()

@@ -4,7 +4,7 @@ use crate::instances::server;
 use program_status::{Fault, Output, Status};
 use script::replay::{EventReader, parse};
 use server_core::Server;
-use server_events::{Configs, InstanceConfig};
+use server_events::{Configs, InstanceConfig, Limits};
 
 /// Gives a server the next event, and tells what it has stored then; answers whether there was one.
 fn tell_next(
@@ -52,7 +52,7 @@ fn configure(
 
 /// Gives a server the events of a script, and tells after each what it has stored.
 pub fn carry_out(text: &[u8], output: &mut Output) -> Status {
-    match parse(output.alloc, text) {
+    match parse(output.alloc, Limits::usual(), text) {
         Ok(mut script) => configure(script.configs, &mut script.events, output),
         Err(fault) => Status::from(fault),
     }

@@ -7,7 +7,7 @@ use Rattle.std.specs.declared.vec.Vec.{Vec}
 use Rattle.digest.specs.declared.Digest.{Digest}
 use Rattle.digest.specs.Naming.{same_digest}
 use Rattle.instance_view.specs.Visible.{Blob}
-use Rattle.action_cache.specs.declared.results.TheConstants.{MOST_RESULTS, MOST_RESULT_BYTES}
+pub use Rattle.instance_limits.specs.Limits.{LimitsValue}
 
 -- a pair without where its bytes lie in memory
 abbrev pub result_shown : Digest × Vec ℕ Global → Blob
@@ -20,10 +20,10 @@ front_within (suc count) room [] = []
 front_within (suc count) room (r ∷ rs) =
     if nat_le (length r.1) room then r ∷ front_within count (room - length r.1) rs else []
 
--- a result goes first in the place of an earlier one, and the oldest go past MOST_RESULTS or
--- MOST_RESULT_BYTES; one that has more bytes changes nothing
-abbrev pub results_after_store : Digest → List ℕ → List Blob → List Blob
-results_after_store d text results =
-    if nat_lt MOST_RESULT_BYTES (length text) then results
-    else front_within MOST_RESULTS MOST_RESULT_BYTES
+-- a result goes first in the place of an earlier one, and the oldest go past the limits; one that
+-- has more bytes than all may have changes nothing
+abbrev pub results_after_store : LimitsValue → Digest → List ℕ → List Blob → List Blob
+results_after_store limits d text results =
+    if nat_lt limits.result_bytes (length text) then results
+    else front_within limits.results limits.result_bytes
     ((d, text) ∷ remove_entry (same_digest d) results)

@@ -3,6 +3,7 @@
 
 mod answering;
 mod complete;
+mod dropped;
 mod last_trees;
 mod laws;
 mod naming;
@@ -10,5 +11,6 @@ mod results;
 mod tree_texts;
 
 pub use answering::{FoundResult, find_result, get_result, use_result};
+pub use dropped::DroppedResults;
 pub use laws::the_last_of_each_tree_is_enough;
-pub use results::{MOST_RESULT_BYTES, MOST_RESULTS, Results};
+pub use results::Results;

@@ -8,21 +8,22 @@ ghost use Rattle.instance_view.specs.Visible.{with_match_first, blobs_length, wi
 ghost use Rattle.instance_view.specs.Insertion.{text_length};
 ghost use Rattle.action_cache.specs.Results.{result_shown, front_within, results_after_store};
 ghost use Rattle.action_cache.specs.Lengths.{length_or_zero};
+ghost use Rattle.instance_limits.specs.Shown.{limits_value};
 
+use crate::dropped::DroppedResults;
 use digest::Digest;
+use instance_limits::Limits;
 use keyed_maps::{KeyedCache, MapKey, new_cache};
 use std::alloc::{AllocError, Global};
 use std::marker::Model;
 use std::num::NonZeroUsize;
 
-/// How many results an instance has at most.
-pub const MOST_RESULTS: usize = 10_000;
+/// The most results, and the most bytes of them, that limits allow.
+const MOST: usize = 1 << 31;
 
-/// How many bytes they have together at most.
-pub const MOST_RESULT_BYTES: u64 = 67_108_864;
-
-/// One more than there are at most, since the oldest goes after the newest has come.
-const CAPACITY: usize = MOST_RESULTS + 1;
+/// One more than there are at most, since the oldest goes after the newest has come. No room is
+/// made for as many before they are there.
+const CAPACITY: usize = MOST + 1;
 
 type Cache = KeyedCache<Digest, Vec<u8>>;
 
@@ -72,7 +73,7 @@ fn text_length(pair: Option<(Digest, Vec<u8>)>) -> usize
 /// were.
 fn put(cache: &mut Cache, digest: Digest, text: Vec<u8>) -> Result<usize, AllocError>
     requires cap { cache.old.cap ≡ CAPACITY }
-    requires length { length cache.old.entries ≤ MOST_RESULTS }
+    requires length { length cache.old.entries ≤ MOST }
     ensures put { OnOk result (map result_shown cache.new.entries ≡ (digest, text.items)
         ∷ remove_entry (same_digest digest) (map result_shown cache.old.entries)) }
     ensures dropped { IfOk result (λ dropped.
@@ -98,26 +99,29 @@ fn pop(cache: &mut Cache) -> usize
 }
 
 /// Whether there are more results, or bytes, than the limits allow.
-fn is_over(cache: &Cache, bytes: u64) -> bool
+fn is_over(cache: &Cache, limits: Limits, bytes: u64) -> bool
     ensures over { result ≡ true →
-        (MOST_RESULTS < length cache.now.entries) ⊎ (MOST_RESULT_BYTES < bytes) }
-    ensures few { result ≡ false → length cache.now.entries ≤ MOST_RESULTS }
-    ensures short { result ≡ false → bytes ≤ MOST_RESULT_BYTES }
+        ((limits_value limits).results < length cache.now.entries)
+        ⊎ ((limits_value limits).result_bytes < bytes) }
+    ensures few { result ≡ false → length cache.now.entries ≤ (limits_value limits).results }
+    ensures short { result ≡ false → bytes ≤ (limits_value limits).result_bytes }
 {
-    cache.len() > MOST_RESULTS || bytes > MOST_RESULT_BYTES
+    cache.len() as u64 > limits.results() || bytes > limits.result_bytes()
 }
 
 /// Takes out the least recently used pairs until the limits are kept.
-fn trim(cache: &mut Cache, bytes: &mut u64)
+fn trim(cache: &mut Cache, limits: Limits, bytes: &mut u64, drops: &mut DroppedResults)
     requires bytes { bytes.old ≡ blobs_length (map result_shown cache.old.entries) }
     ensures entries { map result_shown cache.new.entries
-        ≡ front_within MOST_RESULTS MOST_RESULT_BYTES (map result_shown cache.old.entries) }
+        ≡ front_within (limits_value limits).results (limits_value limits).result_bytes
+        (map result_shown cache.old.entries) }
     ensures bytes { bytes.new ≡ blobs_length (map result_shown cache.new.entries) }
-    ensures few { length cache.new.entries ≤ MOST_RESULTS }
-    ensures short { bytes.new ≤ MOST_RESULT_BYTES }
+    ensures few { length cache.new.entries ≤ MOST }
+    ensures short { bytes.new ≤ MOST }
     ensures cap { cache.new.cap ≡ cache.old.cap }
 {
-    'results: while is_over(cache, *bytes) {
+    'results: while is_over(cache, limits, *bytes) {
+        *drops = drops.with(cache.len() as u64 > limits.results());
         *bytes -= pop(cache) as u64;
     }
 }
@@ -125,22 +129,24 @@ fn trim(cache: &mut Cache, bytes: &mut u64)
 /// Stores a result that is not too long, and takes out the oldest past the limits.
 fn store(
     cache: &mut Cache,
+    limits: Limits,
     bytes: &mut u64,
+    drops: &mut DroppedResults,
     digest: Digest,
     text: Vec<u8>,
 ) -> Result<(), AllocError>
     requires bytes { bytes.old ≡ blobs_length (map result_shown cache.old.entries) }
     requires cap { cache.old.cap ≡ CAPACITY }
-    requires few { length cache.old.entries ≤ MOST_RESULTS }
-    requires short { bytes.old ≤ MOST_RESULT_BYTES }
-    requires fits { length text.items ≤ MOST_RESULT_BYTES }
+    requires few { length cache.old.entries ≤ MOST }
+    requires short { bytes.old ≤ MOST }
+    requires fits { length text.items ≤ (limits_value limits).result_bytes }
     ensures entries { OnOk result (map result_shown cache.new.entries
-        ≡ front_within MOST_RESULTS MOST_RESULT_BYTES
+        ≡ front_within (limits_value limits).results (limits_value limits).result_bytes
         ((digest, text.items)
         ∷ remove_entry (same_digest digest) (map result_shown cache.old.entries))) }
     ensures bytes { bytes.new ≡ blobs_length (map result_shown cache.new.entries) }
-    ensures few { length cache.new.entries ≤ MOST_RESULTS }
-    ensures short { bytes.new ≤ MOST_RESULT_BYTES }
+    ensures few { length cache.new.entries ≤ MOST }
+    ensures short { bytes.new ≤ MOST }
     ensures cap { cache.new.cap ≡ cache.old.cap }
     ensures err { OnErr result (map result_shown cache.new.entries
         ≡ map result_shown cache.old.entries) }
@@ -148,7 +154,7 @@ fn store(
     let length = text.len() as u64;
     let dropped = put(cache, digest, text)?;
     *bytes = *bytes + length - dropped as u64;
-    trim(cache, bytes);
+    trim(cache, limits, bytes, drops);
     Ok(())
 }
 
@@ -157,19 +163,25 @@ fn store(
 pub struct Results {
     cache: Cache,
     bytes: u64,
+    /// For an operator alone.
+    drops: DroppedResults,
 }
 
 // Written out, so that no crate above proves again that each part of it may be dropped.
 impl Drop for Results {
     fn drop(self) {
-        let Results { cache, bytes: _ } = self;
+        let Results {
+            cache,
+            bytes: _,
+            drops: _,
+        } = self;
         drop(cache);
     }
 }
 
 impl Model for Results {
     ghost use Rattle.std.specs.Prelude.{◌≡◌, ◌≤◌, List, length, map};
-    ghost use Rattle.action_cache.specs.declared.results.TheConstants.{MOST_RESULTS, MOST_RESULT_BYTES, CAPACITY};
+    ghost use Rattle.action_cache.specs.declared.results.TheConstants.{MOST, CAPACITY};
     ghost use Rattle.instance_view.specs.Visible.{Blob, blobs_length};
     ghost use Rattle.action_cache.specs.Results.{result_shown};
 
@@ -179,7 +191,7 @@ impl Model for Results {
 
     ghost invariant = { λ r. (r.bytes ≡ blobs_length (map result_shown r.cache.entries))
         × (r.cache.cap ≡ CAPACITY)
-        × (length r.cache.entries ≤ MOST_RESULTS) × (r.bytes ≤ MOST_RESULT_BYTES) };
+        × (length r.cache.entries ≤ MOST) × (r.bytes ≤ MOST) };
 }
 
 impl Results {
@@ -189,7 +201,11 @@ impl Results {
     {
         let most = NonZeroUsize::new(CAPACITY).unwrap();
         let cache = new_cache(alloc, key, most)?;
-        Ok(Results { cache, bytes: 0 })
+        Ok(Results {
+            cache,
+            bytes: 0,
+            drops: DroppedResults::none(),
+        })
     }
 
     /// How many results there are.
@@ -197,6 +213,11 @@ impl Results {
         ensures { result ≡ length self.now }
     {
         self.cache.len()
+    }
+
+    /// What was dropped for the limits.
+    pub fn dropped(&self) -> DroppedResults {
+        self.drops
     }
 
     /// The bytes of an action's result. This is no use of it.
@@ -214,15 +235,28 @@ impl Results {
     }
 
     /// Stores the bytes of an action's result, in the place of an earlier one. Of all results the
-    /// longest front stays that has at most 10,000 results and 67,108,864 bytes; one that has more
-    /// bytes changes nothing.
-    pub fn update(&mut self, action: &Digest, text: Vec<u8>) -> Result<(), AllocError>
-        ensures ok { OnOk result (self.new ≡ results_after_store action.now text.items self.old) }
+    /// longest front stays that has no more results and no more bytes than the limits allow; one
+    /// that has more bytes changes nothing.
+    pub fn update(
+        &mut self,
+        limits: Limits,
+        action: &Digest,
+        text: Vec<u8>,
+    ) -> Result<(), AllocError>
+        ensures ok { OnOk result (self.new
+            ≡ results_after_store (limits_value limits) action.now text.items self.old) }
         ensures err { OnErr result (self.new ≡ self.old) }
     {
-        if text.len() as u64 > MOST_RESULT_BYTES {
+        if text.len() as u64 > limits.result_bytes() {
             return Ok(());
         }
-        store(&mut self.cache, &mut self.bytes, *action, text)
+        store(
+            &mut self.cache,
+            limits,
+            &mut self.bytes,
+            &mut self.drops,
+            *action,
+            text,
+        )
     }
 }

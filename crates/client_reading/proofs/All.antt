@@ -1,5 +1,5 @@
 -- All that a client reads, of every past.
-use Rattle.std.proofs.Common.{sym, subst, ℕ, List, [], ◌∷◌}
+use Rattle.std.proofs.Common.{sym, subst, ℕ, ◌<◌, ◌^◌, List, [], ◌∷◌}
 use Rattle.std.specs.Prelude.{◌==◌, map, Some}
 use Rattle.std.specs.List.{AllByRecursion}
 use Rattle.http2_streams.specs.History.{sent_frames}
@@ -24,13 +24,13 @@ on_stream limit s (o ∷ os) h = all_append (IsItemWithin limit) (item_on s o) (
 
 -- ---- all of it
 
-responses_past : (cs : List PastChange) → AllByRecursion IsChange cs → ReadsResponses (past_of cs)
-responses_past cs all limit small takable s =
-    let p : Past = past_of cs in
+responses_past : (window : ℕ) (cs : List PastChange) → AllByRecursion IsChange cs → ReadsResponses (past_of window cs)
+responses_past window cs all limit small takable s =
+    let p : Past = past_of window cs in
     let items : List Item = items_owed_on s p.owed in
     let within = all_within limit items (on_stream limit s p.owed takable) in
-    let follows : Follows s (Some new_table) (map piece_of (all_singles items)) (sent_frames p.history) = subst (λ (ps : List Piece). Follows s (Some new_table) ps (sent_frames p.history)) (all_pieces items) ((streams_past cs all).follows s) in
+    let follows : Follows s (Some new_table) (map piece_of (all_singles items)) (sent_frames p.history) = subst (λ (ps : List Piece). Follows s (Some new_table) ps (sent_frames p.history)) (all_pieces items) ((streams_past window cs all).follows s) in
     subst (IsBeginning limit (stream_parts p.history s)) (sym (all_parts items)) (stream_read limit s (sent_frames p.history) (all_singles items) small within follows)
 
-pub reads_past : (cs : List PastChange) → AllByRecursion IsChange cs → IsReadByClient (past_of cs)
-reads_past cs all = record { frames = frames_read cs all; turns = turns_past cs; control = control_past cs all; responses = responses_past cs all }
+pub reads_past : (window : ℕ) (cs : List PastChange) → window < 2 ^ 31 → AllByRecursion IsChange cs → IsReadByClient window (past_of window cs)
+reads_past window cs most all = record { frames = frames_read window cs most all; turns = turns_past window cs; control = control_past window cs all; responses = responses_past window cs all }

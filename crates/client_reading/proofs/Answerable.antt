@@ -13,7 +13,7 @@ use Rattle.http2_streams.specs.declared.event.StreamEvent.{StreamEvent}
 use Rattle.http2_streams.specs.History.{Entry, live_streams, has_failed, is_ended_by_server}
 use Rattle.http2_streams.specs.LiveStreams.{has_stream, IsOnItsStream, live_after_end, live_after, other_streams}
 use Rattle.http2_streams.specs.Rules.{answer_after}
-use Rattle.http2_streams.specs.Entries.{control_frames, entries_of}
+use Rattle.http2_streams.specs.Entries.{entries_of}
 use Rattle.http2_streams.proofs.EventLaw.{event_on_stream, live_after_frame, stays_whole}
 use Rattle.http2_streams.proofs.LiveLaw.{listed_is_live}
 use Rattle.http2_streams.specs.Standing.{standing}
@@ -140,14 +140,14 @@ frame_both d f (Ok a) is stands ends fine = elim (cases_Bool (fits (is_flood d f
   | inr cut ↦ let o = outcome_cut d f a is cut in fault_both d (d ++ frame_entries d f) f 0 EnhanceYourCalm (outcome d f) (ap (λ (x : Outcome). x.fails) o) (ap (λ (x : Outcome). x.event) o)
 ]
 
-past_both : (p : Past) (f : RawFrame) → IsPast p → has_failed p.history ≡ false → Both p.history (with_frame p f).history (outcome p.history f)
-past_both p f h fine =
-    let stands : Stands p.history = subst (λ (q : Past). Stands q.history) (sym h.2) (stands_past h.0 h.1) in
-    let ends : EndsLive p.history = subst (λ (q : Past). EndsLive q.history) (sym h.2) (ends_past h.0 h.1) in
+past_both : (window : ℕ) (p : Past) (f : RawFrame) → IsPast window p → has_failed p.history ≡ false → Both p.history (with_frame p f).history (outcome p.history f)
+past_both window p f h fine =
+    let stands : Stands p.history = subst (λ (q : Past). Stands q.history) (sym h.2) (stands_past window h.0 h.1) in
+    let ends : EndsLive p.history = subst (λ (q : Past). EndsLive q.history) (sym h.2) (ends_past window h.0 h.1) in
     frame_both p.history f (answer_after p.history f) refl stands ends fine
 
-pub calls_answerable : (p : Past) (f : RawFrame) → IsPast p → CanGoOn p → AreAnswerableCalls (with_frame p f)
-calls_answerable p f h on = subst (λ (es : List CallEvent). AreAnswerable (with_frame p f).history (es ++ cond (outcome p.history f).fails (cancels p.history) (call_events_of p.history (outcome p.history f).event))) (sym on.1) (past_both p f h on.0).0
+pub calls_answerable : (window : ℕ) (p : Past) (f : RawFrame) → IsPast window p → CanGoOn p → AreAnswerableCalls (with_frame p f)
+calls_answerable window p f h on = subst (λ (es : List CallEvent). AreAnswerable (with_frame p f).history (es ++ cond (outcome p.history f).fails (cancels p.history) (call_events_of p.history (outcome p.history f).event))) (sym on.1) (past_both window p f h on.0).0
 
-pub requests_answerable : (p : Past) (f : RawFrame) → IsPast p → CanGoOn p → AnswersOnStreams p f
-requests_answerable p f h on = (past_both p f h on.0).1
+pub requests_answerable : (window : ℕ) (p : Past) (f : RawFrame) → IsPast window p → CanGoOn p → AnswersOnStreams p f
+requests_answerable window p f h on = (past_both window p f h on.0).1

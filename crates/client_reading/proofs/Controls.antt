@@ -102,15 +102,15 @@ caused_more before (x ∷ xs) ys =
 
 -- ---- more entries
 
-grows : (d es : List Entry) → filter is_control (sent_frames es) ≡ frames_caused_from d es → ReadsControl d → ReadsControl (d ++ es)
-grows d es h r =
-    let later : List Entry = r.0 in
-    let e : d ≡ greeting ∷ r.0 = r.1 in (
+grows : (window : ℕ) (d es : List Entry) → filter is_control (sent_frames es) ≡ frames_caused_from d es → ReadsControl window d → ReadsControl window (d ++ es)
+grows window d es h r =
+    let first : List Entry = greeting window in
+    let e : d ≡ first ++ r.0 = r.1 in (
       r.0 ++ es,
-      ap (λ (x : List Entry). x ++ es) e,
+      ap (λ (x : List Entry). x ++ es) e ∙ append_assoc first r.0 es,
       ap (filter is_control) (filter_map-append frame_out r.0 es) ∙ filter-append is_control (sent_frames r.0) (sent_frames es)
-          ∙ ap (λ gs. gs ++ filter is_control (sent_frames es)) r.2 ∙ ap (λ gs. frames_caused_from (greeting ∷ []) r.0 ++ gs) (h ∙ ap (λ (b : List Entry). frames_caused_from b es) e)
-          ∙ sym (caused_more (greeting ∷ []) r.0 es),
+          ∙ ap (λ gs. gs ++ filter is_control (sent_frames es)) r.2 ∙ ap (λ gs. frames_caused_from (greeting window) r.0 ++ gs) (h ∙ ap (λ (b : List Entry). frames_caused_from b es) e)
+          ∙ sym (caused_more (greeting window) r.0 es),
     )
 
 caused_first : (d : List Entry) (e : Entry) (fs : List Frame) → sent_frames (e ∷ map Out fs) ≡ sent_frames (map Out fs) → frames_caused_by d e ≡ fs → AllByRecursion IsControl fs → filter is_control (sent_frames (e ∷ map Out fs)) ≡ frames_caused_from d (e ∷ map Out fs)
@@ -118,12 +118,12 @@ caused_first d e fs silent h all =
     ap (filter is_control) (silent ∙ out_sent fs) ∙ all_control fs all ∙ sym h ∙ sym (append-nil (frames_caused_by d e))
     ∙ ap (λ gs. frames_caused_by d e ++ gs) (sym (outs_cause_nothing (d ++ e ∷ []) fs all))
 
-control_frame : (d : List Entry) (f : RawFrame) → ReadsControl d → ReadsControl (d ++ frame_entries d f)
-control_frame d f r = grows d (frame_entries d f) (caused_first d (In f) (outcome d f).put refl refl (outcome_control d f)) r
+control_frame : (window : ℕ) (d : List Entry) (f : RawFrame) → ReadsControl window d → ReadsControl window (d ++ frame_entries d f)
+control_frame window d f r = grows window d (frame_entries d f) (caused_first d (In f) (outcome d f).put refl refl (outcome_control d f)) r
 
-control_fault : (d : List Entry) (e : FrameError) (code : ErrorCode) → reading_fault e ≡ Some code → ReadsControl d → ReadsControl (d ++ fault_entries d e code)
-control_fault d e code is r =
-    grows d (fault_entries d e code)
+control_fault : (window : ℕ) (d : List Entry) (e : FrameError) (code : ErrorCode) → reading_fault e ≡ Some code → ReadsControl window d → ReadsControl window (d ++ fault_entries d e code)
+control_fault window d e code is r =
+    grows window d (fault_entries d e code)
     (caused_first d (Unreadable e) (fault_frames (has_failed d) (highest_stream d) code) refl (ap (λ o. option_map_or (fault_frames (has_failed d) (highest_stream d)) o []) is) (fault_control (has_failed d) (highest_stream d) code)) r
 
 -- ---- the pump
@@ -137,19 +137,20 @@ front_caused : (d : List Entry) (s : ℕ) (ps : List Piece) (fs : List Frame) �
 front_caused d s ps fs (inl b) = subst (λ (gs : List Frame). filter is_control (sent_frames (map Out gs)) ≡ frames_caused_from d (map Out gs)) (sym b.put) (turn_block d s (is_last b.block) (is_ended_by_client d s) true (block_text (position d) (fields_of b.block)) refl)
 front_caused d s ps fs (inr p) = subst (λ (gs : List Frame). filter is_control (sent_frames (map Out gs)) ≡ frames_caused_from d (map Out gs)) (sym p.put) refl
 
-control_turn : (os : List OwedItem) (d : List Entry) (fs : List Frame) → Next d os fs → ReadsControl d → ReadsControl (d ++ map Out fs)
-control_turn os d fs n r = grows d (map Out fs) (front_caused d n.stream (pieces_left_on d os n.stream) fs n.front) r
+control_turn : (window : ℕ) (os : List OwedItem) (d : List Entry) (fs : List Frame) → Next d os fs → ReadsControl window d → ReadsControl window (d ++ map Out fs)
+control_turn window os d fs n r = grows window d (map Out fs) (front_caused d n.stream (pieces_left_on d os n.stream) fs n.front) r
 
 -- ---- every past
 
-control_change : (p : Past) (c : PastChange) → IsChange c → ReadsControl p.history → ReadsControl (past_after_change p c).history
-control_change p (BytesReceived bytes) is r = r
-control_change p (FrameRead f) is r = control_frame p.history f r
-control_change p (FaultMet e code) is r = control_fault p.history e code is r
-control_change p (ItemGiven t item) is r = r
-control_change p (BytesTaken n) is r = grows p.history (Took n ∷ []) refl r
-control_change p FramesPut is r = pump_keeps ReadsControl p.owed (control_turn p.owed) p.history r
-control_change p (EventsGiven left) is r = r
+control_change : (window : ℕ) (p : Past) (c : PastChange) → IsChange c → ReadsControl window p.history → ReadsControl window (past_after_change p c).history
+control_change window p (BytesReceived bytes) is r = r
+control_change window p (FrameRead f) is r = control_frame window p.history f r
+control_change window p (FaultMet e code) is r = control_fault window p.history e code is r
+control_change window p (ItemGiven t item) is r = r
+control_change window p (BytesTaken n) is r = grows window p.history (Took n ∷ []) refl r
+control_change window p FramesPut is r = pump_keeps (ReadsControl window) p.owed (control_turn window p.owed) p.history r
+control_change window p (EventsGiven left) is r = r
 
-pub control_past : (cs : List PastChange) → AllByRecursion IsChange cs → ReadsControl (past_of cs).history
-control_past cs all = fold_keeps (λ (p : Past). ReadsControl p.history) IsChange past_after_change new_past cs control_change all ([], refl, refl)
+pub control_past : (window : ℕ) (cs : List PastChange) → AllByRecursion IsChange cs → ReadsControl window (past_of window cs).history
+control_past window cs all =
+    fold_keeps (λ (p : Past). ReadsControl window p.history) IsChange past_after_change (new_past window) cs (control_change window) all ([], sym (append-nil (greeting window)), refl)

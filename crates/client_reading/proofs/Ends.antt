@@ -20,6 +20,7 @@ use Rattle.grpc_sending.specs.Owed.{OwedItem, pieces_left_on}
 use Rattle.grpc_sending.specs.Pump.{reset_after}
 use Rattle.grpc_sending.proofs.Histories.{sent_more, received_more}
 use Rattle.conn_core.specs.Past.{Past, new_past}
+use Rattle.conn_core.proofs.Greeting.{greeted}
 use Rattle.conn_core.specs.Received.{outcome, fault_frames, frame_entries}
 use Rattle.conn_core.proofs.Numbers.{any_later, same_number}
 use Rattle.client_reading.specs.Changes.{PastChange, past_after_change, past_of, IsChange, BytesReceived, FrameRead, FaultMet, ItemGiven, BytesTaken, FramesPut, EventsGiven}
@@ -132,5 +133,6 @@ ends_change p (BytesTaken n) is h = more p.history (Took n ∷ []) (λ s lives. 
 ends_change p FramesPut is h = pump_keeps EndsLive p.owed (turn_ends p.owed) p.history h
 ends_change p (EventsGiven left) is h = h
 
-pub ends_past : (cs : List PastChange) → AllByRecursion IsChange cs → EndsLive (past_of cs).history
-ends_past cs all = fold_keeps (λ (p : Past). EndsLive p.history) IsChange past_after_change new_past cs ends_change all (λ s lives. refl)
+pub ends_past : (window : ℕ) (cs : List PastChange) → AllByRecursion IsChange cs → EndsLive (past_of window cs).history
+ends_past window cs all =
+    fold_keeps (λ (p : Past). EndsLive p.history) IsChange past_after_change (new_past window) cs ends_change all (greeted EndsLive window (λ s lives. refl) (λ s lives. refl))

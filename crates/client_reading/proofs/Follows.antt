@@ -26,6 +26,7 @@ use Rattle.grpc_sending.specs.Bytes.{position}
 use Rattle.grpc_sending.specs.Owed.{OwedItem, Item, item_on, items_owed_on, pieces_of, pieces_after_frame, pieces_after_frames, pieces_left_on, owed_with_item}
 use Rattle.grpc_sending.specs.Pump.{reset_after}
 use Rattle.conn_core.specs.Past.{Past, new_past, owed_with_items}
+use Rattle.conn_core.proofs.Greeting.{greeted}
 use Rattle.conn_core.specs.Calls.{items_at_once}
 use Rattle.conn_core.specs.Received.{outcome, fault_frames, frame_entries, fault_entries}
 use Rattle.client_reading.specs.Changes.{PastChange, past_after_change, past_of, IsChange, BytesReceived, FrameRead, FaultMet, ItemGiven, BytesTaken, FramesPut, EventsGiven}
@@ -206,5 +207,9 @@ streams_change p (BytesTaken n) is h = streams_control p.history (Took n ∷ [])
 streams_change p FramesPut is h = pump_keeps (λ (d : List Entry). Streams d p.owed) p.owed (streams_turn p.owed) p.history h
 streams_change p (EventsGiven left) is h = h
 
-pub streams_past : (cs : List PastChange) → AllByRecursion IsChange cs → Streams (past_of cs).history (past_of cs).owed
-streams_past cs all = fold_keeps (λ (p : Past). Streams p.history p.owed) IsChange past_after_change new_past cs streams_change all (record { table = new_table; read = refl; follows = λ s. (tt, tt) })
+streams_opening : (window : ℕ) → Streams (new_past window).history []
+streams_opening window =
+    greeted (λ (d : List Entry). Streams d []) window (record { table = new_table; read = refl; follows = λ s. (tt, (tt, tt)) }) (record { table = new_table; read = refl; follows = λ s. (tt, tt) })
+
+pub streams_past : (window : ℕ) (cs : List PastChange) → AllByRecursion IsChange cs → Streams (past_of window cs).history (past_of window cs).owed
+streams_past window cs all = fold_keeps (λ (p : Past). Streams p.history p.owed) IsChange past_after_change (new_past window) cs streams_change all (streams_opening window)

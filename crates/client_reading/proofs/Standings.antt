@@ -1,5 +1,5 @@
 -- Nothing has passed on a stream above the highest that was opened, so that the laws of live streams hold of every past.
-use Rattle.std.proofs.Common.{◌≡◌, ℕ, ◌≤◌, List, [], ◌∷◌, ◌++◌, refl, ap, ◌∙◌, sym, subst, append_assoc, arith, length, inl, inr}
+use Rattle.std.proofs.Common.{◌≡◌, ℕ, ◌-◌, ◌≤◌, List, [], ◌∷◌, ◌++◌, refl, ap, ◌∙◌, sym, subst, append_assoc, arith, length, inl, inr}
 use Rattle.std.specs.Prelude.{Bool, true, false, not, ◌&&◌, ◌||◌, ◌==◌, map, take, Result, Ok, Err}
 use Rattle.std.specs.List.{AllByRecursion, list_any}
 use Rattle.std.proofs.lemmas.Bool.{cases_Bool, true≢false}
@@ -10,7 +10,7 @@ use Rattle.http2_frames.specs.declared.codes.ErrorCode.TheVariants.{NoError, Enh
 use Rattle.http2_frames.specs.declared.error.FrameError.{FrameError}
 use Rattle.http2_frames.specs.declared.frame.RawFrame.{RawFrame}
 use Rattle.http2_frames.specs.declared.frame.Frame.{Frame}
-use Rattle.http2_frames.specs.declared.frame.Frame.TheVariants.{Data, Headers, RstStream}
+use Rattle.http2_frames.specs.declared.frame.Frame.TheVariants.{Data, Headers, RstStream, Settings, WindowUpdate}
 use Rattle.http2_frames.specs.Codes.{code_number}
 use Rattle.http2_streams.specs.declared.event.StreamEvent.{StreamEvent}
 use Rattle.http2_streams.specs.History.{Entry, In, Unreadable, Out, Took, live_streams, highest_stream, has_failed, is_goaway, is_ended_by_client}
@@ -28,7 +28,8 @@ use Rattle.grpc_sending.specs.Pieces.{Piece}
 use Rattle.grpc_sending.specs.Bytes.{position, untaken_count}
 use Rattle.grpc_sending.specs.Owed.{OwedItem, pieces_left_on}
 use Rattle.grpc_sending.specs.Pump.{reset_after}
-use Rattle.conn_core.specs.Past.{Past, new_past, greeting}
+use Rattle.conn_core.specs.Past.{Past, new_past, initial_window, streams_setting, window_setting}
+use Rattle.conn_core.proofs.Greeting.{greeted}
 use Rattle.conn_core.specs.Floods.{is_flood}
 use Rattle.conn_core.specs.Received.{Outcome, outcome, fault_outcome, frames_to_put, fits, fault_frames, frame_entries}
 use Rattle.conn_core.proofs.Answered.{outcome_good, outcome_cut, outcome_fault, entries_caused}
@@ -143,8 +144,17 @@ stands_change p (BytesTaken n) is h = stands_aside p.history n h
 stands_change p FramesPut is h = pump_keeps Stands p.owed (stands_turn p.owed) p.history h
 stands_change p (EventsGiven left) is h = h
 
-first_stands : Stands new_past.history
-first_stands = of_kept (standing []) (greeting ∷ []) (no_matter (standing []) [] greeting tt (record { fault = refl; state = λ fine. record { is = refl; idle = λ s above. record { unreset = refl; unended_by_client = refl; unended_by_server = refl; granted = refl; spent = refl } } }))
+first_kept : AreStreams (standing []) []
+first_kept = record { fault = refl; state = λ fine. record { is = refl; idle = λ s above. record { unreset = refl; unended_by_client = refl; unended_by_server = refl; granted = refl; spent = refl } } }
 
-pub stands_past : (cs : List PastChange) → AllByRecursion IsChange cs → Stands (past_of cs).history
-stands_past cs all = fold_keeps (λ (p : Past). Stands p.history) IsChange past_after_change new_past cs stands_change all first_stands
+first_stands : (window : ℕ) → Stands (new_past window).history
+first_stands window =
+    let settings : Entry = Out (Settings false (streams_setting ∷ window_setting window ∷ [])) in
+    let update : Entry = Out (WindowUpdate 0 (window - initial_window)) in
+    let usual : Entry = Out (Settings false (streams_setting ∷ [])) in
+    greeted Stands window
+    (of_kept (standing []) (settings ∷ update ∷ []) (no_matter (standing []) (settings ∷ []) update tt (no_matter (standing []) [] settings tt first_kept)))
+    (of_kept (standing []) (usual ∷ []) (no_matter (standing []) [] usual tt first_kept))
+
+pub stands_past : (window : ℕ) (cs : List PastChange) → AllByRecursion IsChange cs → Stands (past_of window cs).history
+stands_past window cs all = fold_keeps (λ (p : Past). Stands p.history) IsChange past_after_change (new_past window) cs stands_change all (first_stands window)

@@ -16,6 +16,7 @@ use Rattle.grpc_sending.specs.Owed.{OwedItem, pieces_left_on}
 use Rattle.grpc_sending.specs.Pump.{natural_part, reset_after}
 use Rattle.grpc_sending.proofs.Histories.{append-nil}
 use Rattle.conn_core.specs.Past.{Past, new_past}
+use Rattle.conn_core.proofs.Greeting.{greeted}
 use Rattle.conn_core.specs.Received.{outcome, fault_frames, frame_entries, fault_entries}
 use Rattle.client_reading.specs.Changes.{PastChange, past_after_change, past_of, BytesReceived, FrameRead, FaultMet, ItemGiven, BytesTaken, FramesPut, EventsGiven}
 use Rattle.client_reading.specs.Reads.{IsDataInTurn, MayBePut, ReadsInTurn}
@@ -90,7 +91,7 @@ keeps_at : (b0 before after : List Entry) (x : Entry) → KeepsFrom b0 (before +
 keeps_at b0 [] after x h = subst (λ (b : List Entry). KeepsAt b x) (sym (append-nil b0)) h.0
 keeps_at b0 (y ∷ before) after x h = subst (λ (b : List Entry). KeepsAt b x) (append_assoc b0 (y ∷ []) before) (keeps_at (b0 ++ y ∷ []) before after x h.1)
 
-pub turns_past : (cs : List PastChange) → ReadsInTurn (past_of cs).history
-turns_past cs before after f is =
-    let h = fold_keeps (λ (p : Past). Keeps p.history) (λ (c : PastChange). Unit {0}) past_after_change new_past cs keeps_change (any_changes cs) (tt, tt) in
+pub turns_past : (window : ℕ) (cs : List PastChange) → ReadsInTurn (past_of window cs).history
+turns_past window cs before after f is =
+    let h = fold_keeps (λ (p : Past). Keeps p.history) (λ (c : PastChange). Unit {0}) past_after_change (new_past window) cs keeps_change (any_changes cs) (greeted Keeps window (tt, (tt, tt)) (tt, tt)) in
     keeps_at [] before after (Out f) (subst Keeps is h)

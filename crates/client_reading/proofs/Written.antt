@@ -26,6 +26,7 @@ use Rattle.grpc_sending.specs.Owed.{OwedItem, pieces_left_on}
 use Rattle.grpc_sending.specs.Pump.{natural_part, block_frame, reset_after, history_after_pump}
 use Rattle.grpc_sending.proofs.Histories.{sent_more}
 use Rattle.conn_core.specs.Past.{Past, new_past}
+use Rattle.conn_core.proofs.Greeting.{greeted}
 use Rattle.conn_core.specs.Floods.{is_flood}
 use Rattle.conn_core.specs.Received.{Outcome, outcome, outcome_of, may_put, frames_to_put, fits, fault_frames, frame_entries, fault_entries}
 use Rattle.client_reading.specs.Changes.{PastChange, past_after_change, past_of, IsReceivable, IsChange, BytesReceived, FrameRead, FaultMet, ItemGiven, BytesTaken, FramesPut, EventsGiven}
@@ -137,14 +138,16 @@ sound_change p (BytesTaken n) is s = sound_entry p.history (Took n) refl tt s
 sound_change p FramesPut is s = sound_pumped p.history p.owed s
 sound_change p (EventsGiven left) is s = s
 
-sound_opening : Sound new_past.history
-sound_opening = record { framed = (tt, tt); written = ((((omega arith, omega arith), tt), omega arith, λ h. cc), tt) }
+sound_opening : (window : ℕ) → window < 2 ^ 31 → Sound (new_past window).history
+sound_opening window most =
+    greeted Sound window (record { framed = (tt, (tt, tt)); written = ((((omega arith, omega arith), ((omega arith, omega arith), tt)), omega arith, λ h. cc), ((omega arith, omega arith), tt)) })
+    (record { framed = (tt, tt); written = ((((omega arith, omega arith), tt), omega arith, λ h. cc), tt) })
 
-pub sound_past : (cs : List PastChange) → AllByRecursion IsChange cs → Sound (past_of cs).history
-sound_past cs all = fold_keeps (λ (p : Past). Sound p.history) IsChange past_after_change new_past cs sound_change all sound_opening
+pub sound_past : (window : ℕ) (cs : List PastChange) → window < 2 ^ 31 → AllByRecursion IsChange cs → Sound (past_of window cs).history
+sound_past window cs most all = fold_keeps (λ (p : Past). Sound p.history) IsChange past_after_change (new_past window) cs sound_change all (sound_opening window most)
 
 pub sound_reads : (d : List Entry) → Sound d → ReadsFrames d
 sound_reads d s = record { divided = texts_again [] (sent_frames d) s.written; understood = all_by IsWritable (λ f. frame_of (raw_of f) ≡ Ok f) (sent_frames d) again s.written }
 
-pub frames_read : (cs : List PastChange) → AllByRecursion IsChange cs → ReadsFrames (past_of cs).history
-frames_read cs all = sound_reads (past_of cs).history (sound_past cs all)
+pub frames_read : (window : ℕ) (cs : List PastChange) → window < 2 ^ 31 → AllByRecursion IsChange cs → ReadsFrames (past_of window cs).history
+frames_read window cs most all = sound_reads (past_of window cs).history (sound_past window cs most all)

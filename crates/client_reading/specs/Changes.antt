@@ -46,9 +46,9 @@ IsChange (FrameRead f) = IsReceivable f
 IsChange (FaultMet e code) = reading_fault e ≡ Some code
 IsChange _ = Unit {0}
 
-abbrev pub past_of : List PastChange → Past
-past_of cs = fold past_after_change new_past cs
+abbrev pub past_of : ℕ → List PastChange → Past
+past_of window cs = fold past_after_change (new_past window) cs
 
--- what such changes made of the opening
-abbrev pub IsPast : Past → Type 0
-IsPast p = (cs : List PastChange) × AllByRecursion IsChange cs × (p ≡ past_of cs)
+-- what such changes made of the opening of a connection with this window
+abbrev pub IsPast : ℕ → Past → Type 0
+IsPast window p = (cs : List PastChange) × AllByRecursion IsChange cs × (p ≡ past_of window cs)

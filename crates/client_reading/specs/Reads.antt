@@ -70,11 +70,11 @@ frames_caused_from before [] = []
 frames_caused_from before (e ∷ es) =
     frames_caused_by before e ++ frames_caused_from (before ++ e ∷ []) es
 
--- the greeting stands first, and behind it is what was caused, in order
-abbrev pub ReadsControl : List Entry → Type 0
-ReadsControl d =
-    (later : List Entry) × (d ≡ greeting ∷ later)
-    × (filter is_control (sent_frames later) ≡ frames_caused_from (greeting ∷ []) later)
+-- the greeting, by the window, stands first, and behind it is what was caused, in order
+abbrev pub ReadsControl : ℕ → List Entry → Type 0
+ReadsControl window d =
+    (later : List Entry) × (d ≡ greeting window ++ later)
+    × (filter is_control (sent_frames later) ≡ frames_caused_from (greeting window) later)
 
 -- ---- all of it
 
@@ -85,8 +85,9 @@ ReadsResponses p =
     (limit : ℕ) → limit < message_length_limit → IsTakable limit p.owed → (s : ℕ) →
     IsBeginning limit (stream_parts p.history s) (response_of (items_owed_on s p.owed))
 
-pub record IsReadByClient (p : Past) : Type 0 where
+-- of a connection whose windows are of so many bytes
+pub record IsReadByClient (window : ℕ) (p : Past) : Type 0 where
   pub frames : ReadsFrames p.history
   pub turns : ReadsInTurn p.history
-  pub control : ReadsControl p.history
+  pub control : ReadsControl window p.history
   pub responses : ReadsResponses p

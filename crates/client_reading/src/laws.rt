@@ -1,6 +1,6 @@
 //! What holds of every past of a connection.
 
-ghost use Rattle.std.specs.Prelude.{ℕ, List};
+ghost use Rattle.std.specs.Prelude.{◌<◌, ◌^◌, ℕ, List};
 ghost use Rattle.std.specs.List.{AllByRecursion};
 ghost use Rattle.http2_frames.specs.Reading.{split};
 ghost use Rattle.http2_frames.specs.declared.frame.RawFrame.{RawFrame};
@@ -20,17 +20,19 @@ pub fn received_frames_are_frames()
 
 /// A connection begins with a past, and each change of one makes another.
 pub fn changes_make_pasts()
-    ensures opening { IsPast new_past }
-    ensures change { (p : Past) (c : PastChange) → IsChange c → IsPast p →
-        IsPast (past_after_change p c) }
+    ensures opening { (window : ℕ) → IsPast window (new_past window) }
+    ensures change { (window : ℕ) (p : Past) (c : PastChange) → IsChange c → IsPast window p →
+        IsPast window (past_after_change p c) }
 {}
 
-/// All that a client reads of the bytes that were put: frames as they were meant (RFC 9113),
+/// All that a client reads of the bytes that were put, whatever the server's windows are, up to
+/// 2^31 - 1 bytes: frames as they were meant (RFC 9113),
 /// HEADERS and DATA on live streams and within the windows, control frames that were caused, in
 /// order, and on each stream a beginning of what was owed to it (RFC 7541 for its header blocks,
 /// gRPC over HTTP2 for its messages).
 pub fn what_a_client_reads()
-    ensures { (p : Past) → IsPast p → IsReadByClient p }
+    ensures { (window : ℕ) (p : Past) → window < 2 ^ 31 → IsPast window p →
+        IsReadByClient window p }
 {}
 
 /// The messages that are read of a range bring all its bytes, in order: each is a ReadResponse
@@ -43,7 +45,8 @@ pub fn ranges_bring_their_bytes()
 /// answered at once, unless the call is given up: an answer to it is owed to its stream, and never
 /// dropped.
 pub fn answers_are_owed()
-    ensures calls { (p : Past) (f : RawFrame) → IsPast p → CanGoOn p →
+    ensures calls { (window : ℕ) (p : Past) (f : RawFrame) → IsPast window p → CanGoOn p →
         AreAnswerableCalls (with_frame p f) }
-    ensures requests { (p : Past) (f : RawFrame) → IsPast p → CanGoOn p → AnswersOnStreams p f }
+    ensures requests { (window : ℕ) (p : Past) (f : RawFrame) → IsPast window p → CanGoOn p →
+        AnswersOnStreams p f }
 {}

@@ -1,3 +1,3 @@
-mod Commands
+mod Adding
 mod Matched
 mod Faults

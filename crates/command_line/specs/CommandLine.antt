@@ -1,9 +1,10 @@
 -- The command line as `clap` reads it, and what its words ask for.
-use Rattle.std.specs.Prelude.{ℕ, pos, true, ◌&&◌, ◌^◌, nat_lt, List, [], ◌∷◌, Option, Some, None, codes, if◌then◌else◌, option_map, option_and_then}
+use Rattle.std.specs.Prelude.{ℕ, pos, Bool, true, false, ◌&&◌, ◌^◌, nat_le, nat_lt, List, [], ◌∷◌, Option, Some, None, codes, if◌then◌else◌, is_none, is_some, option_map, option_and_then}
 use Rattle.std.specs.Str.{bytes_eq}
 use Rattle.std.specs.Str.Parse.{without_leading_plus}
 use Rattle.decimals.specs.Number.{decimal_value, is_decimal}
 use Rattle.sizes.specs.Size.{size_of}
+use Rattle.instance_limits.specs.Limits.{LimitsValue, usual_limits}
 use Rattle.clap.specs.Words.{App, Row, Rule, Shape, Text, all_of, first_of, new_app, new_rule, one_of, with_rule, with_subcommand}
 use Rattle.clap.specs.declared.builder.action.ArgAction.TheVariants.{Append, Set}
 use Rattle.clap.specs.declared.builder.value_parser.ValueParser.{ValueParser}
@@ -32,6 +33,10 @@ port_rule =
     record (long_option (codes "port"))
     { required = true; parser = Some (Signed (pos 1) (pos 65535)) }
 
+-- the same where something else may be asked for
+abbrev pub asked_port_rule : Rule
+asked_port_rule = record port_rule { required = false }
+
 abbrev pub send_rule : Rule
 send_rule = record (long_option (codes "send")) { required = true }
 
@@ -51,11 +56,37 @@ lasting_rule = record (long_option (codes "turns")) { defaults = codes "10000000
 abbrev pub listen_rule : Rule
 listen_rule = record (long_option (codes "listen")) { defaults = codes "127.0.0.1" ∷ [] }
 
+-- from 1 to 2^31
+abbrev pub blobs_rule : Rule
+blobs_rule =
+    record (long_option (codes "blobs"))
+    { parser = Some (Unsigned 1 2147483648); defaults = codes "65536" ∷ [] }
+
+-- from 0 to 2^31
+abbrev pub results_rule : Rule
+results_rule =
+    record (long_option (codes "results"))
+    { parser = Some (Unsigned 0 2147483648); defaults = codes "10000" ∷ [] }
+
+-- what `--result-bytes` and `--window` may be is said where they are read
+abbrev pub result_bytes_rule : Rule
+result_bytes_rule =
+    record (long_option (codes "result-bytes")) { defaults = codes "67108864" ∷ [] }
+
+abbrev pub window_rule : Rule
+window_rule = record (long_option (codes "window")) { defaults = codes "65535" ∷ [] }
+
 abbrev pub metrics_rule : Rule
 metrics_rule = optional (codes "metrics")
 
 abbrev pub stop_rule : Rule
 stop_rule = optional (codes "stop")
+
+abbrev pub end_rule : Rule
+end_rule = optional (codes "end")
+
+abbrev pub links_rule : Rule
+links_rule = optional (codes "links")
 
 abbrev pub host_rule : Rule
 host_rule = record (long_option (codes "host")) { defaults = codes "127.0.0.1" ∷ [] }
@@ -81,9 +112,15 @@ instances_rule =
     record (new_rule (codes "NAME:PORT:QUOTA:SLOTS[:PARENT]"))
     { required = true; action = Some Append }
 
+-- with the four options for the numbers of all instances
+abbrev pub with_limits : App → App
+with_limits a =
+    with_rule (with_rule (with_rule (with_rule a
+    blobs_rule) results_rule) result_bytes_rule) window_rule
+
 -- a command that carries out the script of a file
 abbrev pub script_command : Text → Shape
-script_command name = (with_rule (new_app name) file_rule).top
+script_command name = (with_rule (with_limits (new_app name)) file_rule).top
 
 abbrev pub probe_command : Shape
 probe_command =
@@ -93,16 +130,19 @@ probe_command =
 
 abbrev pub check_command : Shape
 check_command =
-    (with_rule (with_rule (with_rule (with_rule (new_app (codes "check"))
-    port_rule) host_rule) instance_rule)
-    seconds_rule).top
+    (with_rule (with_rule (with_rule (with_rule (with_rule (new_app (codes "check"))
+    asked_port_rule) host_rule) instance_rule)
+    seconds_rule) metrics_rule).top
+
+-- with the options for where and how long is served, and for what runs and watches
+abbrev pub with_ways : App → App
+with_ways a =
+    with_rule (with_rule (with_rule (with_rule (with_rule (with_rule (with_rule (with_rule a
+    work_rule) launcher_rule) lasting_rule) listen_rule) metrics_rule) stop_rule) end_rule) links_rule
 
 abbrev pub serve_command : Shape
 serve_command =
-    (with_rule (with_rule (with_rule (with_rule (with_rule (with_rule (with_rule
-    (new_app (codes "serve"))
-    work_rule) launcher_rule) lasting_rule) listen_rule) metrics_rule) stop_rule)
-    instances_rule).top
+    (with_rule (with_limits (with_ways (new_app (codes "serve")))) instances_rule).top
 
 -- a command that tells its version
 abbrev pub with_version : App → App
@@ -124,19 +164,23 @@ command_line =
 -- ---- what is asked for
 
 pub data InvocationValue : Type 0 where
-  -- the script of calls of a file, or of standard input
-  unary : Option Text → InvocationValue
-  -- the script of events of a file
-  replay : Text → InvocationValue
+  -- the script of calls of a file, or of standard input, by instances with these numbers
+  unary : Option Text → LimitsValue → InvocationValue
+  -- the script of events of a file, by instances with these numbers
+  replay : Text → LimitsValue → InvocationValue
   -- to serve the instances of these words at an address, for so many turns, and to have programs
-  -- started by a launcher, or as they are; to write figures to a file, and to end by one
+  -- started by a launcher, or as they are; to write figures to a file, to end by one, and to end
+  -- jobs by another; and what becomes of links
   serve : (work : Text) (launcher : Option Text) (turns : ℕ) (listen : Text)
-      (metrics stop : Option Text) (instances : List Text) → InvocationValue
+      (metrics stop end links : Option Text) (limits : LimitsValue) (instances : List Text)
+      → InvocationValue
   -- to send a file's bytes to a port, and to wait for so many, for so many turns
   probe : (port : ℕ) (send : Text) (want turns : ℕ) → InvocationValue
   -- to ask the server at a port of a host, for an instance or for the port's own, and to wait for
   -- so many seconds
   check : (port : ℕ) (host : Text) (instance : Option Text) (seconds : ℕ) → InvocationValue
+  -- to tell the figures in a file, those of an instance or all
+  figures : (metrics : Text) (instance : Option Text) → InvocationValue
 
 -- the number below a bound that a text writes in decimal, with a plus sign or none
 abbrev pub number_below : ℕ → Text → Option ℕ
@@ -162,6 +206,30 @@ abbrev pub bytes_of : Text → List Row → Option ℕ
 bytes_of name given =
     option_and_then count_of (option_and_then size_of (first_of name given))
 
+-- the numbers may be chosen for an instance: those of `IsLimits`
+abbrev pub are_limits : LimitsValue → Bool
+are_limits limits =
+    nat_le 1 limits.blobs && nat_le limits.blobs (2 ^ 31) && nat_le limits.results (2 ^ 31)
+    && nat_le 4194304 limits.result_bytes && nat_le limits.result_bytes (2 ^ 31)
+    && nat_le 65535 limits.window && nat_lt limits.window (2 ^ 31)
+
+-- the numbers, if they may be chosen
+abbrev pub chosen : LimitsValue → Option LimitsValue
+chosen limits = if are_limits limits then Some limits else None
+
+-- the numbers that were given for all instances
+abbrev pub limits_given : List Row → Option LimitsValue
+limits_given given =
+    option_and_then (λ blobs. option_and_then (λ results. option_and_then (λ result_bytes.
+    option_and_then (λ window. chosen (record {
+      blobs = blobs;
+      results = results;
+      result_bytes = result_bytes;
+      window = window;
+    }))
+    (bytes_of (codes "window") given)) (bytes_of (codes "result-bytes") given))
+    (number_of (codes "results") given)) (number_of (codes "blobs") given)
+
 abbrev pub probe_of : List Row → Option InvocationValue
 probe_of given =
     option_and_then (λ port. option_and_then (λ send. option_and_then (λ want.
@@ -169,12 +237,20 @@ probe_of given =
     (bytes_of (codes "want") given)) (first_of (codes "send") given))
     (option_and_then port_of (number_of (codes "port") given))
 
-abbrev pub check_of : List Row → Option InvocationValue
-check_of given =
+abbrev pub question_of : List Row → Option InvocationValue
+question_of given =
     option_and_then (λ port. option_and_then (λ host.
     option_map (λ seconds. check port host (first_of (codes "instance") given) seconds)
     (number_of (codes "seconds") given)) (first_of (codes "host") given))
     (option_and_then port_of (number_of (codes "port") given))
+
+-- a file's figures, where no port is given beside it; or else a server's answer
+abbrev pub check_of : List Row → Option InvocationValue
+check_of given =
+    if is_none (first_of (codes "metrics") given) then question_of given
+    else if is_some (first_of (codes "port") given) then None
+    else option_map (λ metrics. figures metrics (first_of (codes "instance") given))
+    (first_of (codes "metrics") given)
 
 -- for how many turns a server lasts: for as many as a number says, or for 2^64 - 1
 abbrev pub lasting_of : List Row → Option ℕ
@@ -186,18 +262,22 @@ lasting_of given =
 abbrev pub serve_of : List Row → Option InvocationValue
 serve_of given =
     option_and_then (λ work. option_and_then (λ turns. option_and_then (λ listen.
+    option_and_then (λ limits.
     option_map (λ instances. serve work (first_of (codes "launcher") given) turns listen
-    (first_of (codes "metrics") given) (first_of (codes "stop") given) instances)
-    (all_of (codes "NAME:PORT:QUOTA:SLOTS[:PARENT]") given))
+    (first_of (codes "metrics") given) (first_of (codes "stop") given)
+    (first_of (codes "end") given) (first_of (codes "links") given) limits instances)
+    (all_of (codes "NAME:PORT:QUOTA:SLOTS[:PARENT]") given)) (limits_given given))
     (first_of (codes "listen") given))
     (lasting_of given)) (first_of (codes "work") given)
 
 abbrev pub file_or_peer_by : Text → List Row → Option InvocationValue
 file_or_peer_by name given =
     if bytes_eq name (codes "unary")
-    then option_map (λ file. unary (Some file)) (first_of (codes "FILE") given)
+    then option_and_then (λ file. option_map (unary (Some file)) (limits_given given))
+    (first_of (codes "FILE") given)
     else (if bytes_eq name (codes "replay")
-    then option_map (λ file. replay file) (first_of (codes "FILE") given)
+    then option_and_then (λ file. option_map (replay file) (limits_given given))
+    (first_of (codes "FILE") given)
     else (if bytes_eq name (codes "check") then check_of given else probe_of given))
 
 -- what a command of this name asks for, with what was given to it
@@ -206,7 +286,7 @@ invocation_by name given =
     if bytes_eq name (codes "serve") then serve_of given else file_or_peer_by name given
 
 -- what the command that the words name asks for; where they name none, it is the script on standard
--- input
+-- input, with the usual numbers
 abbrev pub invocation_of : Option (Text × List Row) → Option InvocationValue
-invocation_of None = Some (unary None)
+invocation_of None = Some (unary None usual_limits)
 invocation_of (Some (name, given)) = invocation_by name given

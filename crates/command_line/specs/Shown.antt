@@ -8,34 +8,43 @@ use Rattle.clap.specs.declared.builder.command.Command.{Command}
 use Rattle.clap.specs.declared.builder.command.Command.TheViews.{out-Command as fields_of}
 use Rattle.clap.specs.declared.error.Error.{Error}
 use Rattle.clap.specs.declared.error.kind.ErrorKind.TheVariants.{ValueValidation, OutOfMemory}
+use Rattle.instance_limits.specs.Shown.{limits_value}
 use Rattle.command_line.specs.declared.Invocation.{Invocation}
 use Rattle.command_line.specs.declared.Invocation.TheVariants as invocation
 use Rattle.command_line.specs.declared.CommandLineError.{CommandLineError}
 use Rattle.command_line.specs.declared.CommandLineError.TheVariants.{NoMemory, Answered}
-use Rattle.command_line.specs.CommandLine.{InvocationValue, unary, replay, serve, probe, check, command_line, invocation_of}
+use Rattle.command_line.specs.CommandLine.{InvocationValue, unary, replay, serve, probe, check, figures, command_line, invocation_of}
 
 abbrev pub invocation_value : Invocation → InvocationValue
-invocation_value (invocation.Unary file) = unary (option_map (λ f. f.now) file)
-invocation_value (invocation.Replay file) = replay file.now
+invocation_value (invocation.Unary file limits) =
+    unary (option_map (λ f. f.now) file) (limits_value limits)
+invocation_value (invocation.Replay file limits) = replay file.now (limits_value limits)
 invocation_value (invocation.Serve s) =
     serve s.work.now (option_map (λ l. l.now) s.launcher) s.turns s.listen.now
     (option_map (λ f. f.now) s.metrics) (option_map (λ f. f.now) s.stop)
+    (option_map (λ f. f.now) s.end) (option_map (λ l. l.now) s.links) (limits_value s.limits)
     (map (λ word. word.now) s.instances.items)
 invocation_value (invocation.Probe port send want turns) = probe port send.now want turns
 invocation_value (invocation.Check c) =
     check c.port c.host.now (option_map (λ n. n.now) c.instance) c.seconds
+invocation_value (invocation.Figures metrics instance) =
+    figures metrics.now (option_map (λ n. n.now) instance)
 
 -- an argument with this rule, which is for its own command alone
 abbrev pub HasRule : Rule → Arg → Type 0
 HasRule rule argument = (rule_of argument ≡ rule) × (argument.global ≡ false)
 
+-- the arguments of a command are for it alone
+abbrev pub IsLocal : Command → Type 0
+IsLocal command = (fields_of command).has_globals ≡ false
+
 -- a command that is this one, whose arguments are for it alone
 abbrev pub HasApp : App → Command → Type 0
-HasApp app command = (app_of command ≡ app) × ((fields_of command).has_globals ≡ false)
+HasApp app command = (app_of command ≡ app) × IsLocal command
 
 -- a command of this shape, whose arguments are for it alone
 abbrev pub HasShape : Shape → Command → Type 0
-HasShape shape command = (shape_of command ≡ shape) × ((fields_of command).has_globals ≡ false)
+HasShape shape command = (shape_of command ≡ shape) × IsLocal command
 
 -- what the words of a command line ask for
 abbrev pub invocation_asked : List Text → Option InvocationValue

@@ -2,7 +2,7 @@
 
 ghost use Rattle.std.specs.Prelude.{◌≡◌, Some, true};
 ghost use Rattle.clap.specs.Words.{new_rule};
-ghost use Rattle.command_line.specs.CommandLine.{file_rule, long_option, count_parser, port_rule, optional, send_rule, want_rule, turns_rule, lasting_rule, launcher_rule, listen_rule, metrics_rule, stop_rule, host_rule, instance_rule, seconds_rule, work_rule, instances_rule};
+ghost use Rattle.command_line.specs.CommandLine.{file_rule, long_option, count_parser, port_rule, asked_port_rule, optional, send_rule, want_rule, turns_rule, lasting_rule, launcher_rule, listen_rule, blobs_rule, results_rule, result_bytes_rule, window_rule, metrics_rule, stop_rule, end_rule, links_rule, host_rule, instance_rule, seconds_rule, work_rule, instances_rule};
 ghost use Rattle.command_line.specs.Shown.{HasRule};
 
 use clap::builder::ValueParser;
@@ -106,6 +106,23 @@ pub(crate) fn stop<'a>(alloc: Global) -> Arg<'a>
     optional(alloc, "stop", "FILE", help)
 }
 
+pub(crate) fn end<'a>(alloc: Global) -> Arg<'a>
+    ensures { HasRule end_rule result }
+{
+    let help =
+        "The file whose lines end jobs, NAME, NAME HASH or NAME abandoned; it is read and removed";
+    optional(alloc, "end", "FILE", help)
+}
+
+pub(crate) fn links<'a>(alloc: Global) -> Arg<'a>
+    ensures { HasRule links_rule result }
+{
+    let help =
+        "What becomes of symbolic links in output directories: leave-out, or fail to have the \
+                action fail; leave-out if not given";
+    optional(alloc, "links", "HOW", help)
+}
+
 pub(crate) fn host<'a>(alloc: Global) -> Arg<'a>
     ensures { HasRule host_rule result }
 {
@@ -120,7 +137,8 @@ pub(crate) fn instance<'a>(alloc: Global) -> Arg<'a>
         alloc,
         "instance",
         "NAME",
-        "The instance that is asked; that of the port if none is named",
+        "The instance that is asked, or whose figures are told; that of the port, or each, if \
+                none is named",
     )
 }
 
@@ -138,6 +156,23 @@ pub(crate) fn port<'a>(alloc: Global) -> Arg<'a>
 {
     let help = "The port to connect to";
     long_option(alloc, "port", "P", help, true).value_parser(value_parser!(u16).range(1..))
+}
+
+/// The port of a server that is asked, where one is.
+pub(crate) fn asked_port<'a>(alloc: Global) -> Arg<'a>
+    ensures { HasRule asked_port_rule result }
+{
+    let help = "The port of the server that is asked";
+    long_option(alloc, "port", "P", help, false).value_parser(value_parser!(u16).range(1..))
+}
+
+/// The file whose figures are told.
+pub(crate) fn figures<'a>(alloc: Global) -> Arg<'a>
+    ensures { HasRule metrics_rule result }
+{
+    let help =
+        "The file of a server's figures that is told in words, in place of asking the server";
+    optional(alloc, "metrics", "FILE", help)
 }
 
 pub(crate) fn turns<'a>(alloc: Global) -> Arg<'a>
@@ -163,4 +198,45 @@ pub(crate) fn want<'a>(alloc: Global) -> Arg<'a>
 {
     let help = "How many bytes to wait for, as 15 or 64K";
     long_option(alloc, "want", "N", help, true)
+}
+
+/// The most blobs of an instance.
+pub(crate) fn blobs<'a>(alloc: Global) -> Arg<'a>
+    ensures { HasRule blobs_rule result }
+{
+    let help = "How many blobs each instance stores at most, 1 to 2147483648. Each that is there \
+                takes some 570 bytes of memory beside its own";
+    long_option(alloc, "blobs", "N", help, false)
+        .value_parser(value_parser!(u64).range(1..=2_147_483_648))
+        .default_value("65536")
+}
+
+/// The most results of an instance.
+pub(crate) fn results<'a>(alloc: Global) -> Arg<'a>
+    ensures { HasRule results_rule result }
+{
+    let help = "How many results of actions each instance keeps at most, 0 to 2147483648. Each \
+                that is there takes some 250 bytes of memory beside its own";
+    long_option(alloc, "results", "N", help, false)
+        .value_parser(value_parser!(u64).range(0..=2_147_483_648))
+        .default_value("10000")
+}
+
+/// The most bytes of the results of an instance.
+pub(crate) fn result_bytes<'a>(alloc: Global) -> Arg<'a>
+    ensures { HasRule result_bytes_rule result }
+{
+    let help = "How many bytes the results of each instance have together at most, 4M to 2G. They \
+                count in no quota";
+    long_option(alloc, "result-bytes", "N", help, false).default_value("67108864")
+}
+
+/// The receive windows of connections and of streams.
+pub(crate) fn window<'a>(alloc: Global) -> Arg<'a>
+    ensures { HasRule window_rule result }
+{
+    let help = "How many bytes a client may send of a call, and on a connection, before the server \
+                has read them, 65535 to 2147483647. An upload brings so many in a round trip at \
+                most. It takes no memory by itself";
+    long_option(alloc, "window", "N", help, false).default_value("65535")
 }

@@ -26,7 +26,8 @@ pub(crate) const UNARY_LINES: &str =
     "The script: lines `instance NAME QUOTA`, `put NAME HEX` and `call NAME METHOD HEX`";
 
 pub(crate) const UNARY_AFTER: &str =
-    "QUOTA is in bytes, 0 to 1099511627776, in digits alone. HEX is bytes, two digits for each.\n\n\
+    "QUOTA is in bytes, 0 to 1099511627776, in digits alone. HEX is bytes, two digits for each.\n\
+    --blobs holds for each instance; the other three numbers have no effect on these calls.\n\n\
     Statuses:\n  \
     0  done\n  \
     1  FILE cannot be read, or standard output cannot be written\n  \
@@ -44,7 +45,8 @@ pub(crate) const REPLAY_LINES: &str =
 
 pub(crate) const REPLAY_AFTER: &str =
     "QUOTA is in bytes, 0 to 1099511627776, in digits alone; SLOTS is 0 to 64. \
-    Moments are in milliseconds.\n\n\
+    Moments are in milliseconds.\n\
+    --blobs, --results, --result-bytes and --window hold for each instance, as for serve.\n\n\
     Statuses:\n  \
     0  done\n  \
     1  FILE cannot be read, or standard output cannot be written\n  \
@@ -69,19 +71,23 @@ pub(crate) const PROBE_AFTER: &str = "The server is one of this host, 127.0.0.1.
     remoted probe --port 8980 --send request.bin --want 64K --turns 100000";
 
 pub(crate) const CHECK_ABOUT: &str =
-    "Ask a server on a port what it can do: status 0 where it answers in time, else 4";
+    "Ask a server on a port what it can do: status 0 where it answers in time, else 4; or tell a \
+    server's figures in words";
 
 pub(crate) const CHECK_AFTER: &str =
-    "It connects and calls GetCapabilities, which changes nothing.\n\n\
+    "With --port it connects and calls GetCapabilities, which changes nothing. With --metrics it reads \
+    the file that the server writes (serve --metrics FILE), and asks nobody.\n\n\
     Statuses:\n  \
-    0  it answers\n  \
-    1  standard output cannot be written\n  \
+    0  it answers, or its figures are told\n  \
+    1  FILE cannot be read, or standard output cannot be written\n  \
     2  the command line is wrong\n  \
-    4  it does not answer, not in time, or refuses; standard error says which\n  \
+    4  it does not answer, not in time, or refuses, or FILE has no such instance; standard error \
+    says which\n  \
     5  out of memory\n\n\
     Examples:\n  \
     remoted check --port 8980\n  \
-    remoted check --host 10.0.0.7 --port 8980 --instance red --seconds 2";
+    remoted check --host 10.0.0.7 --port 8980 --instance red --seconds 2\n  \
+    remoted check --metrics /run/figures --instance red";
 
 pub(crate) const SERVE_ABOUT: &str = "Serve instances on ports of this host";
 
@@ -93,6 +99,12 @@ pub(crate) const SERVE_AFTER: &str =
     1073741824 is 1 GiB, 8589934592 are 8 GiB, 1099511627776 are 1 TiB\n  \
     SLOTS   the most actions that it runs at a time, 0 to 64; with 0 it is a cache alone\n  \
     PARENT  the name of an instance whose blobs it reads, too\n\n\
+    Numbers for all instances, where a build is larger than the usual ones:\n  \
+    --blobs         some 570 bytes of memory for each blob that is there\n  \
+    --results       some 250 bytes for each result that is there\n  \
+    --result-bytes  as many bytes as results have; they count in no quota\n  \
+    --window        nothing by itself: an upload has at most so many bytes on its way\n\
+    None of them takes memory before something is there.\n\n\
     Statuses:\n  \
     0  it has served: for its turns, or until the file of --stop was there\n  \
     1  it cannot begin: a port is taken, or DIR, PROGRAM or a limit of the host is in the way\n  \
@@ -105,6 +117,12 @@ pub(crate) const SERVE_AFTER: &str =
     remoted serve --work /var/lib/remoted --turns endless --metrics /run/figures \
     --stop /run/end \\\n      \
     red:8980:8589934592:0\n  \
+    with a file that ends jobs (echo red >/run/x && mv /run/x /run/jobs):\n    \
+    remoted serve --work /var/lib/remoted --turns endless --end /run/jobs \
+    red:8980:8589934592:4\n  \
     a cache that CI fills, and a team's that reads it and runs up to 4 actions:\n    \
     remoted serve --work /var/lib/remoted --turns endless ci:8980:8589934592:0 \
-    red:8981:2147483648:4:ci";
+    red:8981:2147483648:4:ci\n  \
+    for builds of up to 30,000 actions, over a network:\n    \
+    remoted serve --work /var/lib/remoted --turns endless --blobs 500000 --results 100000 \\\n      \
+    --result-bytes 512M --window 4M red:8980:17179869184:0";

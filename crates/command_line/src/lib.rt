@@ -2,24 +2,21 @@
 #![tactic(auto)]
 
 mod arguments;
+mod commands;
 mod help_texts;
 
 ghost use Rattle.std.specs.Prelude.{◌≡◌, ◌≢◌, ◌⊎◌, ℕ, List, Some, None, true, map, string_bytes, IfOk, IfErr, option_map};
-ghost use Rattle.clap.specs.Words.{App, Shape, all_of, app_of, first_of, found_of, kind_of, new_app, rows_of, subcommand_rows_of, with_subcommand};
+ghost use Rattle.clap.specs.Words.{all_of, app_of, first_of, found_of, kind_of, rows_of, subcommand_rows_of};
 ghost use Rattle.clap.specs.declared.error.kind.ErrorKind.TheVariants.{DisplayHelp, DisplayVersion};
-ghost use Rattle.command_line.specs.CommandLine.{command_line, bytes_of, number_of, script_command, probe_command, probe_of, check_command, check_of, serve_command, lasting_of, serve_of, file_or_peer_by, invocation_by, invocation_of};
-ghost use Rattle.command_line.specs.Shown.{invocation_value, invocation_asked, HasApp, HasNoFault, HasShape, IsFaultOf, IsFrom};
+ghost use Rattle.command_line.specs.CommandLine.{command_line, bytes_of, limits_given, number_of, probe_of, check_of, question_of, lasting_of, serve_of, file_or_peer_by, invocation_by, invocation_of};
+ghost use Rattle.instance_limits.specs.Shown.{limits_value};
+ghost use Rattle.command_line.specs.Shown.{invocation_value, invocation_asked, HasNoFault, IsFaultOf, IsFrom};
 
-use crate::arguments::{
-    INSTANCES, file, host, instance, instances, lasting, launcher, listen, metrics, port, seconds,
-    send, stop, turns, want, work,
-};
-use crate::help_texts::{
-    ABOUT, AFTER, CHECK_ABOUT, CHECK_AFTER, PROBE_ABOUT, PROBE_AFTER, REPLAY_ABOUT, REPLAY_AFTER,
-    REPLAY_LINES, SERVE_ABOUT, SERVE_AFTER, UNARY_ABOUT, UNARY_AFTER, UNARY_LINES,
-};
+use crate::arguments::INSTANCES;
+use crate::commands::command;
 use clap::error::ErrorKind;
 use clap::{ArgMatches, Command, Error};
+use instance_limits::Limits;
 use sizes::size;
 use std::alloc::{AllocError, Global};
 
@@ -47,6 +44,12 @@ pub struct Service<'a> {
     pub metrics: Option<&'a str>,
     /// The file that ends the server once it is there.
     pub stop: Option<&'a str>,
+    /// The file whose lines end jobs.
+    pub end: Option<&'a str>,
+    /// What becomes of symbolic links in output directories, where that is said.
+    pub links: Option<&'a str>,
+    /// The numbers of all instances.
+    pub limits: Limits,
     /// A word `NAME:PORT:QUOTA:SLOTS[:PARENT]` for each instance.
     pub instances: Vec<&'a str>,
 }
@@ -64,13 +67,16 @@ pub struct Question<'a> {
 /// What the program is asked for.
 #[derive(Drop)]
 pub enum Invocation<'a> {
-    /// Carries out a script of calls: a file's, or that of standard input.
+    /// Carries out a script of calls, a file's or that of standard input, by instances with these
+    /// numbers.
     Unary {
         file: Option<&'a str>,
+        limits: Limits,
     },
-    /// Carries out the script of events of a file.
+    /// Carries out the script of events of a file, by instances with these numbers.
     Replay {
         file: &'a str,
+        limits: Limits,
     },
     /// Serves instances on ports of this host.
     Serve(Service<'a>),
@@ -84,93 +90,11 @@ pub enum Invocation<'a> {
     },
     /// Asks the server on a port of a host what it can do.
     Check(Question<'a>),
-}
-
-/// A command that has no arguments yet, with what its help begins and ends with.
-fn described<'a>(alloc: Global, name: &'a str, about: &'a str, after: &'a str) -> Command<'a>
-    ensures { HasApp (new_app name.entry.now) result }
-{
-    Command::new(alloc, name).about(about).after_help(after)
-}
-
-/// A command that carries out the script of a file.
-fn script_command<'a>(
-    alloc: Global,
-    name: &'a str,
-    about: &'a str,
-    lines: &'a str,
-    after: &'a str,
-) -> Result<Command<'a>, AllocError>
-    ensures { IfOk result (HasShape (script_command name.entry.now)) }
-{
-    described(alloc, name, about, after).arg(file(alloc, lines))
-}
-
-fn probe<'a>(alloc: Global) -> Result<Command<'a>, AllocError>
-    ensures { IfOk result (HasShape probe_command) }
-{
-    let args = vec![in alloc; port(alloc), send(alloc), want(alloc), turns(alloc)]?;
-    described(alloc, "probe", PROBE_ABOUT, PROBE_AFTER).args(args)
-}
-
-fn check<'a>(alloc: Global) -> Result<Command<'a>, AllocError>
-    ensures { IfOk result (HasShape check_command) }
-{
-    let args = vec![in alloc; port(alloc), host(alloc), instance(alloc), seconds(alloc)]?;
-    described(alloc, "check", CHECK_ABOUT, CHECK_AFTER).args(args)
-}
-
-fn serve<'a>(alloc: Global) -> Result<Command<'a>, AllocError>
-    ensures { IfOk result (HasShape serve_command) }
-{
-    let args = vec![in alloc;
-        work(alloc),
-        launcher(alloc),
-        lasting(alloc),
-        listen(alloc),
-        metrics(alloc),
-        stop(alloc),
-        instances(alloc),
-    ]?;
-    described(alloc, "serve", SERVE_ABOUT, SERVE_AFTER).args(args)
-}
-
-/// The command with one more below it, where both were made.
-fn with_command<'a>(
-    command: Result<Command<'a>, AllocError>,
-    made: Result<Command<'a>, AllocError>,
-) -> Result<Command<'a>, AllocError>
-    ensures { (app : App) → (shape : Shape) → IfOk command.entry (λ c. app_of c ≡ app)
-        → IfOk made.entry (HasShape shape)
-        → IfOk result (λ c. app_of c ≡ with_subcommand app shape) }
-{
-    // A `drop` is one call, where a `?` that lets a command go has one for each part of it.
-    match command {
-        Ok(command) => match made {
-            Ok(made) => command.subcommand(made),
-            Err(refused) => {
-                drop(command);
-                Err(refused)
-            }
-        },
-        Err(refused) => {
-            drop(made);
-            Err(refused)
-        }
-    }
-}
-
-fn command<'a>(alloc: Global) -> Result<Command<'a>, AllocError>
-    ensures { IfOk result (λ c. app_of c ≡ command_line) }
-{
-    let command = described(alloc, "remoted", ABOUT, AFTER).version(VERSION);
-    let unary = script_command(alloc, "unary", UNARY_ABOUT, UNARY_LINES, UNARY_AFTER);
-    let command = with_command(Ok(command), unary);
-    let replay = script_command(alloc, "replay", REPLAY_ABOUT, REPLAY_LINES, REPLAY_AFTER);
-    let command = with_command(command, replay);
-    let command = with_command(command, probe(alloc));
-    let command = with_command(command, check(alloc));
-    with_command(command, serve(alloc))
+    /// Tells the figures in a file, those of an instance or all.
+    Figures {
+        metrics: &'a str,
+        instance: Option<&'a str>,
+    },
 }
 
 fn text<'a>(found: &ArgMatches<'a>, name: &str) -> Option<&'a str>
@@ -194,6 +118,17 @@ fn bytes(found: &ArgMatches<'_>, name: &str) -> Option<u64>
     if bytes <= MOST { Some(bytes) } else { None }
 }
 
+/// The numbers of all instances.
+fn limits(found: &ArgMatches<'_>) -> Option<Limits>
+    ensures { option_map limits_value result ≡ limits_given (rows_of (found_of found.now)) }
+{
+    let blobs = number(found, "blobs")?;
+    let results = number(found, "results")?;
+    let result_bytes = bytes(found, "result-bytes")?;
+    let window = bytes(found, "window")?;
+    Limits::new(blobs, results, result_bytes, u32::try_from(window).ok()?)
+}
+
 fn requested_probe<'a>(found: &ArgMatches<'a>) -> Option<Invocation<'a>>
     ensures { option_map invocation_value result ≡ probe_of (rows_of (found_of found.now)) }
 {
@@ -206,8 +141,8 @@ fn requested_probe<'a>(found: &ArgMatches<'a>) -> Option<Invocation<'a>>
     })
 }
 
-fn requested_check<'a>(found: &ArgMatches<'a>) -> Option<Invocation<'a>>
-    ensures { option_map invocation_value result ≡ check_of (rows_of (found_of found.now)) }
+fn requested_question<'a>(found: &ArgMatches<'a>) -> Option<Invocation<'a>>
+    ensures { option_map invocation_value result ≡ question_of (rows_of (found_of found.now)) }
 {
     let port = number(found, "port")?;
     Some(Invocation::Check(Question {
@@ -216,6 +151,19 @@ fn requested_check<'a>(found: &ArgMatches<'a>) -> Option<Invocation<'a>>
         instance: text(found, "instance"),
         seconds: number(found, "seconds")?,
     }))
+}
+
+fn requested_check<'a>(found: &ArgMatches<'a>) -> Option<Invocation<'a>>
+    ensures { option_map invocation_value result ≡ check_of (rows_of (found_of found.now)) }
+{
+    match (text(found, "metrics"), text(found, "port")) {
+        (None, _) => requested_question(found),
+        (Some(_), Some(_)) => None,
+        (Some(metrics), None) => Some(Invocation::Figures {
+            metrics,
+            instance: text(found, "instance"),
+        }),
+    }
 }
 
 /// How many turns a server takes at most.
@@ -259,6 +207,9 @@ fn requested_serve<'a>(
     let Some(listen) = text(found, "listen") else {
         return Ok(None);
     };
+    let Some(limits) = limits(found) else {
+        return Ok(None);
+    };
     match texts(alloc, found, INSTANCES)? {
         Some(instances) => Ok(Some(Invocation::Serve(Service {
             work,
@@ -267,6 +218,9 @@ fn requested_serve<'a>(
             listen,
             metrics: text(found, "metrics"),
             stop: text(found, "stop"),
+            end: text(found, "end"),
+            links: text(found, "links"),
+            limits,
             instances,
         }))),
         None => Ok(None),
@@ -280,9 +234,11 @@ fn requested_file_or_peer<'a>(name: &str, found: &ArgMatches<'a>) -> Option<Invo
     match name {
         "unary" => Some(Invocation::Unary {
             file: Some(text(found, "FILE")?),
+            limits: limits(found)?,
         }),
         "replay" => Some(Invocation::Replay {
             file: text(found, "FILE")?,
+            limits: limits(found)?,
         }),
         "check" => requested_check(found),
         _ => requested_probe(found),
@@ -313,7 +269,10 @@ fn requested<'a>(
 {
     match matches.subcommand() {
         Some((name, found)) => requested_by(alloc, name, found),
-        None => Ok(Some(Invocation::Unary { file: None })),
+        None => Ok(Some(Invocation::Unary {
+            file: None,
+            limits: Limits::usual(),
+        })),
     }
 }
 
@@ -353,11 +312,31 @@ const BAD_TURNS: &str = "--turns is not a number from 0 to 9223372036854775807, 
 const BAD_WANT: &str =
     "--want is not a number of bytes from 0 to 9223372036854775807, as 1000, 64K, 500M or 8G";
 
-/// What is told of a value that `clap` does not look at: a server's turns, or the bytes of a probe.
+const BAD_CHECK: &str = "either --port is given, or --metrics";
+
+const BAD_RESULT_BYTES: &str =
+    "--result-bytes is not a number of bytes from 4194304 to 2147483648, as 64M or 2G";
+
+const BAD_WINDOW: &str = "--window is not a number of bytes from 65535 to 2147483647, as 64K or 4M";
+
+/// Whether so many bytes of results may be given to an instance.
+fn are_result_bytes(bytes: u64) -> bool {
+    let usual = Limits::usual();
+    Limits::new(usual.blobs(), usual.results(), bytes, usual.window()).is_some()
+}
+
+/// What is told of a value that `clap` does not look at: a server's turns, the bytes of a probe,
+/// bytes for instances, or what is checked.
 fn bad_value_text(matches: &ArgMatches<'_>) -> &'static str {
     match matches.subcommand() {
-        Some((name, _)) if name == "serve" => BAD_TURNS,
-        _ => BAD_WANT,
+        Some(("probe", _)) => BAD_WANT,
+        Some(("check", _)) => BAD_CHECK,
+        Some(("serve", found)) if lasting_turns(found).is_none() => BAD_TURNS,
+        Some((_, found)) => match bytes(found, "result-bytes") {
+            Some(bytes) if are_result_bytes(bytes) => BAD_WINDOW,
+            _ => BAD_RESULT_BYTES,
+        },
+        None => BAD_WANT,
     }
 }
 

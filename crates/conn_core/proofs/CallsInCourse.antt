@@ -1,20 +1,28 @@
--- What is kept of the streams says whether a call is in course.
-use Rattle.std.proofs.Common.{◌≡◌, refl, ap, ◌∙◌}
-use Rattle.std.specs.Prelude.{ℕ, ◌==◌, ◌&&◌, Bool, true, false, not, length}
-use Rattle.std.proofs.lemmas.List.{length-map}
-use Rattle.http2_streams.specs.History.{live_streams, has_failed}
+-- What is kept of the streams says whether a call is in course that its client sent whole.
+use Rattle.std.proofs.Common.{◌≡◌, ℕ, List, [], ◌∷◌, map, refl, ap, ◌∙◌}
+use Rattle.std.specs.Prelude.{◌&&◌, ◌||◌, Bool, true, false, not}
+use Rattle.std.specs.List.{list_any}
+use Rattle.http2_streams.specs.declared.stream.Stream.{Stream}
+use Rattle.http2_streams.specs.History.{is_ended_by_client, live_streams, has_failed}
 use Rattle.http2_streams.specs.Standing.{stream_at}
 use Rattle.grpc_sending.specs.StoredSending.{SourceTexts}
 use Rattle.conn_core.specs.Past.{Past}
 use Rattle.conn_core.specs.StandsFor.{ConnectionValue, IsConnection}
 use Rattle.conn_core.specs.CallsInCourse.{has_calls}
 
-by_fault : (b : Bool) (n m : ℕ) → (b ≡ false → n ≡ m) → (not b && not (n == 0)) ≡ (not b && not (m == 0))
-by_fault true n m s = refl
-by_fault false n m s = ap (λ (k : ℕ). not (k == 0)) (s refl)
+by_fault : (b x y : Bool) → (b ≡ false → x ≡ y) → (not b && x) ≡ (not b && y)
+by_fault true x y s = refl
+by_fault false x y s = s refl
 
-pub same_calls : (texts : SourceTexts) (v : ConnectionValue) (p : Past) → IsConnection texts v p → (not v.ended && not (length v.streams.live == 0)) ≡ has_calls p.history
+any_mapped : {A B : Type 0} (test : B → Bool) (f : A → B) (xs : List A) → list_any test (map f xs) ≡ list_any (λ x. test (f x)) xs
+any_mapped test f [] = refl
+any_mapped test f (x ∷ xs) = ap (λ b. test (f x) || b) (any_mapped test f xs)
+
+abbrev pub is_whole : Stream → Bool
+is_whole s = s.ended_by_client
+
+pub same_calls : (texts : SourceTexts) (v : ConnectionValue) (p : Past) → IsConnection texts v p → (not v.ended && list_any is_whole v.streams.live) ≡ has_calls p.history
 same_calls texts v p s =
-    ap (λ (b : Bool). not b && not (length v.streams.live == 0)) s.ended
-    ∙ by_fault (has_failed p.history) (length v.streams.live) (length (live_streams p.history)) (λ lives.
-    ap (λ x. length x.live) (s.streams.state lives).is ∙ length-map (live_streams p.history) (stream_at p.history))
+    ap (λ (b : Bool). not b && list_any is_whole v.streams.live) s.ended
+    ∙ by_fault (has_failed p.history) (list_any is_whole v.streams.live) (list_any (is_ended_by_client p.history) (live_streams p.history)) (λ lives.
+    ap (λ x. list_any is_whole x.live) (s.streams.state lives).is ∙ any_mapped is_whole (stream_at p.history) (live_streams p.history))

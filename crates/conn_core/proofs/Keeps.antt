@@ -1,13 +1,12 @@
 -- What the calls that bring nothing leave stands for the past after them.
-use Rattle.std.proofs.Common.{◌≡◌, ℕ, List, [], ◌∷◌, ◌++◌, refl, ap, ◌∙◌, sym, subst, append_assoc, arith}
+use Rattle.std.proofs.Common.{◌≡◌, ℕ, ◌-◌, List, [], ◌∷◌, ◌++◌, refl, ap, ◌∙◌, sym, subst, append_assoc, arith}
 use Rattle.std.specs.Prelude.{Bool, false, cond, ◌==◌, map, filter, fold, ◌&&◌, ◌||◌, not, Option, Some, None, Result, Ok, Err, OnOk, OnErr, IfErr, drop, length, option_to_list}
 use Rattle.std.specs.List.{list_any, flat_map}
 use Rattle.std.proofs.lemmas.List.Elements.{filter_map-append}
 use Rattle.http2_frames.specs.declared.reader.TheConstants.{CLIENT_PREFACE}
 use Rattle.http2_frames.specs.declared.error.FrameError.{FrameError}
 use Rattle.http2_frames.specs.declared.error.FrameError.TheVariants.{NoMemory}
-use Rattle.http2_frames.specs.declared.settings.Setting.{Setting}
-use Rattle.http2_frames.specs.declared.frame.Frame.TheVariants.{Settings}
+use Rattle.http2_frames.specs.declared.frame.Frame.TheVariants.{Settings, WindowUpdate}
 use Rattle.http2_frames.specs.declared.frame.Frame.{Frame}
 use Rattle.http2_frames.specs.declared.frame.RawFrame.{RawFrame}
 use Rattle.http2_frames.specs.Reader.{FrameReaderValue, IsReader}
@@ -28,8 +27,9 @@ use Rattle.conn_core.specs.Floods.{resets_since_taking}
 use Rattle.conn_core.proofs.ResetCounts.{count_taken}
 use Rattle.conn_core.specs.Received.{received_raw_frames}
 use Rattle.conn_core.specs.Calls.{events, begins_call, content_on, messages_of}
-use Rattle.conn_core.specs.Past.{Past, greeting, new_past, with_item, with_taken}
+use Rattle.conn_core.specs.Past.{Past, greeting, initial_window, new_past, streams_setting, window_setting, with_item, with_taken}
 use Rattle.conn_core.specs.StandsFor.{ConnectionValue, IsConnection, IsAlive, IsRestOfCall, call_on, members_of, call_stream, StandsAfterEvent}
+use Rattle.conn_core.proofs.Greeting.{greeted, large_greeting, usual_greeting}
 use Rattle.conn_core.proofs.Events.{events_took, raw_took}
 use Rattle.conn_core.proofs.Forgets.{never, item_live, item_failed, same_lists, item_ended, none_ended}
 
@@ -129,15 +129,42 @@ took_by texts v old w m n is by queues h p st0 =
 
 -- ---- a new connection
 
-pub new_stands : (texts : SourceTexts) (reader : Result FrameReaderValue FrameError) (streams : Standing) (w : StoredSending) → IsReader CLIENT_PREFACE.now reader [] [] → AreStreams streams [] → IsStoredSending texts w (greeting ∷ []) [] → w.queues ≡ [] → IsConnection texts (record { reader = reader; streams = streams; sending = w; calls = []; due = []; ended = false; reset_count = 0 }) new_past
-new_stands texts reader streams w read at sending empty = record {
-  ended = refl;
-  streams = no_matter streams [] greeting tt at;
-  sending = sending;
-  due = refl;
-  over = λ failed s. never (stored_on s w.queues ≡ []) failed;
-  alive = λ alive. record { reader = read; calls = λ s lives. refl; order = refl; live = λ s out. ap (stored_on s) empty; finished = λ s was. never ((is_not_closed (greeting ∷ []) s ≡ false) × (stored_on s w.queues ≡ [])) was; counted = refl };
-}
+abbrev new_connection : Result FrameReaderValue FrameError → Standing → StoredSending → ConnectionValue
+new_connection reader streams w = record { reader = reader; streams = streams; sending = w; calls = []; due = []; ended = false; reset_count = 0 }
+
+abbrev past_of : List Entry → Past
+past_of d = record { text = []; history = d; owed = []; due = [] }
+
+pub new_stands : (texts : SourceTexts) (window : ℕ) (reader : Result FrameReaderValue FrameError) (streams : Standing) (w : StoredSending) → IsReader CLIENT_PREFACE.now reader [] [] → AreStreams streams [] → IsStoredSending texts w (greeting window) [] → w.queues ≡ [] → IsConnection texts (new_connection reader streams w) (new_past window)
+new_stands texts window reader streams w read at sending empty = greeted IsNew window large usual sending where
+  IsNew : List Entry → Type 0
+  IsNew d = IsStoredSending texts w d [] → IsConnection texts (new_connection reader streams w) (past_of d)
+
+  first : Entry
+  first = Out (Settings false (streams_setting ∷ window_setting window ∷ []))
+
+  second : Entry
+  second = Out (WindowUpdate 0 (window - initial_window))
+
+  large : IsNew (large_greeting window)
+  large stored = record {
+    ended = refl;
+    streams = no_matter streams (first ∷ []) second tt (no_matter streams [] first tt at);
+    sending = stored;
+    due = refl;
+    over = λ failed s. never (stored_on s w.queues ≡ []) failed;
+    alive = λ alive. record { reader = read; calls = λ s lives. refl; order = refl; live = λ s out. ap (stored_on s) empty; finished = λ s was. never ((is_not_closed (large_greeting window) s ≡ false) × (stored_on s w.queues ≡ [])) was; counted = refl };
+  }
+
+  usual : IsNew usual_greeting
+  usual stored = record {
+    ended = refl;
+    streams = no_matter streams [] (Out (Settings false (streams_setting ∷ []))) tt at;
+    sending = stored;
+    due = refl;
+    over = λ failed s. never (stored_on s w.queues ≡ []) failed;
+    alive = λ alive. record { reader = read; calls = λ s lives. refl; order = refl; live = λ s out. ap (stored_on s) empty; finished = λ s was. never ((is_not_closed usual_greeting s ≡ false) × (stored_on s w.queues ≡ [])) was; counted = refl };
+  }
 
 -- ---- more bytes
 
@@ -155,11 +182,10 @@ more_kept texts v r p piece st read = record {
 pub refused_more : (preface text piece : List ℕ) (given : List RawFrame) (e : FrameError) → IsReader preface (Err e) text given → IsReader preface (Err e) (text ++ piece) given
 refused_more preface text piece given e h = λ more. ap (split preface) (append_assoc text piece more) ∙ h (piece ++ more)
 
-pub new_by : (texts : SourceTexts) (reader : Result FrameReaderValue FrameError) (streams : Standing) (w : StoredSending) (calls : List Call) (due : List CallEvent) (ss : List Setting) → calls ≡ [] → due ≡ [] → ss ≡ record { identifier = 3; value = 100 } ∷ [] → IsReader CLIENT_PREFACE.now reader [] [] → AreStreams streams [] → IsStoredSending texts w (Out (Settings false ss) ∷ []) [] → w.queues ≡ [] → IsConnection texts (record { reader = reader; streams = streams; sending = w; calls = calls; due = due; ended = false; reset_count = 0 }) new_past
-new_by texts reader streams w calls due ss none none' settings read at sending empty =
+pub new_by : (texts : SourceTexts) (window : ℕ) (reader : Result FrameReaderValue FrameError) (streams : Standing) (w : StoredSending) (calls : List Call) (due : List CallEvent) → calls ≡ [] → due ≡ [] → IsReader CLIENT_PREFACE.now reader [] [] → AreStreams streams [] → IsStoredSending texts w (greeting window) [] → w.queues ≡ [] → IsConnection texts (record { reader = reader; streams = streams; sending = w; calls = calls; due = due; ended = false; reset_count = 0 }) (new_past window)
+new_by texts window reader streams w calls due none none' read at sending empty =
     let f : List Call → List CallEvent → ConnectionValue = λ cs es. record { reader = reader; streams = streams; sending = w; calls = cs; due = es; ended = false; reset_count = 0 } in
-    let s : IsStoredSending texts w (greeting ∷ []) [] = subst (λ (xs : List Setting). IsStoredSending texts w (Out (Settings false xs) ∷ []) []) settings sending in
-    subst (λ (cs : List Call). IsConnection texts (f cs due) new_past) (sym none) (subst (λ (es : List CallEvent). IsConnection texts (f [] es) new_past) (sym none') (new_stands texts reader streams w read at s empty))
+    subst (λ (cs : List Call). IsConnection texts (f cs due) (new_past window)) (sym none) (subst (λ (es : List CallEvent). IsConnection texts (f [] es) (new_past window)) (sym none') (new_stands texts window reader streams w read at sending empty))
 
 pub fed : (r : Result Unit FrameError) (old new : Result FrameReaderValue FrameError) (preface text piece : List ℕ) (given : List RawFrame) → OnOk r ((p t : List ℕ) (g : List RawFrame) → IsReader p old t g → IsReader p new (t ++ piece) g) → OnErr r (new ≡ old) → IfErr r (λ fault. (fault ≡ NoMemory → ⊥) → old ≡ Err fault) → (r ≡ Err NoMemory → ⊥) → IsReader preface old text given → IsReader preface new (text ++ piece) given
 fed (Ok u) old new preface text piece given ok err refused memory h = ok preface text given h

@@ -25,3 +25,4 @@ mod Readers
 pub use Rattle.http2_frames.proofs.WireItemsDivisions as Divisions
 pub use Rattle.grpc_messages.proofs.Fronts
 pub use Rattle.http2_frames.proofs.MoreBytes
+pub mod Greeting

@@ -1,7 +1,8 @@
--- Whether a call of a connection is in course.
-use Rattle.std.specs.Prelude.{◌==◌, ◌&&◌, Bool, not, List, length}
-use Rattle.http2_streams.specs.History.{Entry, live_streams, has_failed}
+-- Whether a call of a connection is in course that its client sent whole.
+use Rattle.std.specs.Prelude.{◌&&◌, Bool, not, List}
+use Rattle.std.specs.List.{list_any}
+use Rattle.http2_streams.specs.History.{Entry, is_ended_by_client, live_streams, has_failed}
 
--- a stream is live, and no error of the connection was met
+-- a stream is live that the client ended, and no error of the connection was met
 abbrev pub has_calls : List Entry → Bool
-has_calls d = not (has_failed d) && not (length (live_streams d) == 0)
+has_calls d = not (has_failed d) && list_any (is_ended_by_client d) (live_streams d)

@@ -1,10 +1,11 @@
 -- The past of a connection, and one step of it.
-use Rattle.std.specs.Prelude.{ℕ, if◌then◌else◌, false, List, [], ◌∷◌, ◌++◌}
+use Rattle.std.specs.Prelude.{ℕ, ◌-◌, nat_lt, if◌then◌else◌, false, List, [], ◌∷◌, ◌++◌}
 use Rattle.http2_frames.specs.declared.codes.ErrorCode.{ErrorCode}
 use Rattle.http2_frames.specs.declared.error.FrameError.{FrameError}
 use Rattle.http2_frames.specs.declared.frame.RawFrame.{RawFrame}
-use Rattle.http2_frames.specs.declared.frame.Frame.TheVariants.{Settings}
-use Rattle.http2_frames.specs.declared.codes.setting.TheConstants.{MAX_CONCURRENT_STREAMS}
+use Rattle.http2_frames.specs.declared.frame.Frame.TheVariants.{Settings, WindowUpdate}
+use Rattle.http2_frames.specs.declared.codes.setting.TheConstants.{INITIAL_WINDOW_SIZE, MAX_CONCURRENT_STREAMS}
+use Rattle.http2_frames.specs.declared.settings.Setting.{Setting}
 use Rattle.http2_streams.specs.declared.streams.TheConstants.{MAX_STREAMS}
 use Rattle.http2_streams.specs.History.{Entry, Out, Took}
 use Rattle.grpc_sending.specs.Owed.{OwedItem, Item, owed_with_item}
@@ -23,13 +24,29 @@ pub record Past : Type 0 where
   pub due : List CallEvent
 
 -- SETTINGS_MAX_CONCURRENT_STREAMS is MAX_STREAMS (RFC 9113 section 6.5.2)
-abbrev pub greeting : Entry
-greeting =
-    Out (Settings false (record { identifier = MAX_CONCURRENT_STREAMS; value = MAX_STREAMS } ∷ []))
+abbrev pub streams_setting : Setting
+streams_setting = record { identifier = MAX_CONCURRENT_STREAMS; value = MAX_STREAMS }
 
--- a connection begins with the server's SETTINGS
-abbrev pub new_past : Past
-new_past = record { text = []; history = greeting ∷ []; owed = []; due = [] }
+-- SETTINGS_INITIAL_WINDOW_SIZE is the window
+abbrev pub window_setting : ℕ → Setting
+window_setting window = record { identifier = INITIAL_WINDOW_SIZE; value = window }
+
+-- how large each window is until something else is said (section 6.9.2)
+abbrev pub initial_window : ℕ
+initial_window = 65535
+
+-- the server's SETTINGS. Where its windows are larger than at first they say so for streams, and a
+-- WINDOW_UPDATE says it for the connection, whose window no setting changes (section 6.9.2)
+abbrev pub greeting : ℕ → List Entry
+greeting window =
+    if nat_lt initial_window window
+    then Out (Settings false (streams_setting ∷ window_setting window ∷ []))
+    ∷ Out (WindowUpdate 0 (window - initial_window)) ∷ []
+    else Out (Settings false (streams_setting ∷ [])) ∷ []
+
+-- a connection begins with the server's greeting
+abbrev pub new_past : ℕ → Past
+new_past window = record { text = []; history = greeting window; owed = []; due = [] }
 
 abbrev pub owed_with_items : List Entry → List OwedItem → List (ℕ × Item) → List OwedItem
 owed_with_items d os [] = os

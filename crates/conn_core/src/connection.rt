@@ -1,6 +1,8 @@
 //! One connection: what it keeps, and what it is asked for.
 
-ghost use Rattle.std.specs.Prelude.{◌≡◌, ◌≢◌, ◌≤◌, ◌<◌, ◌==◌, ◌&&◌, not, [], option_to_list, IsTrue, true, IfOk, OnOk, OnErr, OnSome, None, Err, length, take, drop};
+ghost use Rattle.std.specs.Prelude.{◌≡◌, ◌≢◌, ◌≤◌, ◌<◌, ◌&&◌, not, [], option_to_list, IsTrue, true, IfOk, OnOk, OnErr, OnSome, None, Err, length, take, drop};
+ghost use Rattle.std.specs.List.{list_any};
+ghost use Rattle.http2_streams.specs.declared.stream.Stream.{Stream};
 ghost use Rattle.grpc_messages.specs.Wire.{message_length_limit};
 ghost use Rattle.http2_frames.specs.declared.error.FrameError.{FrameError};
 ghost use Rattle.grpc_sending.specs.SortedQueues.{AreSorted};
@@ -13,20 +15,19 @@ ghost use Rattle.conn_core.specs.StandsFor.{IsConnection, Becomes, Owes, OwesRan
 mod answers;
 mod failing;
 mod frames;
+mod greeting;
 
 use crate::call::{Call, drop_closed_if_fewer, pop_live_call};
 use crate::event::CallEvent;
 use crate::floods;
+use greeting::greet;
 use grpc_calls::ResponseBlock;
 use grpc_sending::{Parts, Sender};
-use http2_frames::{ErrorCode, Frame, FrameError, FrameReader, SettingsList};
-use http2_streams::Streams;
+use http2_frames::{ErrorCode, FrameError, FrameReader};
+use http2_streams::{Stream, Streams};
 use std::alloc::{AllocError, Global};
 use std::collections::VecDeque;
 use std::marker::Model;
-
-/// SETTINGS_MAX_CONCURRENT_STREAMS is 100 (RFC 9113 section 6.5.2), as in a payload.
-const MAX_CONCURRENT_STREAMS: &[u8] = b"\x00\x03\x00\x00\x00\x64";
 
 /// One connection of the server. After `feed` or `read_frame` was refused memory it is to be
 /// closed.
@@ -96,18 +97,18 @@ impl Model for Connection {
 }
 
 impl Connection {
-    /// A connection that puts the server's SETTINGS. Takes the room for all bytes that can wait.
-    pub fn new(alloc: Global) -> Result<Connection, AllocError>
-        ensures stands { IfOk result (λ c. (texts : SourceTexts) → IsConnection texts c new_past) }
+    /// A connection whose windows are of so many bytes, 65,535 to 2^31 - 1. It puts the server's
+    /// SETTINGS, and behind them, where the windows are larger than at first, a WINDOW_UPDATE.
+    /// Takes the room for all bytes that can wait.
+    pub fn new(alloc: Global, window: u32) -> Result<Connection, AllocError>
+        ensures stands { IfOk result (λ c. (texts : SourceTexts) →
+            IsConnection texts c (new_past window)) }
         ensures sources { IfOk result (λ c. sources_of c.sending ≡ []) }
         ensures fit { IfOk result (λ c. (texts : SourceTexts) →
             QueuesEndWithin texts c.sending.queues) }
     {
         let mut sender = Sender::new(alloc)?;
-        sender.put_control(&Frame::Settings {
-            ack: false,
-            settings: SettingsList::new(MAX_CONCURRENT_STREAMS),
-        });
+        greet(&mut sender, window);
         Ok(Connection {
             reader: FrameReader::new(alloc),
             streams: Streams::new(alloc)?,
@@ -306,12 +307,13 @@ impl Connection {
         self.failure
     }
 
-    /// Whether a call is in course: a stream is open or half-closed, and no error of the connection
-    /// was met.
+    /// Whether a call is in course that its client sent whole: a stream is half-closed by the
+    /// client, and no error of the connection was met.
     pub fn has_calls(&self) -> bool
-        ensures { result ≡ (not self.now.ended && not (length self.now.streams.live == 0)) }
+        ensures { result ≡ (not self.now.ended
+            && list_any (λ (s : Stream). s.ended_by_client) self.now.streams.live) }
     {
-        !self.ended && self.streams.live().len() != 0
+        !self.ended && is_any_whole(self.streams.live())
     }
 
     /// Gives up the first of the calls on live streams, and gives its stream. After an error of the
@@ -326,6 +328,13 @@ impl Connection {
         }
         pop_live_call(&mut self.calls, self.streams.live())
     }
+}
+
+/// Whether a client ended one of these streams.
+fn is_any_whole(live: &[Stream]) -> bool
+    ensures { result ≡ list_any (λ (s : Stream). s.ended_by_client) live.now }
+{
+    live.iter().any(|stream| stream.ended_by_client)
 }
 
 /// A fault that was met before is told where the bytes are read.

@@ -18,7 +18,7 @@ use std::alloc::{AllocError, Global};
 use std::io::ErrorKind;
 
 /// How many turns a run of the case takes.
-pub const TURNS: u64 = 70;
+pub const TURNS: u64 = 250;
 
 /// The names of the instances.
 pub static NAMES: [&str; 3] = ["red", "blue", "green"];

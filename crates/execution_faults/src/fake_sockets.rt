@@ -100,7 +100,7 @@ impl<'a> Sockets for FakeSockets<'a> {
 
     /// The clock is read in each turn.
     fn passed(&self) -> u64 {
-        self.turns.saturating_add(1)
+        self.turns.saturating_add(1).saturating_mul(1_000)
     }
 
     fn accept(&mut self, socket: Socket) -> io::Result<()> {

@@ -21,12 +21,12 @@ mod slow_errors;
 use crate::case::{Fake, NAMES, carry_out, cut_short_each};
 use crate::counting::CallFault::{Fails, IsTooLong};
 use crate::counting::{CallFault, Deed, Failing};
-use crate::judging::Judge;
+use crate::judging::{Judge, LAUNCHER};
 use crate::slow_errors::write_lines;
 use hex::FromHexError;
 use program_status::{Fault, Output, Status, read_all};
 use script::lines;
-use server_events::{Configs, InstanceConfig};
+use server_events::{Configs, InstanceConfig, Limits};
 use std::io::ErrorKind;
 use std::process::ExitCode;
 
@@ -49,7 +49,7 @@ static PASSES: [Pass; 7] = [
         "launchers are lost",
         Fake::Programs,
         Fails(ErrorKind::ConnectionAborted),
-        "launcher: it is \\\"lost\\\"\\n\\xff",
+        LAUNCHER,
     ),
     (
         "programs lack memory",
@@ -142,6 +142,7 @@ fn configs(output: &mut Output) -> Option<Configs> {
             name,
             quota: 100_000,
             slots: 1,
+            limits: Limits::usual(),
             parent: None,
         }));
     }

@@ -90,15 +90,31 @@ fn open_linked(rt: &HostRuntime, path: &str, aside: &Directory) -> io::Result<Fi
     answer
 }
 
-/// The files and directories in a directory, in the order of their names, at most so many.
-pub fn list_in(rt: &HostRuntime, directory: &Directory, most: usize) -> io::Result<Vec<Entry>> {
+/// What is in a directory.
+#[derive(Drop)]
+pub struct Listed {
+    /// The files and directories, in the order of their names.
+    pub entries: Vec<Entry>,
+    /// Whether a symbolic link was met, which is none of them.
+    pub has_links: bool,
+}
+
+/// What is in a directory, until so many files and directories were met.
+pub fn list_in(rt: &HostRuntime, directory: &Directory, most: usize) -> io::Result<Listed> {
     let alloc = rt.alloc();
     // What is listed is gone through once.
-    let listed = directory.again()?;
-    let mut names = listed.names(alloc)?;
-    let mut entries = Vec::new(alloc);
-    add_entries(rt, directory, &mut names, most, &mut entries)?;
-    Ok(in_order(entries))
+    let opened = directory.again()?;
+    let mut names = opened.names(alloc)?;
+    let mut listed = Listed {
+        entries: Vec::new(alloc),
+        has_links: false,
+    };
+    add_entries(rt, directory, &mut names, most, &mut listed)?;
+    let Listed { entries, has_links } = listed;
+    Ok(Listed {
+        entries: in_order(entries),
+        has_links,
+    })
 }
 
 /// Adds what is listed, until there are so many.
@@ -107,40 +123,42 @@ fn add_entries(
     directory: &Directory,
     names: &mut Names<'_>,
     most: usize,
-    entries: &mut Vec<Entry>,
+    listed: &mut Listed,
 ) -> io::Result<()> {
     for _ in 0..=MOST_SEEN {
-        if entries.len() >= most {
+        if listed.entries.len() >= most {
             return Ok(());
         }
         let Some(name) = names.next()? else {
             return Ok(());
         };
-        add_entry(rt, directory, name, entries)?;
+        add_entry(rt, directory, name, listed)?;
     }
-    Err(io::Error::from(ErrorKind::InvalidData))
+    let words = "a directory has more than 15000 entries";
+    Err(io::Error::new(ErrorKind::InvalidData, words))
 }
 
-/// Adds what has this name, where it is a file or a directory.
+/// Adds what has this name, where it is a file or a directory, and notes a link.
 fn add_entry(
     rt: &HostRuntime,
     directory: &Directory,
     name: Vec<u8>,
-    entries: &mut Vec<Entry>,
+    listed: &mut Listed,
 ) -> io::Result<()> {
     let Ok(name) = String::from_utf8(name) else {
-        return Err(io::Error::from(ErrorKind::InvalidFilename));
+        let words = "a name is not UTF-8";
+        return Err(io::Error::new(ErrorKind::InvalidFilename, words));
     };
-    match look_in(rt, directory, name.as_str())? {
-        Found::Directory => entries.push(Entry {
-            name,
-            is_directory: true,
-        })?,
-        Found::File(_) => entries.push(Entry {
-            name,
-            is_directory: false,
-        })?,
-        Found::Nothing | Found::Other => {}
+    let path = directory.path_of(rt.alloc(), name.as_str())?;
+    let Some(found) = found_at(rt, path.as_str())? else {
+        return Ok(());
+    };
+    if found.is_symlink() {
+        listed.has_links = true;
+    }
+    if found.is_dir() || found.is_file() {
+        let is_directory = found.is_dir();
+        listed.entries.push(Entry { name, is_directory })?;
     }
     Ok(())
 }

@@ -10,6 +10,8 @@ mod removing;
 
 pub use directory::{COMMON_MODE, Directory, Names, PRIVATE_MODE};
 pub use entering::{Entered, Entrance};
-pub use files::{Kept, kept_file, list_in, look_in, open_regular, open_to_add, open_to_read};
+pub use files::{
+    Kept, Listed, kept_file, list_in, look_in, open_regular, open_to_add, open_to_read,
+};
 pub use opener::{Opener, Target};
 pub use removing::Removal;

@@ -1,5 +1,7 @@
-//! How many folders are still to be removed, for whoever watches a server.
+//! How many folders are still to be removed, and which runs left links, for whoever watches a
+//! server.
 
+use run_calls::RunKey;
 use std::alloc::{AllocError, Global};
 use std::cell::Cell;
 
@@ -8,6 +10,8 @@ use std::cell::Cell;
 struct OfInstance {
     left: Cell<u64>,
     held: Cell<u64>,
+    links: Cell<u64>,
+    last_with_links: Cell<u64>,
 }
 
 /// The folders of runs that are still to be removed, by instance.
@@ -24,6 +28,8 @@ impl FolderCounts {
             counts.push(OfInstance {
                 left: Cell::new(0),
                 held: Cell::new(0),
+                links: Cell::new(0),
+                last_with_links: Cell::new(0),
             })?;
         }
         Ok(FolderCounts { instances: counts })
@@ -41,6 +47,24 @@ impl FolderCounts {
     /// How often a run of an instance was kept from beginning by what is to be removed.
     pub fn held(&self, instance: u32) -> u64 {
         self.of(instance).map_or(0, |counts| counts.held.get())
+    }
+
+    /// How many runs of an instance left symbolic links in their output directories.
+    pub fn links(&self, instance: u32) -> u64 {
+        self.of(instance).map_or(0, |counts| counts.links.get())
+    }
+
+    /// The job of the last of these, if there are any.
+    pub fn last_with_links(&self, instance: u32) -> u64 {
+        self.of(instance)
+            .map_or(0, |counts| counts.last_with_links.get())
+    }
+
+    pub(crate) fn add_links(&self, run: RunKey) {
+        if let Some(counts) = self.of(run.instance) {
+            counts.links.set(counts.links.get().saturating_add(1));
+            counts.last_with_links.set(run.job);
+        }
     }
 
     pub(crate) fn set_left(&self, instance: u32, left: usize) {

@@ -4,9 +4,10 @@ ghost use Rattle.std.specs.Prelude.{◌≡◌};
 ghost use Rattle.run_calls.specs.Failures.{Counts};
 
 use crate::counts::FolderCounts;
-use crate::folders::Folders;
+use crate::folders::{Folders, Links};
 use crate::work::Work;
 use run_calls::{Entry, FileFacts, Folder, Found, Place, RunKey};
+use std::cell::Cell;
 use std::io;
 use std::rc::RcStr;
 use tree_nodes::NodeKind;
@@ -17,14 +18,25 @@ use tree_nodes::NodeKind;
 pub struct HostFolder<'a> {
     folders: Folders<'a>,
     faults: u64,
+    /// Why the call failed that did last, of whoever notes it there.
+    failure: &'a Cell<Option<io::Error>>,
 }
 
 impl<'a> HostFolder<'a> {
-    /// Folders where a start has its place. What is still to be removed of them is counted there.
-    pub fn new(rt: &'a HostRuntime, work: Work, counts: &'a FolderCounts) -> HostFolder<'a> {
+    /// Folders where a start has its place, and what becomes of links in output directories. What is
+    /// still to be removed of them, and which runs left links, is counted there, and why a call
+    /// failed is noted.
+    pub fn new(
+        rt: &'a HostRuntime,
+        work: Work,
+        links: Links,
+        counts: &'a FolderCounts,
+        failure: &'a Cell<Option<io::Error>>,
+    ) -> HostFolder<'a> {
         HostFolder {
-            folders: Folders::new(rt, work, counts),
+            folders: Folders::new(rt, work, links, counts),
             faults: 0,
+            failure,
         }
     }
 
@@ -34,11 +46,12 @@ impl<'a> HostFolder<'a> {
         self.folders.guard_against_leases()
     }
 
-    /// Counts a call that failed.
+    /// Counts a call that failed, and notes why it did.
     fn count<T>(&mut self, answer: &io::Result<T>)
         ensures { Counts answer.now self.old.faults self.new.faults }
     {
-        if answer.is_err() {
+        if let Err(error) = answer {
+            self.failure.set(Some(*error));
             self.faults = self.faults.saturating_add(1);
         }
     }

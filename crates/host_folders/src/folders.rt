@@ -7,7 +7,7 @@ use crate::remover::Remover;
 use crate::tallies::Tallies;
 use crate::work::Work;
 use host_directories::{
-    COMMON_MODE, Directory, Entered, Entrance, Kept, Opener, PRIVATE_MODE, Removal, Target,
+    COMMON_MODE, Directory, Entered, Entrance, Kept, Listed, Opener, PRIVATE_MODE, Removal, Target,
     kept_file, list_in, look_in, open_to_add, open_to_read,
 };
 use host_files::{
@@ -26,11 +26,22 @@ const FILE_MODE: u32 = 0o644;
 
 const EXECUTABLE_MODE: u32 = 0o755;
 
+/// What becomes of symbolic links in the output directories of runs.
+#[derive(Clone, Copy, Debug, PartialEq, Eq)]
+pub enum Links {
+    /// They are left out, and the others are gathered.
+    LeftOut,
+    /// The run fails.
+    Fail,
+}
+
 /// Folders in the folder of a start, and what is open there. Paths go from that on.
 #[derive(Drop)]
 pub(crate) struct Folders<'a> {
     rt: &'a HostRuntime,
     work: Work,
+    links: Links,
+    counts: &'a FolderCounts,
     entrance: Entrance<'a>,
     /// What opens files that a run left, where a program may have leases on them.
     opener: Option<Opener<'a>>,
@@ -66,10 +77,17 @@ fn make_file(rt: &HostRuntime, path: &str, is_executable: bool) -> io::Result<Fi
 
 impl<'a> Folders<'a> {
     /// Folders where a start has its place.
-    pub(crate) fn new(rt: &'a HostRuntime, work: Work, counts: &'a FolderCounts) -> Folders<'a> {
+    pub(crate) fn new(
+        rt: &'a HostRuntime,
+        work: Work,
+        links: Links,
+        counts: &'a FolderCounts,
+    ) -> Folders<'a> {
         Folders {
             rt,
             work,
+            links,
+            counts,
             entrance: Entrance::new(rt),
             opener: None,
             made: None,
@@ -257,9 +275,24 @@ impl<'a> Folders<'a> {
         let entered = self.entrance.enter(self.work.start()?, path.as_str())?;
         let answer = list_in(self.rt, &entered.directory, most);
         self.entrance.keep(entered);
-        let entries = answer?;
+        let Listed { entries, has_links } = answer?;
+        if has_links {
+            self.meet_links(place.run)?;
+        }
         self.tallies.add_entries(place.run, entries.len())?;
         Ok(entries)
+    }
+
+    /// Counts a run that left links in an output directory, once. It is an error where these are to
+    /// make it fail.
+    fn meet_links(&mut self, run: RunKey) -> io::Result<()> {
+        if self.tallies.has_new_links(run) {
+            self.counts.add_links(run);
+        }
+        match self.links {
+            Links::LeftOut => Ok(()),
+            Links::Fail => Err(io::Error::other("a symbolic link in an output directory")),
+        }
     }
 
     /// Whether a file is open, where somebody else may keep whoever opens it waiting, or cannot be

@@ -11,4 +11,5 @@ mod work;
 
 pub use counts::FolderCounts;
 pub use folder::HostFolder;
+pub use folders::Links;
 pub use work::{Complaint, Work, WorkFault, begin_work};

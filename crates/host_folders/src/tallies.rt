@@ -16,6 +16,7 @@ struct Tally {
     run: RunKey,
     outputs: u32,
     entries: usize,
+    has_links: bool,
 }
 
 impl Tally {
@@ -43,6 +44,7 @@ impl Tallies {
             run,
             outputs: 0,
             entries: 0,
+            has_links: false,
         })?;
         Ok(())
     }
@@ -69,6 +71,18 @@ impl Tallies {
         Ok(())
     }
 
+    /// Notes that there are links in an output directory of a run. Whether none were met before.
+    pub(crate) fn has_new_links(&mut self, run: RunKey) -> bool {
+        for tally in &mut self.runs {
+            if tally.is_of(run) {
+                let had_none = !tally.has_links;
+                tally.has_links = true;
+                return had_none;
+            }
+        }
+        false
+    }
+
     /// Forgets a run.
     pub(crate) fn end(&mut self, run: RunKey) {
         let place = self.runs.iter().position(|tally| tally.is_of(run));
@@ -84,5 +98,6 @@ fn within(is_within: bool) -> io::Result<()> {
     if is_within {
         return Ok(());
     }
-    Err(io::Error::from(ErrorKind::FileTooLarge))
+    let words = "more outputs, or entries of output directories, than are taken";
+    Err(io::Error::new(ErrorKind::FileTooLarge, words))
 }

@@ -23,6 +23,7 @@ use crate::way::Way;
 use host_files::{root_path, working_path};
 use host_shells::Sessions;
 use run_calls::{Command as Ordered, Place, Programs, RunKey, Stream};
+use std::cell::Cell;
 use std::fs::File;
 use std::io::{self, ErrorKind};
 use std::process::{Child, Command};
@@ -38,6 +39,11 @@ fn place_of(started: &[Started], run: RunKey) -> io::Result<usize>
         Some(at) => Ok(at),
         None => Err(io::Error::from(ErrorKind::NotFound)),
     }
+}
+
+/// There is no program of the name that a command gives.
+fn missing() -> io::Error {
+    io::Error::new(ErrorKind::NotFound, "no such program")
 }
 
 /// Lets go of programs that have ended since, and sees to the shell.
@@ -66,11 +72,12 @@ fn make_room(started: &mut Vec<Started>, left: &mut Vec<Child>) -> io::Result<()
     Ok(())
 }
 
-/// Counts a call that failed.
-fn count<T>(faults: &mut u64, answer: &io::Result<T>)
+/// Counts a call that failed, and notes why it did.
+fn count<T>(faults: &mut u64, failure: &Cell<Option<io::Error>>, answer: &io::Result<T>)
     ensures { Counts answer.now faults.old faults.new }
 {
-    if answer.is_err() {
+    if let Err(error) = answer {
+        failure.set(Some(*error));
         *faults = faults.saturating_add(1);
     }
 }
@@ -145,7 +152,7 @@ impl<'a, R: Clock + Files<File = File> + AllocGlobal, S: Spawner> Table<'a, R, S
         let directory = working_path(alloc, self.work.as_str(), place)?;
         match search_from(self.rt, directory.as_str(), ordered, 0)? {
             Search::Found => self.start_found(place.run, directory.as_str(), ordered),
-            Search::Missing => Err(io::Error::from(ErrorKind::NotFound)),
+            Search::Missing => Err(missing()),
             Search::GoesOn(from) => {
                 let sought = Sought::new(alloc, place.run, ordered, directory, from)?;
                 self.way.add(sought)?;
@@ -210,7 +217,7 @@ impl<'a, R: Clock + Files<File = File> + AllocGlobal, S: Spawner> Table<'a, R, S
             Search::Found => {
                 self.start_found(sought.run(), sought.directory(), sought.ordered())
             }
-            Search::Missing => Err(io::Error::from(ErrorKind::NotFound)),
+            Search::Missing => Err(missing()),
             Search::GoesOn(_) => {
                 self.way.add(sought)?;
                 Ok(())
@@ -329,17 +336,20 @@ impl<'a, R: Clock + Files<File = File> + AllocGlobal, S: Spawner> Table<'a, R, S
 pub struct HostPrograms<'a, R, S> {
     table: Table<'a, R, S>,
     faults: u64,
+    /// Why the call failed that did last, of whoever notes it there.
+    failure: &'a Cell<Option<io::Error>>,
 }
 
 impl<'a, R: Clock + Files<File = File> + AllocGlobal, S: Spawner> HostPrograms<'a, R, S> {
     /// No programs yet. They are started in the folders of this directory, by a launcher, or as
-    /// they are.
+    /// they are. Why a call failed is noted there.
     pub fn new(
         rt: &'a R,
         sessions: Sessions<'a>,
         spawner: S,
         work: String,
         launcher: Option<Launcher>,
+        failure: &'a Cell<Option<io::Error>>,
     ) -> HostPrograms<'a, R, S>
         ensures launcher { launcher_of result.table.way ≡ launcher }
         ensures spawner { result.table.spawner ≡ spawner }
@@ -358,6 +368,7 @@ impl<'a, R: Clock + Files<File = File> + AllocGlobal, S: Spawner> HostPrograms<'
                 left: Vec::new(rt.alloc()),
             },
             faults: 0,
+            failure,
         }
     }
 }
@@ -380,7 +391,7 @@ impl<'a, R: Clock + Files<File = File> + AllocGlobal, S: Spawner> Programs
         ensures same { KeepsWay self.old.table self.new.table }
     {
         let answer = self.table.start(place, command);
-        count(&mut self.faults, &answer);
+        count(&mut self.faults, self.failure, &answer);
         answer
     }
 
@@ -399,7 +410,7 @@ impl<'a, R: Clock + Files<File = File> + AllocGlobal, S: Spawner> Programs
         ensures same { KeepsWay self.old.table self.new.table }
     {
         let answer = self.table.ask(run);
-        count(&mut self.faults, &answer);
+        count(&mut self.faults, self.failure, &answer);
         answer
     }
 
@@ -411,7 +422,7 @@ impl<'a, R: Clock + Files<File = File> + AllocGlobal, S: Spawner> Programs
         ensures same { KeepsWay self.old.table self.new.table }
     {
         let answer = self.table.kill(run);
-        count(&mut self.faults, &answer);
+        count(&mut self.faults, self.failure, &answer);
         answer
     }
 
@@ -423,7 +434,7 @@ impl<'a, R: Clock + Files<File = File> + AllocGlobal, S: Spawner> Programs
         ensures same { KeepsWay self.old.table self.new.table }
     {
         let answer = self.table.length(run);
-        count(&mut self.faults, &answer);
+        count(&mut self.faults, self.failure, &answer);
         answer
     }
 
@@ -436,7 +447,7 @@ impl<'a, R: Clock + Files<File = File> + AllocGlobal, S: Spawner> Programs
         ensures same { KeepsWay self.old.table self.new.table }
     {
         let answer = self.table.read(run, stream, from, most);
-        count(&mut self.faults, &answer);
+        count(&mut self.faults, self.failure, &answer);
         answer
     }
 

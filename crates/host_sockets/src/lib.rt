@@ -26,6 +26,9 @@ use std::net::{IpAddr, SocketAddr};
 use thiserror::Error;
 use wires::{Door, Host, Wire, is_not_ready};
 
+/// How many microseconds a millisecond has.
+const MILLISECOND: u64 = 1_000;
+
 /// Why there are no sockets.
 #[derive(Debug, Drop, Error)]
 pub enum ListenError {
@@ -183,7 +186,7 @@ impl<'a, H: Host> HostSockets<'a, H> {
     fn go_on(&mut self)
         ensures { OpenStay H.Door.Wire.happened self.old.ports.items self.new.ports.items }
     {
-        self.moment = self.moment.max(self.passed());
+        self.moment = self.moment.max(self.passed() / MILLISECOND);
         port::drop_rest(&mut self.ports, self.moment, &mut [0; 16_384]);
     }
 
@@ -194,7 +197,7 @@ impl<'a, H: Host> HostSockets<'a, H> {
         ensures others { OthersStay socket.instance self.old.ports.items self.new.ports.items }
     {
         // Much time may have gone by in this turn.
-        let now = self.passed();
+        let now = self.passed() / MILLISECOND;
         match self.ports.get_mut(socket.instance as usize) {
             Some(port) => port.close(socket.connection, now),
             None => Err(io::Error::from(ErrorKind::NotConnected)),

@@ -10,6 +10,7 @@
 //! `news` and the tokens. Where they are wrong somebody waits, and nothing goes to another.
 
 use crate::options::{ask_after_clients, give_up_later};
+use crate::turn_clock::TurnClock;
 use mio::event::Event;
 use mio::net::{TcpListener, TcpStream};
 use mio::{Events, Interest, Poll, Registry, Token};
@@ -49,10 +50,14 @@ fn news_of(event: &Event) -> News {
 #[derive(Drop)]
 pub struct HostWire {
     stream: TcpStream,
+    /// Of its door.
+    place: usize,
+    turns: Rc<TurnClock>,
 }
 
 impl Wire for HostWire {
     fn read(&mut self, room: &mut [u8]) -> io::Result<usize> {
+        self.turns.as_ref().note_read(self.place);
         self.stream.read(room)
     }
 
@@ -72,6 +77,7 @@ pub struct HostDoor {
     listener: TcpListener,
     place: usize,
     registry: Rc<Registry>,
+    turns: Rc<TurnClock>,
 }
 
 impl Door for HostDoor {
@@ -85,7 +91,11 @@ impl Door for HostDoor {
         let token = wire_token(self.place, number);
         let both = Interest::READABLE | Interest::WRITABLE;
         self.registry.as_ref().register(&mut stream, token, both)?;
-        Ok(HostWire { stream })
+        Ok(HostWire {
+            stream,
+            place: self.place,
+            turns: self.turns.clone()?,
+        })
     }
 
     fn number(&self) -> io::Result<u16> {
@@ -103,11 +113,18 @@ pub struct ThisHost<'a> {
     /// What it told last.
     told: Events,
     start: Instant,
+    /// What is noted of turns.
+    turns: Rc<TurnClock>,
 }
 
 impl<'a> ThisHost<'a> {
     /// Its clock starts now.
     pub fn new(rt: &'a HostRuntime) -> io::Result<ThisHost<'a>> {
+        ThisHost::with_clock(rt, Rc::new(rt.alloc(), TurnClock::new())?)
+    }
+
+    /// The same, where turns are noted by a clock of theirs.
+    pub fn with_clock(rt: &'a HostRuntime, turns: Rc<TurnClock>) -> io::Result<ThisHost<'a>> {
         let poll = Poll::new(rt)?;
         let registry = poll.registry().try_clone()?;
         Ok(ThisHost {
@@ -116,6 +133,7 @@ impl<'a> ThisHost<'a> {
             poll,
             told: Events::with_capacity(rt.alloc(), NEWS_LIMIT)?,
             start: Instant::now(rt)?,
+            turns,
         })
     }
 }
@@ -135,12 +153,16 @@ impl<'a> Host for ThisHost<'a> {
             listener,
             place,
             registry,
+            turns: self.turns.clone()?,
         })
     }
 
     fn look(&mut self, most: u64) -> io::Result<()> {
-        self.poll
-            .poll(&mut self.told, Some(Duration::from_millis(most)))
+        let told = self
+            .poll
+            .poll(&mut self.told, Some(Duration::from_millis(most)));
+        self.turns.as_ref().begin(Instant::now(self.rt).ok());
+        told
     }
 
     fn news(&self, nth: usize) -> Option<News> {
@@ -150,7 +172,7 @@ impl<'a> Host for ThisHost<'a> {
 
     fn passed(&self) -> io::Result<u64> {
         let passed = self.start.elapsed(self.rt)?;
-        let seconds = passed.as_secs().saturating_mul(1000);
-        Ok(seconds.saturating_add(passed.subsec_millis() as u64))
+        let seconds = passed.as_secs().saturating_mul(1_000_000);
+        Ok(seconds.saturating_add(passed.subsec_micros() as u64))
     }
 }

@@ -3,5 +3,7 @@
 
 mod host;
 mod options;
+mod turn_clock;
 
 pub use host::{HostDoor, HostWire, ThisHost};
+pub use turn_clock::TurnClock;

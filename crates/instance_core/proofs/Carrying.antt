@@ -43,7 +43,8 @@ use Rattle.instance_core.specs.Contents.{AreContentsWithin, AreContentsInPool}
 use Rattle.instance_core.specs.Methods.{answer_to, use_asked, request_changes}
 use Rattle.instance_core.specs.Replies.{one_message, range, answering}
 use Rattle.instance_core.specs.Shown.{Ongoing, ongoing_in, contents_seen}
-use Rattle.instance_core.specs.State.{InstanceState, most_blobs}
+use Rattle.instance_core.specs.State.{InstanceState}
+use Rattle.instance_limits.specs.Shown.{limits_value}
 use Rattle.instance_core.specs.declared.event.Reply.{Reply}
 use Rattle.instance_core.specs.ReplyHolders.{result_holders}
 use Rattle.instance_core.specs.Carries.{answer_shown, shaped, answer_holders, EndsWithin, contents_holders, contents_beside, Carries, CarriesTexts, Leaves}
@@ -79,8 +80,8 @@ kept_within settings p old q view kept limit there = record {
 pub carries_texts : {X : Type 0} (method : Method) (settings : Settings) (parent : List Blob) (message : List ℕ) (p q : Slots) (old : Contents) (view : ViewValue) (r : Result X CallError) (shape : X → Answer) (cs : List Texts.TextChange)
     → ((o : Ongoing) → Answers (answer_shown q) (shaped shape r) (answer_to method (contents_seen settings parent p old o) message))
     → ((o : Ongoing) → request_changes method (contents_seen settings parent p old o) message ≡ map Text cs)
-    → IfAnswered r (visible_in q view ≡ Texts.visible_after_changes most_blobs settings.quota cs (visible_in p old.view))
-    → IfNoMemory r (Texts.MadeInPart most_blobs settings.quota cs (visible_in p old.view) (visible_in q view))
+    → IfAnswered r (visible_in q view ≡ Texts.visible_after_changes (limits_value settings.limits).blobs settings.quota cs (visible_in p old.view))
+    → IfNoMemory r (Texts.MadeInPart (limits_value settings.limits).blobs settings.quota cs (visible_in p old.view) (visible_in q view))
     → Moves p q (holders old.view) (λ k. holders view k + answer_holders (shaped shape r) k) → AreContentsWithin settings q (record old { view = view })
     → CarriesTexts method settings parent message p old (shaped shape r) q (record old { view = view })
 carries_texts method settings parent message p q old view r shape cs answer changes whole part moves within = record {
@@ -109,15 +110,15 @@ carries_uses method settings parent message p old view r asked reply answer chan
     carries_texts method settings parent message p p old view r Message (Texts.uses asked)
     (λ o. rw (answer o) (answers_shaped bytes_said Message one_message p r (asked >>= λ digests. Ok (reply digests)) (said_alike p) said))
     changes
-    (uses_answered r asked reply old.view.limit most_blobs settings.quota p old.view view kept.limit said used err)
-    (if_no_memory r (view ≡ old.view) (Texts.MadeInPart most_blobs settings.quota (Texts.uses asked) (visible_in p old.view) (visible_in p view)) (λ is. none_made most_blobs settings.quota (Texts.uses asked) (visible_in p old.view) (visible_in p view) (ap (visible_in p) is)) err)
+    (uses_answered r asked reply old.view.limit (limits_value settings.limits).blobs settings.quota p old.view view kept.limit said used err)
+    (if_no_memory r (view ≡ old.view) (Texts.MadeInPart (limits_value settings.limits).blobs settings.quota (Texts.uses asked) (visible_in p old.view) (visible_in p view)) (λ is. none_made (limits_value settings.limits).blobs settings.quota (Texts.uses asked) (visible_in p old.view) (visible_in p view) (ap (visible_in p) is)) err)
     (still p old.view view (answer_holders (shaped Message r)) same (message_holds Message said_holds r))
     (kept_within settings p old p view kept limit (keeps kept.kept))
 
 -- a batch that is stored, or the first of it
 pub carries_stores : (settings : Settings) (parent : List Blob) (message : List ℕ) (p q : Slots) (old : Contents) (view : ViewValue) (r : Result (Vec ℕ Global) CallError)
     → AreContentsInPool settings p old → Answers bytes_said r (batch_update_reply (string_bytes settings.name) settings.quota message)
-    → IfAnswered r (visible_in q view ≡ Texts.visible_after_changes most_blobs settings.quota (batch_update_changes (string_bytes settings.name) settings.quota message) (visible_in p old.view))
+    → IfAnswered r (visible_in q view ≡ Texts.visible_after_changes (limits_value settings.limits).blobs settings.quota (batch_update_changes (string_bytes settings.name) settings.quota message) (visible_in p old.view))
     → OnErr r (Texts.MadeInPart old.view.limit settings.quota (batch_update_changes (string_bytes settings.name) settings.quota message) (visible_in p old.view) (visible_in q view))
     → Moves p q (holders old.view) (holders view) → view.limit ≡ old.view.limit → IsViewInPool settings.quota q view
     → CarriesTexts BatchUpdateBlobs settings parent message p old (shaped Message r) q (record old { view = view })
@@ -127,7 +128,7 @@ carries_stores settings parent message p q old view r kept said stored part move
     (λ o. answers_shaped bytes_said Message one_message q r (batch_update_reply (string_bytes settings.name) settings.quota message) (said_alike q) said)
     (λ o. refl)
     stored
-    (if_no_memory r (Texts.MadeInPart old.view.limit settings.quota changes (visible_in p old.view) (visible_in q view)) (Texts.MadeInPart most_blobs settings.quota changes (visible_in p old.view) (visible_in q view))
+    (if_no_memory r (Texts.MadeInPart old.view.limit settings.quota changes (visible_in p old.view) (visible_in q view)) (Texts.MadeInPart (limits_value settings.limits).blobs settings.quota changes (visible_in p old.view) (visible_in q view))
     (λ made. subst (λ (n : ℕ). Texts.MadeInPart n settings.quota changes (visible_in p old.view) (visible_in q view)) kept.limit made) part)
     (with_nothing p q (holders old.view) (holders view) (answer_holders (shaped Message r)) (message_holds Message said_holds r) moves)
     (kept_within settings p old q view kept limit there)
@@ -137,8 +138,8 @@ pub carries_results : (method : Method) (settings : Settings) (parent : List Blo
     → ((o : Ongoing) → answer_to method (contents_seen settings parent p old o) message ≡ answering one_message reply)
     → ((o : Ongoing) → request_changes method (contents_seen settings parent p old o) message ≡ Keeps kept ∷ map Text cs)
     → AreContentsInPool settings p old → Answers bytes_said r reply
-    → IfAnswered r (visible_in p view ≡ Texts.visible_after_changes most_blobs settings.quota cs (visible_in p old.view)) → IfAnswered r (results ≡ kept) → OnErr r ((results ≡ old.results) × (visible_in p view ≡ visible_in p old.view))
-    → ((k : ℕ) → holders view k ≡ holders old.view k) → view.limit ≡ old.view.limit → IsViewInPool settings.quota p view → AreResultsWithin results
+    → IfAnswered r (visible_in p view ≡ Texts.visible_after_changes (limits_value settings.limits).blobs settings.quota cs (visible_in p old.view)) → IfAnswered r (results ≡ kept) → OnErr r ((results ≡ old.results) × (visible_in p view ≡ visible_in p old.view))
+    → ((k : ℕ) → holders view k ≡ holders old.view k) → view.limit ≡ old.view.limit → IsViewInPool settings.quota p view → AreResultsWithin (limits_value settings.limits) results
     → CarriesTexts method settings parent message p old (shaped Message r) p (record old { view = view; results = results })
 carries_results method settings parent message p old view results r reply kept cs answer changes here said used left err same limit there few = record {
   answer = λ o. rw (answer o) (answers_shaped bytes_said Message one_message p r reply (said_alike p) said);
@@ -158,7 +159,7 @@ carries_nothing method settings parent message p old r reply answer changes kept
     (λ o. rw (answer o) (answers_shaped bytes_said Message one_message p r reply (said_alike p) said))
     changes
     (on_answered r (visible_in p old.view ≡ visible_in p old.view) refl)
-    (no_memory_leaves r (Texts.MadeInPart most_blobs settings.quota [] (visible_in p old.view) (visible_in p old.view)) (none_made most_blobs settings.quota [] (visible_in p old.view) (visible_in p old.view) refl))
+    (no_memory_leaves r (Texts.MadeInPart (limits_value settings.limits).blobs settings.quota [] (visible_in p old.view) (visible_in p old.view)) (none_made (limits_value settings.limits).blobs settings.quota [] (visible_in p old.view) (visible_in p old.view) refl))
     (still p old.view old.view (answer_holders (shaped Message r)) (λ k. refl) (message_holds Message said_holds r))
     (kept_within settings p old p old.view kept refl kept.kept)
 
@@ -225,7 +226,7 @@ moved_on p q z old new given those m held more = record {
 }
 
 pub within_still : (settings : Settings) (q z : Slots) (c : Contents) → visible_in z c.view ≡ visible_in q c.view → AreContentsWithin settings q c → AreContentsWithin settings z c
-within_still settings q z c same within = record { limit = within.limit; texts = subst (AreBlobsWithin most_blobs settings.quota) (sym same) within.texts; uploads = within.uploads; results = within.results }
+within_still settings q z c same within = record { limit = within.limit; texts = subst (AreBlobsWithin (limits_value settings.limits).blobs settings.quota) (sym same) within.texts; uploads = within.uploads; results = within.results }
 
 -- ---- a range
 
@@ -278,25 +279,25 @@ carries_range settings parent message p q old view r kept answer used memory the
     carries_texts Read settings (visible_in p parent) message p q old view r Range cs
     (λ o. range_answers p q r (read_answer own (visible_in p old.view ++ visible_in p parent) message) there holds answer)
     (λ o. refl)
-    (use_whole r asked settings.quota (visible_in p old.view) (visible_in p view) (visible_in q view) shown (used p))
-    (use_front r settings.quota cs p q old.view view shown memory)
+    (use_whole r asked (limits_value settings.limits).blobs settings.quota (visible_in p old.view) (visible_in p view) (visible_in q view) shown (used p))
+    (use_front r (limits_value settings.limits).blobs settings.quota cs p q old.view view shown memory)
     (given_moves p q old.view view r holds err same)
     (record {
       limit = limit ∙ kept.limit;
-      texts = subst (AreBlobsWithin most_blobs settings.quota) (sym shown) (subst (λ (n : ℕ). AreBlobsWithin n settings.quota (visible_in p view)) kept.limit within);
+      texts = subst (AreBlobsWithin (limits_value settings.limits).blobs settings.quota) (sym shown) (subst (λ (n : ℕ). AreBlobsWithin n settings.quota (visible_in p view)) kept.limit within);
       uploads = kept.uploads;
       results = kept.results;
     })
   where
-    use_whole : (r : Result Source CallError) (asked : Result ReadAsked Refusal) (quota : ℕ) (before after moved : List Blob) → moved ≡ after → IfAnswered r (after ≡ after_asking asked before) → IfAnswered r (moved ≡ Texts.visible_after_changes most_blobs quota (use_asked asked) before)
-    use_whole (Ok x) asked quota before after moved same h = same ∙ h ∙ read_uses asked most_blobs quota before
-    use_whole (Err (Refused refusal)) asked quota before after moved same h = same ∙ h ∙ read_uses asked most_blobs quota before
-    use_whole (Err NoMemory) asked quota before after moved same h = tt
+    use_whole : (r : Result Source CallError) (asked : Result ReadAsked Refusal) (limit quota : ℕ) (before after moved : List Blob) → moved ≡ after → IfAnswered r (after ≡ after_asking asked before) → IfAnswered r (moved ≡ Texts.visible_after_changes limit quota (use_asked asked) before)
+    use_whole (Ok x) asked limit quota before after moved same h = same ∙ h ∙ read_uses asked limit quota before
+    use_whole (Err (Refused refusal)) asked limit quota before after moved same h = same ∙ h ∙ read_uses asked limit quota before
+    use_whole (Err NoMemory) asked limit quota before after moved same h = tt
 
-    use_front : (r : Result Source CallError) (quota : ℕ) (cs : List Texts.TextChange) (p q : Slots) (v w : ViewValue) → visible_in q w ≡ visible_in p w → IfNoMemory r (w ≡ v) → IfNoMemory r (Texts.MadeInPart most_blobs quota cs (visible_in p v) (visible_in q w))
-    use_front (Ok x) quota cs p q v w same h = tt
-    use_front (Err (Refused refusal)) quota cs p q v w same h = tt
-    use_front (Err NoMemory) quota cs p q v w same h = none_made most_blobs quota cs (visible_in p v) (visible_in q w) (same ∙ ap (visible_in p) h)
+    use_front : (r : Result Source CallError) (limit quota : ℕ) (cs : List Texts.TextChange) (p q : Slots) (v w : ViewValue) → visible_in q w ≡ visible_in p w → IfNoMemory r (w ≡ v) → IfNoMemory r (Texts.MadeInPart limit quota cs (visible_in p v) (visible_in q w))
+    use_front (Ok x) limit quota cs p q v w same h = tt
+    use_front (Err (Refused refusal)) limit quota cs p q v w same h = tt
+    use_front (Err NoMemory) limit quota cs p q v w same h = none_made limit quota cs (visible_in p v) (visible_in q w) (same ∙ ap (visible_in p) h)
 
     read_within : (limit : ℕ) (r : Result Source CallError) (asked : Result ReadAsked Refusal) (quota : ℕ) (v w : ViewValue) (p : Slots) → AreBlobsWithin limit quota (visible_in p v) → IfAnswered r (visible_in p w ≡ after_asking asked (visible_in p v)) → IfNoMemory r (w ≡ v) → AreBlobsWithin limit quota (visible_in p w)
     read_within limit (Ok x) asked quota v w p within h same = read_keeps asked limit quota (visible_in p v) (visible_in p w) h within

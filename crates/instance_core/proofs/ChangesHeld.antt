@@ -20,7 +20,7 @@ use Rattle.execution.specs.Asking.{execute_asked}
 use Rattle.instance_core.specs.declared.event.CallId.{CallId}
 use Rattle.instance_core.specs.Calls.{ProgressValue, waits, has, writes, watches, CallValue, CallEventValue, head, message, fault, end, cancel, tick, start_jobs, end_late_jobs, end_job, call_at}
 use Rattle.instance_core.specs.Replies.{AnswerValue, one_message, messages, range, watching}
-use Rattle.instance_core.specs.State.{seen, InstanceState, most_blobs}
+use Rattle.instance_core.specs.State.{seen, InstanceState}
 use Rattle.instance_core.specs.Methods.{use_asked, answer_to, request_changes, execution_changes}
 use Rattle.instance_core.specs.Changes.{InstanceChange, Text, Goes, Ends, Wrote, Keeps, Expires}
 use Rattle.instance_core.specs.Writes.{write_state, with_part, part_changes, first_part_changes, changes_asked, first_changes, next_changes, first_outcome, next_outcome}
@@ -39,7 +39,7 @@ pub record Allows (s : InstanceState) (P : InstanceChange → Type 0) : Type 0 w
   pub ended : (id : CallId) → P (Ends id)
   pub expired : P Expires
   pub moved : (message : List ℕ) → P (Keeps (after_get s.name (seen s) s.results message))
-  pub sent : (message : List ℕ) → P (Keeps (after_update s.name s.results message))
+  pub sent : (message : List ℕ) → P (Keeps (after_update s.name s.limits s.results message))
   pub first : (bytes : List ℕ) → AllByRecursion P (first_changes s bytes)
   pub next : (write : OpenWriteValue) (bytes : List ℕ) → AllByRecursion P (next_changes s write bytes)
 
@@ -169,7 +169,7 @@ answer_holds s P a (end_job n outcome) beside = beside
 
 -- both changes of a part
 abbrev pub AllowsPart : Bool → InstanceState → (InstanceChange → Type 0) → Type 0
-AllowsPart first s P = (part : PartValue) → P (Wrote (with_part first s part)) × P (Wrote (after_part first most_blobs s.quota s.moment part (write_state s)))
+AllowsPart first s P = (part : PartValue) → P (Wrote (with_part first s part)) × P (Wrote (after_part first s.limits.blobs s.quota s.moment part (write_state s)))
 
 pub first_by : (s : InstanceState) (P : InstanceChange → Type 0) → ((d : Digest) → P (Text (Texts.Use d))) → AllowsPart true s P → (bytes : List ℕ) → AllAre P (first_changes s bytes)
 first_by s P used both bytes = go (first_asked s.name bytes) where

@@ -15,7 +15,7 @@ use Rattle.instance_core.specs.Calls.{CallEventValue}
 use Rattle.instance_core.specs.Changes.{InstanceChange, Text, Goes, Ends, Wrote, Keeps, Expires, Does, Pushes, Settles, MadeInPart, state_after_change, state_after_changes}
 use Rattle.instance_core.specs.Losses.{WritesByRule, NothingWritten, PieceTaken, UploadFinished, UploadMisnamed, UploadTooLong, IsByRule, IsOfSomeByte, HasNoEmptyBlob}
 use Rattle.instance_core.proofs.Losses.{front_is_by_rule}
-use Rattle.instance_core.specs.State.{InstanceState, most_blobs}
+use Rattle.instance_core.specs.State.{InstanceState}
 use Rattle.instance_core.proofs.WriteAdds.{used_all, admitted_all}
 
 admitted_none : (limit quota : ℕ) (d : Digest) (text : List ℕ) (bs : List Blob) → HasNoEmptyBlob bs → HasNoEmptyBlob (visible_after_admission limit quota d text bs)
@@ -36,18 +36,18 @@ seen_so w bs is h = subst HasNoEmptyBlob (sym is) h
 written_none : (s : InstanceState) (event : CallEventValue) (w : WriteState) → WritesByRule s event w → HasNoEmptyBlob s.visible → HasNoEmptyBlob w.visible
 written_none s event w (NothingWritten is) h = seen_so w s.visible (ap (λ (x : WriteState). x.visible) is) h
 written_none s event w (PieceTaken part brings is) h = seen_so w s.visible (ap (λ (x : WriteState). x.visible) is) h
-written_none s event w (UploadFinished part brings last named is) h = seen_so w _ (ap (λ (x : WriteState). x.visible) is) (admitted_none most_blobs s.quota part.key.digest _ s.visible h)
+written_none s event w (UploadFinished part brings last named is) h = seen_so w _ (ap (λ (x : WriteState). x.visible) is) (admitted_none s.limits.blobs s.quota part.key.digest _ s.visible h)
 written_none s event w (UploadMisnamed part brings last named is) h = seen_so w s.visible (ap (λ (x : WriteState). x.visible) is) h
 written_none s event w (UploadTooLong part brings long is) h = seen_so w s.visible (ap (λ (x : WriteState). x.visible) is) h
 
-text_none : (quota : ℕ) (c : Texts.TextChange) (bs : List Blob) → HasNoEmptyBlob bs → HasNoEmptyBlob (Texts.visible_after_change most_blobs quota c bs)
-text_none quota (Texts.Use d) bs h = used_all IsOfSomeByte d bs h
-text_none quota (Texts.Store d text) bs h = admitted_none most_blobs quota d text bs h
+text_none : (limit quota : ℕ) (c : Texts.TextChange) (bs : List Blob) → HasNoEmptyBlob bs → HasNoEmptyBlob (Texts.visible_after_change limit quota c bs)
+text_none limit quota (Texts.Use d) bs h = used_all IsOfSomeByte d bs h
+text_none limit quota (Texts.Store d text) bs h = admitted_none limit quota d text bs h
 
 -- what a Write leaves is made of the texts before the event
 made_none : (s : InstanceState) (event : CallEventValue) → HasNoEmptyBlob s.visible → (cs : List InstanceChange) → AllByRecursion (IsByRule s event) cs → (r : InstanceState) → HasNoEmptyBlob r.visible → HasNoEmptyBlob (state_after_changes cs r).visible
 made_none s event start [] rules r h = h
-made_none s event start (Text c ∷ cs) rules r h = made_none s event start cs rules.1 (state_after_change (Text c) r) (text_none r.quota c r.visible h)
+made_none s event start (Text c ∷ cs) rules r h = made_none s event start cs rules.1 (state_after_change (Text c) r) (text_none r.limits.blobs r.quota c r.visible h)
 made_none s event start (Wrote w ∷ cs) rules r h = made_none s event start cs rules.1 (state_after_change (Wrote w) r) (written_none s event w rules.0 start)
 made_none s event start (Goes id call ∷ cs) rules r h = made_none s event start cs rules.1 (state_after_change (Goes id call) r) h
 made_none s event start (Ends id ∷ cs) rules r h = made_none s event start cs rules.1 (state_after_change (Ends id) r) h

@@ -7,7 +7,7 @@ use Rattle.std.specs.declared.vec.Vec.{Vec}
 use Rattle.digest.specs.declared.Digest.{Digest}
 use Rattle.blob_pool.specs.Slots.{Slots}
 use Rattle.instance_view.specs.Visible.{Blob}
-use Rattle.tree_calls.specs.Complete.{AreResultsWithin}
+use Rattle.tree_calls.specs.Complete.{LimitsValue, AreResultsWithin}
 use Rattle.cas_service.specs.Changes as Texts
 use Rattle.job_queue.specs.Jobs.{running_job}
 use Rattle.run_outcomes.specs.Outcomes.{OutcomeValue}
@@ -24,7 +24,7 @@ use Rattle.instance_core.specs.Apart.{replies_to}
 use Rattle.instance_core.specs.Calls.{Calls, CallEventValue, end_job}
 use Rattle.instance_core.specs.Changes.{InstanceChange, Text, Keeps, state_after_changes, MadeInPart}
 use Rattle.instance_core.specs.Shown.{reply_shown}
-use Rattle.instance_core.specs.State.{InstanceState, most_blobs}
+use Rattle.instance_core.specs.State.{InstanceState}
 use Rattle.instance_core.specs.Turns.{IsReady}
 use Rattle.instance_core.specs.Watching.{replies_to_watchers}
 use Rattle.instance_core.proofs.EventLimits.{results_keep}
@@ -93,35 +93,35 @@ front_more cs more s t part = record {
 }
 
 -- some of the blobs were admitted
-pub admitted_in_part : (s : InstanceState) (limit : ℕ) (blobs new : List Blob) (action : Digest) (stored : Option (List ℕ)) → limit ≡ most_blobs → Texts.MadeInPart limit s.quota (admissions blobs) s.visible new → MadeInPart (changes_kept s action blobs stored) s (with_texts new s)
+pub admitted_in_part : (s : InstanceState) (limit : ℕ) (blobs new : List Blob) (action : Digest) (stored : Option (List ℕ)) → limit ≡ s.limits.blobs → Texts.MadeInPart limit s.quota (admissions blobs) s.visible new → MadeInPart (changes_kept s action blobs stored) s (with_texts new s)
 admitted_in_part s limit blobs new action stored most part =
-    front_more (map Text (admissions blobs)) (Keeps (results_with action stored s.results) ∷ []) s (with_texts new s)
+    front_more (map Text (admissions blobs)) (Keeps (results_with s.limits action stored s.results) ∷ []) s (with_texts new s)
     (texts_in_part (admissions blobs) s new (subst (λ (n : ℕ). Texts.MadeInPart n s.quota (admissions blobs) s.visible new) most part))
 
-all_admitted : (s : InstanceState) (limit : ℕ) (blobs new : List Blob) → limit ≡ most_blobs → new ≡ Texts.visible_after_changes limit s.quota (admissions blobs) s.visible → with_texts new s ≡ state_after_changes (map Text (admissions blobs)) s
+all_admitted : (s : InstanceState) (limit : ℕ) (blobs new : List Blob) → limit ≡ s.limits.blobs → new ≡ Texts.visible_after_changes limit s.quota (admissions blobs) s.visible → with_texts new s ≡ state_after_changes (map Text (admissions blobs)) s
 all_admitted s limit blobs new most is =
     ap (λ (bs : List Blob). with_texts bs s) (is ∙ ap (λ (n : ℕ). Texts.visible_after_changes n s.quota (admissions blobs) s.visible) most) ∙ sym (made_texts (admissions blobs) s)
 
 -- all were, and then the result was stored
-pub kept_whole : {T E : Type 0} (r : Result T E) (s : InstanceState) (limit : ℕ) (blobs new results : List Blob) (action : Digest) (stored : Option (List ℕ)) → limit ≡ most_blobs → new ≡ Texts.visible_after_changes limit s.quota (admissions blobs) s.visible → OnOk r (results ≡ results_with action stored s.results)
+pub kept_whole : {T E : Type 0} (r : Result T E) (s : InstanceState) (limit : ℕ) (blobs new results : List Blob) (action : Digest) (stored : Option (List ℕ)) → limit ≡ s.limits.blobs → new ≡ Texts.visible_after_changes limit s.quota (admissions blobs) s.visible → OnOk r (results ≡ results_with s.limits action stored s.results)
     → OnOk r (with_results results (with_texts new s) ≡ state_after_changes (changes_kept s action blobs stored) s)
 kept_whole (Err e) s limit blobs new results action stored most is kept = tt
 kept_whole (Ok x) s limit blobs new results action stored most is kept =
     let cs = map Text (admissions blobs) in
-    let last = Keeps (results_with action stored s.results) ∷ [] in
+    let last = Keeps (results_with s.limits action stored s.results) ∷ [] in
     ap (λ (bs : List Blob). with_results bs (with_texts new s)) kept
-    ∙ ap (with_results (results_with action stored s.results)) (all_admitted s limit blobs new most is) ∙ sym (changed_more cs last s)
+    ∙ ap (with_results (results_with s.limits action stored s.results)) (all_admitted s limit blobs new most is) ∙ sym (changed_more cs last s)
 
-pub kept_in_part : {T E : Type 0} (r : Result T E) (s : InstanceState) (limit : ℕ) (blobs new results : List Blob) (action : Digest) (stored : Option (List ℕ)) → limit ≡ most_blobs → new ≡ Texts.visible_after_changes limit s.quota (admissions blobs) s.visible → OnErr r (results ≡ s.results)
+pub kept_in_part : {T E : Type 0} (r : Result T E) (s : InstanceState) (limit : ℕ) (blobs new results : List Blob) (action : Digest) (stored : Option (List ℕ)) → limit ≡ s.limits.blobs → new ≡ Texts.visible_after_changes limit s.quota (admissions blobs) s.visible → OnErr r (results ≡ s.results)
     → OnErr r (MadeInPart (changes_kept s action blobs stored) s (with_results results (with_texts new s)))
 kept_in_part (Ok x) s limit blobs new results action stored most is same = tt
 kept_in_part (Err e) s limit blobs new results action stored most is same = record {
   made = map Text (admissions blobs);
-  left = Keeps (results_with action stored s.results) ∷ [];
+  left = Keeps (results_with s.limits action stored s.results) ∷ [];
   front = refl;
   so_far = ap (λ (bs : List Blob). with_results bs (with_texts new s)) same ∙ all_admitted s limit blobs new most is;
 }
 
-pub results_kept : {T E : Type 0} (r : Result T E) (action : Digest) (stored : Option (List ℕ)) (old new : List Blob) → OnOk r (new ≡ results_with action stored old) → OnErr r (new ≡ old) → AreResultsWithin old → AreResultsWithin new
-results_kept (Ok x) action stored old new kept same few = subst AreResultsWithin (sym kept) (results_keep action stored old few)
-results_kept (Err e) action stored old new kept same few = subst AreResultsWithin (sym same) few
+pub results_kept : {T E : Type 0} (limits : LimitsValue) (r : Result T E) (action : Digest) (stored : Option (List ℕ)) (old new : List Blob) → OnOk r (new ≡ results_with limits action stored old) → OnErr r (new ≡ old) → AreResultsWithin limits old → AreResultsWithin limits new
+results_kept limits (Ok x) action stored old new kept same few = subst (AreResultsWithin limits) (sym kept) (results_keep limits action stored old few)
+results_kept limits (Err e) action stored old new kept same few = subst (AreResultsWithin limits) (sym same) few

@@ -15,5 +15,5 @@ pub ending_keeps_jobs : (s u : InstanceState) (outcome : OutcomeValue) (o : Opti
 ending_keeps_jobs s u outcome None = refl
 ending_keeps_jobs s u outcome (Some job) =
     let end = ending_at s outcome job in
-    let stored : List InstanceChange = Keeps (results_with job.action end.stored s.results) ∷ [] in
+    let stored : List InstanceChange = Keeps (results_with s.limits job.action end.stored s.results) ∷ [] in
     texts_keep_jobs Text (admissions end.blobs) stored u (λ x t. refl) (λ t. refl)

@@ -12,7 +12,7 @@ use Rattle.digest.specs.declared.Digest.{Digest}
 use Rattle.digest.specs.Naming.{same_digest}
 use Rattle.instance_view.specs.Visible.{Blob}
 use Rattle.action_cache.specs.Results.{front_within}
-use Rattle.tree_calls.specs.Complete.{AreResultsWithin}
+use Rattle.tree_calls.specs.Complete.{LimitsValue, AreResultsWithin}
 use Rattle.tree_calls.proofs.Short.{front_is_within, get_stays_within, update_stays_within}
 use Rattle.job_queue.specs.Jobs.{same_number, running_job}
 use Rattle.job_queue.specs.declared.queue.TheConstants.{LAST_NUMBER}
@@ -47,36 +47,36 @@ use Rattle.instance_core.proofs.OperationSizes.{IsShort, tick_short, start_short
 
 -- ---- the limits
 
-limits_allow : (s : InstanceState) → IsInstanceWithin s → Allows s (KeepsLimits s.quota)
+limits_allow : (s : InstanceState) → IsInstanceWithin s → Allows s (KeepsLimits s.limits s.quota)
 limits_allow s w =
-    let here : IsWithin s.quota (write_state s) = record { texts = w.texts; uploads = w.uploads } in
+    let here : IsWithin s.limits.blobs s.quota (write_state s) = record { texts = w.texts; uploads = w.uploads } in
     record {
       texts = λ c named. named;
       begun = λ id method. tt;
       written = λ id method write below. below;
       ended = λ id. tt;
       expired = tt;
-      moved = λ message. get_stays_within s.name (seen s) s.results message w.results;
-      sent = λ message. update_stays_within s.name s.results message w.results;
-      first = λ bytes. first_by s (KeepsLimits s.quota) (λ d. tt) (λ part. (piece_within true s part here, whole_within true s part here)) bytes;
-      next = λ write bytes. next_by s (KeepsLimits s.quota) (λ part. (piece_within false s part here, whole_within false s part here)) write bytes;
+      moved = λ message. get_stays_within s.limits s.name (seen s) s.results message w.results;
+      sent = λ message. update_stays_within s.limits s.name s.results message w.results;
+      first = λ bytes. first_by s (KeepsLimits s.limits s.quota) (λ d. tt) (λ part. (piece_within true s part here, whole_within true s part w.limits.some_blobs here)) bytes;
+      next = λ write bytes. next_by s (KeepsLimits s.limits s.quota) (λ part. (piece_within false s part here, whole_within false s part w.limits.some_blobs here)) write bytes;
     }
 
 -- a call ends, or watches a job, in any state within the limits
 call_keeps : (s : InstanceState) (id : CallId) (method : Method) (request : List ℕ) (t : InstanceState) → IsInstanceWithin t → IsInstanceWithin (state_after_change (call_change id method (answer_to method s request)) t)
-call_keeps s id method request t wt = change_keeps (call_change id method (answer_to method s request)) t (call_holds (KeepsLimits t.quota) id method (answer_to method s request) (λ n. tt) tt) wt
+call_keeps s id method request t wt = change_keeps (call_change id method (answer_to method s request)) t (call_holds (KeepsLimits t.limits t.quota) id method (answer_to method s request) (λ n. tt) tt) wt
 
 -- the end of a request
 request_fronts : (s : InstanceState) (id : CallId) (method : Method) (request : List ℕ) → IsInstanceWithin s → FrontsKeep s (end_answer_by_progress s id method (has request)).changes
 request_fronts s id Called.Execute request w =
     fronts_last s (execution_changes s (execute_asked s.name request)) (call_change id Called.Execute (answer_to Called.Execute s request)) (call_keeps s id Called.Execute request) (executed_keeps s request w)
 request_fronts s id method request w =
-    fronts_keep s (end_answer_by_progress s id method (has request)).changes (request_holds s (KeepsLimits s.quota) (limits_allow s w) id method (has request) (tt, call_holds (KeepsLimits s.quota) id method (answer_to method s request) (λ n. tt) tt)) w
+    fronts_keep s (end_answer_by_progress s id method (has request)).changes (request_holds s (KeepsLimits s.limits s.quota) (limits_allow s w) id method (has request) (tt, call_holds (KeepsLimits s.limits s.quota) id method (answer_to method s request) (λ n. tt) tt)) w
 
 progress_fronts : (s : InstanceState) (id : CallId) (method : Method) (p : ProgressValue) → IsInstanceWithin s → FrontsKeep s (end_answer_by_progress s id method p).changes
 progress_fronts s id method (has request) w = request_fronts s id method request w
-progress_fronts s id method waits w = fronts_keep s (end_answer_by_progress s id method waits).changes (request_holds s (KeepsLimits s.quota) (limits_allow s w) id method waits tt) w
-progress_fronts s id method (writes write) w = fronts_keep s (end_answer_by_progress s id method (writes write)).changes (request_holds s (KeepsLimits s.quota) (limits_allow s w) id method (writes write) tt) w
+progress_fronts s id method waits w = fronts_keep s (end_answer_by_progress s id method waits).changes (request_holds s (KeepsLimits s.limits s.quota) (limits_allow s w) id method waits tt) w
+progress_fronts s id method (writes write) w = fronts_keep s (end_answer_by_progress s id method (writes write)).changes (request_holds s (KeepsLimits s.limits s.quota) (limits_allow s w) id method (writes write) tt) w
 progress_fronts s id method (watches n) w = w
 
 end_fronts : (s : InstanceState) (id : CallId) (o : Option CallValue) → IsInstanceWithin s → FrontsKeep s (request_end_answer s id o).changes
@@ -85,20 +85,20 @@ end_fronts s id (Some call) w = progress_fronts s id call.method call.progress w
 
 -- ---- the end of a job
 
-pub results_keep : (action : Digest) (stored : Option (List ℕ)) (results : List Blob) → AreResultsWithin results → AreResultsWithin (results_with action stored results)
-results_keep action None results h = h
-results_keep action (Some text) results h = go (nat_lt 67108864 (length text)) where
-  go : (b : Bool) → AreResultsWithin (cond b results (front_within 10000 67108864 ((action, text) ∷ remove_entry (same_digest action) results)))
+pub results_keep : (limits : LimitsValue) (action : Digest) (stored : Option (List ℕ)) (results : List Blob) → AreResultsWithin limits results → AreResultsWithin limits (results_with limits action stored results)
+results_keep limits action None results h = h
+results_keep limits action (Some text) results h = go (nat_lt limits.result_bytes (length text)) where
+  go : (b : Bool) → AreResultsWithin limits (cond b results (front_within limits.results limits.result_bytes ((action, text) ∷ remove_entry (same_digest action) results)))
   go true = h
-  go false = front_is_within ((action, text) ∷ remove_entry (same_digest action) results)
+  go false = front_is_within limits ((action, text) ∷ remove_entry (same_digest action) results)
 
 -- what a run leaves
-ending_keeps : (s : InstanceState) (outcome : OutcomeValue) (o : Option JobValue) → IsInstanceWithin s → AllByRecursion (KeepsLimits s.quota) (ending_changes s outcome o)
+ending_keeps : (s : InstanceState) (outcome : OutcomeValue) (o : Option JobValue) → IsInstanceWithin s → AllByRecursion (KeepsLimits s.limits s.quota) (ending_changes s outcome o)
 ending_keeps s outcome None w = tt
 ending_keeps s outcome (Some job) w =
-    all_append (KeepsLimits s.quota) (map Text (admissions (ending_at s outcome job).blobs)) (Keeps (results_with job.action (ending_at s outcome job).stored s.results) ∷ [])
-    (texts_hold s (KeepsLimits s.quota) (limits_allow s w) (admissions (ending_at s outcome job).blobs) (ending_stores s.quota s.visible job outcome))
-    (results_keep job.action (ending_at s outcome job).stored s.results w.results, tt)
+    all_append (KeepsLimits s.limits s.quota) (map Text (admissions (ending_at s outcome job).blobs)) (Keeps (results_with s.limits job.action (ending_at s outcome job).stored s.results) ∷ [])
+    (texts_hold s (KeepsLimits s.limits s.quota) (limits_allow s w) (admissions (ending_at s outcome job).blobs) (ending_stores s.quota s.visible job outcome))
+    (results_keep s.limits job.action (ending_at s outcome job).stored s.results w.results, tt)
 
 pub ending_front_keeps : (s t : InstanceState) (outcome : OutcomeValue) (o : Option JobValue) → IsInstanceWithin s → MadeInPart (ending_changes s outcome o) s t → IsInstanceWithin t
 ending_front_keeps s t outcome o w part =
@@ -119,7 +119,7 @@ end_told s n outcome job narrow is w =
     let runs = runs_of n job (lookup (same_number n) s.jobs.running) is in
     let whole : IsWholeJob job = subst IsWholeJob runs.2 (found_whole n runs.0 s.jobs.running runs.1 w.whole.running) in
     let below : n < s.jobs.next = found-among (λ m. m < s.jobs.next) n runs.0 s.jobs.running (keys_of s.jobs.waiting) runs.1 w.jobs.given in
-    ending_short s.quota s.visible n job outcome w.quota w.texts (no_more n s.jobs.next (LAST_NUMBER + 1) below w.jobs.few_numbers) (record { hash = whole.hash; size = whole.size }) narrow
+    ending_short s.limits.blobs s.quota s.visible n job outcome w.quota w.texts (no_more n s.jobs.next (LAST_NUMBER + 1) below w.jobs.few_numbers) (record { hash = whole.hash; size = whole.size }) narrow
 
 pub steps_short : (s : InstanceState) (n : ℕ) (outcome : OutcomeValue) (job : JobValue) → IsNarrowOutcome outcome → running_job n s.jobs ≡ Some job → IsInstanceWithin s → AllByRecursion (λ (step : StepValue). IsShort (told step).operation) (end_steps s.slots s.moment n (ending_at s outcome job).end_is s.jobs)
 steps_short s n outcome job narrow is w =
@@ -135,12 +135,12 @@ end_job_fronts s n outcome (Some job) is narrow w =
 -- ---- all events
 
 event_fronts : (s : InstanceState) (event : CallEventValue) → IsShortEvent event → IsInstanceWithin s → FrontsKeep s (answer s event).changes
-event_fronts s (head id method) short w = fronts_keep s (answer s (head id method)).changes (answer_holds s (KeepsLimits s.quota) (limits_allow s w) (head id method) tt) w
-event_fronts s (message id bytes) short w = fronts_keep s (answer s (message id bytes)).changes (answer_holds s (KeepsLimits s.quota) (limits_allow s w) (message id bytes) (λ method other. (other, short))) w
-event_fronts s (fault id refusal) short w = fronts_keep s (answer s (fault id refusal)).changes (answer_holds s (KeepsLimits s.quota) (limits_allow s w) (fault id refusal) tt) w
+event_fronts s (head id method) short w = fronts_keep s (answer s (head id method)).changes (answer_holds s (KeepsLimits s.limits s.quota) (limits_allow s w) (head id method) tt) w
+event_fronts s (message id bytes) short w = fronts_keep s (answer s (message id bytes)).changes (answer_holds s (KeepsLimits s.limits s.quota) (limits_allow s w) (message id bytes) (λ method other. (other, short))) w
+event_fronts s (fault id refusal) short w = fronts_keep s (answer s (fault id refusal)).changes (answer_holds s (KeepsLimits s.limits s.quota) (limits_allow s w) (fault id refusal) tt) w
 event_fronts s (end id) short w = end_fronts s id (call_at id s.calls) w
-event_fronts s (cancel id) short w = fronts_keep s (answer s (cancel id)).changes (answer_holds s (KeepsLimits s.quota) (limits_allow s w) (cancel id) tt) w
-event_fronts s tick short w = fronts_keep s (answer s tick).changes (answer_holds s (KeepsLimits s.quota) (limits_allow s w) tick tt) w
+event_fronts s (cancel id) short w = fronts_keep s (answer s (cancel id)).changes (answer_holds s (KeepsLimits s.limits s.quota) (limits_allow s w) (cancel id) tt) w
+event_fronts s tick short w = fronts_keep s (answer s tick).changes (answer_holds s (KeepsLimits s.limits s.quota) (limits_allow s w) tick tt) w
 event_fronts s start_jobs short w =
     then_settle s [] (start_steps s.slots s.moment s.jobs) tt (start_within s.slots s.moment s.jobs w.slots (start_short s.slots s.moment s.jobs (told_jobs s.slots s.jobs (jobs_of s w))) (jobs_of s w)) w
 event_fronts s end_late_jobs short w =
@@ -200,7 +200,7 @@ end_stores : (s : InstanceState) (outcome : OutcomeValue) (o : Option JobValue) 
 end_stores s outcome None steps = (tt, tt)
 end_stores s outcome (Some job) steps =
     all_append (StoresNamed s.visible) (ending_changes s outcome (Some job)) (Settles steps ∷ [])
-    (all_append (StoresNamed s.visible) (map Text (admissions (ending_at s outcome job).blobs)) (Keeps (results_with job.action (ending_at s outcome job).stored s.results) ∷ [])
+    (all_append (StoresNamed s.visible) (map Text (admissions (ending_at s outcome job).blobs)) (Keeps (results_with s.limits job.action (ending_at s outcome job).stored s.results) ∷ [])
     (texts_hold s (StoresNamed s.visible) (names_allow s) (admissions (ending_at s outcome job).blobs) (ending_stores s.quota s.visible job outcome)) (tt, tt))
     (tt, tt)
 

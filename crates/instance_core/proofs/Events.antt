@@ -96,7 +96,7 @@ answer_short FindMissingBlobs s request w short = if_ok (find_missing_reply s.na
 answer_short BatchUpdateBlobs s request w short = if_ok (batch_update_reply s.name s.quota request) (λ reply h. batch_update_short s.name s.quota request reply short h)
 answer_short BatchReadBlobs s request w short = if_ok (batch_read_reply s.name (seen s) request) (λ reply h. batch_read_short s.name (seen s) request reply (all_named s w) short h)
 answer_short GetTree s request w short = messages_short (get_tree_replies s.name (seen s) request) (λ pages h. get_tree_short s.name (seen s) request pages h)
-answer_short GetActionResult s request w short = if_ok (get_action_result_reply s.name (seen s) s.results request) (λ reply h. get_action_result_short s.name (seen s) s.results request reply w.results h)
+answer_short GetActionResult s request w short = if_ok (get_action_result_reply s.name (seen s) s.results request) (λ reply h. get_action_result_short s.limits s.name (seen s) s.results request reply w.limits w.results h)
 answer_short UpdateActionResult s request w short = if_ok (update_action_result_reply s.name request) (λ reply h. update_action_result_short s.name request reply short h)
 answer_short GetCapabilities s request w short = if_ok (get_capabilities_reply s.name s.slots request) (λ reply h. get_capabilities_short s.name s.slots request reply h)
 answer_short Read s request w short = read_short (read_answer s.name (seen s) request) (read_within s.name (seen s) request)
@@ -200,12 +200,12 @@ shown_short p (Err e) rs is all = tt
 pub within_beside : (p : Slots) (v : ViewValue) (i : InstanceSlots) → IsInstanceInPool p i → IsBeside p v i → IsInstanceWithin (state_beside p v i)
 within_beside p v i kept beside =
     let w = kept.within in
-    record { quota = w.quota; texts = w.texts; uploads = w.uploads; results = w.results; slots = w.slots; jobs = w.jobs; running = w.running; whole = w.whole; told = w.told; calls = w.calls; messages = w.messages; parent = beside.named }
+    record { quota = w.quota; limits = w.limits; texts = w.texts; uploads = w.uploads; results = w.results; slots = w.slots; jobs = w.jobs; running = w.running; whole = w.whole; told = w.told; calls = w.calls; messages = w.messages; parent = beside.named }
 
 -- .. and without its parent's texts
 pub within_alone : (p : Slots) (v : ViewValue) (i : InstanceSlots) → IsInstanceWithin (state_beside p v i) → IsInstanceWithin (state_in p i)
 within_alone p v i w =
-    record { quota = w.quota; texts = w.texts; uploads = w.uploads; results = w.results; slots = w.slots; jobs = w.jobs; running = w.running; whole = w.whole; told = w.told; calls = w.calls; messages = w.messages; parent = tt }
+    record { quota = w.quota; limits = w.limits; texts = w.texts; uploads = w.uploads; results = w.results; slots = w.slots; jobs = w.jobs; running = w.running; whole = w.whole; told = w.told; calls = w.calls; messages = w.messages; parent = tt }
 
 -- what an instance answers to an event within its limits
 pub event_short : (p q : Slots) (v : ViewValue) (i j : InstanceSlots) (event : CallEventValue) (r : Result (Vec Reply Global) AllocError) → i ≡ j → IsInstanceInPool p j → IsBeside p v j →

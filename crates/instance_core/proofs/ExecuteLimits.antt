@@ -9,7 +9,7 @@ use Rattle.digest.specs.Naming.{same_digest}
 use Rattle.instance_view.specs.Visible.{Blob, with_match_first}
 use Rattle.cas_service.specs.Changes as Texts
 use Rattle.action_cache.specs.Answering.{blobs_for, blobs_used, results_after}
-use Rattle.tree_calls.specs.Complete.{AreResultsWithin}
+use Rattle.tree_calls.specs.Complete.{LimitsValue, AreResultsWithin}
 use Rattle.tree_calls.proofs.Short.{fronted_within}
 use Rattle.job_queue.specs.Jobs.{Jobs}
 use Rattle.job_queue.specs.declared.queue.TheConstants.{LAST_NUMBER, MOST_WAITING}
@@ -37,10 +37,10 @@ uses_keep s (d ∷ ds) rest w more =
     let next : InstanceState = state_after_change (Text (Texts.Use d)) s in
     (w, uses_keep next ds rest (change_keeps (Text (Texts.Use d)) s tt w) more)
 
-pub after_within : (look : Digest → Option (List ℕ)) (d : Digest) (results : List Blob) → AreResultsWithin results → AreResultsWithin (results_after look d results)
-after_within look d results within = go (is_some (blobs_for look d results)) where
-  go : (b : Bool) → AreResultsWithin (cond b (with_match_first (same_digest d) results) results)
-  go true = fronted_within (same_digest d) results within
+pub after_within : (limits : LimitsValue) (look : Digest → Option (List ℕ)) (d : Digest) (results : List Blob) → AreResultsWithin limits results → AreResultsWithin limits (results_after look d results)
+after_within limits look d results within = go (is_some (blobs_for look d results)) where
+  go : (b : Bool) → AreResultsWithin limits (cond b (with_match_first (same_digest d) results) results)
+  go true = fronted_within limits (same_digest d) results within
   go false = within
 
 -- a number is left
@@ -81,7 +81,7 @@ module _ (s : InstanceState) (d : Digest) (w : IsInstanceWithin s) (left : IsLef
       let kept : List Blob = results_after (look_in (execution_state s)) d s.results in
       let next : InstanceState = state_after_change (Keeps kept) s in
       let operation : List ℕ = completed_text s.jobs.next d (finds text) in
-      let within : IsInstanceWithin next = change_keeps (Keeps kept) s (after_within (look_in (execution_state s)) d s.results w.results) w in (
+      let within : IsInstanceWithin next = change_keeps (Keeps kept) s (after_within s.limits (look_in (execution_state s)) d s.results w.results) w in (
         w,
         uses_keep next (blobs_used (look_in (execution_state s)) d s.results) (Does operation ∷ []) within
             (λ t wt same. (wt, does_keeps operation t (subst IsLeft (sym same) left) short wt)),
@@ -98,7 +98,7 @@ abbrev IsShortDone : ExecuteDone → Type 0
 IsShortDone x = IfOk x.answer IsShortExecuteAnswer
 
 execute_keeps : (s : InstanceState) (skip : Bool) (d : Digest) → IsInstanceWithin s → HasForm d → KeepAll s (execute s.slots (execution_state s) skip d).changes
-execute_keeps s skip d w form = off (nat_eq s.slots 0) (execute_short s.slots (execution_state s) skip d w.jobs.few_numbers form w.results) where
+execute_keeps s skip d w form = off (nat_eq s.slots 0) (execute_short s.limits s.slots (execution_state s) skip d w.jobs.few_numbers form w.limits w.results) where
   full : (b : Bool) → nat_lt LAST_NUMBER s.jobs.next ≡ b → IsShortDone (cond b (refused QueueFull) (found_by s skip d)) → KeepAll s (cond b (refused QueueFull) (found_by s skip d)).changes
   full true is short = w
   full false is short = looking_keeps s d w (not_over LAST_NUMBER s.jobs.next is) form (looked_up skip (look_in (execution_state s)) d s.results) short

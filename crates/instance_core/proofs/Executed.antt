@@ -45,7 +45,8 @@ use Rattle.instance_core.specs.Changes.{InstanceChange, state_after_changes}
 use Rattle.instance_core.specs.Contents.{AreContentsInPool}
 use Rattle.instance_core.specs.Methods.{answer_to, execute_answered, executed, execution_change, execution_changes, execution_state, request_changes}
 use Rattle.instance_core.specs.Replies.{AnswerValue, answering}
-use Rattle.instance_core.specs.State.{InstanceState, most_blobs}
+use Rattle.instance_core.specs.State.{InstanceState, LimitsValue}
+use Rattle.instance_limits.specs.Shown.{limits_value}
 use Rattle.instance_core.proofs.Carrying.{kept_within, within_still}
 use Rattle.instance_core.proofs.ExecuteLimits.{after_within}
 
@@ -73,46 +74,46 @@ job_waits s d p = record {
 -- ---- limits
 
 -- results that a change leaves are within the limits
-abbrev KeepsFew : ExecuteChange → Type 0
-KeepsFew (Keeps results) = AreResultsWithin results
-KeepsFew (Uses d) = Unit {0}
-KeepsFew (Does operation) = Unit {0}
-KeepsFew (Pushes job) = Unit {0}
+abbrev KeepsFew : LimitsValue → ExecuteChange → Type 0
+KeepsFew limits (Keeps results) = AreResultsWithin limits results
+KeepsFew limits (Uses d) = Unit {0}
+KeepsFew limits (Does operation) = Unit {0}
+KeepsFew limits (Pushes job) = Unit {0}
 
-abbrev AreWithin : ℕ → ExecutionState → Type 0
-AreWithin quota e = AreBlobsWithin most_blobs quota e.visible × AreResultsWithin e.results
+abbrev AreWithin : LimitsValue → ℕ → ExecutionState → Type 0
+AreWithin limits quota e = AreBlobsWithin limits.blobs quota e.visible × AreResultsWithin limits e.results
 
-changes_within : (quota : ℕ) (cs : List ExecuteChange) (e : ExecutionState) → AllByRecursion KeepsFew cs → AreWithin quota e → AreWithin quota (after_changes cs e)
-changes_within quota [] e few w = w
-changes_within quota (Uses d ∷ cs) e few w = changes_within quota cs _ few.1 (used_within most_blobs quota d e.visible w.0, w.1)
-changes_within quota (Keeps results ∷ cs) e few w = changes_within quota cs _ few.1 (w.0, few.0)
-changes_within quota (Does operation ∷ cs) e few w = changes_within quota cs _ few.1 w
-changes_within quota (Pushes job ∷ cs) e few w = changes_within quota cs _ few.1 w
+changes_within : (limits : LimitsValue) (quota : ℕ) (cs : List ExecuteChange) (e : ExecutionState) → AllByRecursion (KeepsFew limits) cs → AreWithin limits quota e → AreWithin limits quota (after_changes cs e)
+changes_within limits quota [] e few w = w
+changes_within limits quota (Uses d ∷ cs) e few w = changes_within limits quota cs _ few.1 (used_within limits.blobs quota d e.visible w.0, w.1)
+changes_within limits quota (Keeps results ∷ cs) e few w = changes_within limits quota cs _ few.1 (w.0, few.0)
+changes_within limits quota (Does operation ∷ cs) e few w = changes_within limits quota cs _ few.1 w
+changes_within limits quota (Pushes job ∷ cs) e few w = changes_within limits quota cs _ few.1 w
 
-uses_few : (ds : List Digest) (cs : List ExecuteChange) → AllByRecursion KeepsFew cs → AllByRecursion KeepsFew (map Uses ds ++ cs)
-uses_few [] cs few = few
-uses_few (d ∷ ds) cs few = (tt, uses_few ds cs few)
+uses_few : (limits : LimitsValue) (ds : List Digest) (cs : List ExecuteChange) → AllByRecursion (KeepsFew limits) cs → AllByRecursion (KeepsFew limits) (map Uses ds ++ cs)
+uses_few limits [] cs few = few
+uses_few limits (d ∷ ds) cs few = (tt, uses_few limits ds cs few)
 
-job_few : (s : ExecutionState) (d : Digest) (p : PreparedValue) → AllByRecursion KeepsFew (by_job s d p).changes
-job_few s d p = go (nat_le MOST_WAITING (length s.jobs.waiting)) where
-  go : (b : Bool) → AllByRecursion KeepsFew (cond b (Executor.refused QueueFull) (job_waits s d p)).changes
+job_few : (limits : LimitsValue) (s : ExecutionState) (d : Digest) (p : PreparedValue) → AllByRecursion (KeepsFew limits) (by_job s d p).changes
+job_few limits s d p = go (nat_le MOST_WAITING (length s.jobs.waiting)) where
+  go : (b : Bool) → AllByRecursion (KeepsFew limits) (cond b (Executor.refused QueueFull) (job_waits s d p)).changes
   go true = tt
-  go false = uses_few (met d p) (Pushes (job_of (look_in s) d p) ∷ []) (tt, tt)
+  go false = uses_few limits (met d p) (Pushes (job_of (look_in s) d p) ∷ []) (tt, tt)
 
-preparing_few : (s : ExecutionState) (d : Digest) (r : Result PreparedValue FaultValue) → AllByRecursion KeepsFew (by_preparing s d r).changes
-preparing_few s d (Err f) = (tt, tt)
-preparing_few s d (Ok p) = job_few s d p
+preparing_few : (limits : LimitsValue) (s : ExecutionState) (d : Digest) (r : Result PreparedValue FaultValue) → AllByRecursion (KeepsFew limits) (by_preparing s d r).changes
+preparing_few limits s d (Err f) = (tt, tt)
+preparing_few limits s d (Ok p) = job_few limits s d p
 
-looking_few : (s : ExecutionState) (d : Digest) (o : Option (List ℕ)) → AreResultsWithin s.results → AllByRecursion KeepsFew (by_looking s d o).changes
-looking_few s d (Some text) w = (after_within (look_in s) d s.results w, uses_few (blobs_used (look_in s) d s.results) (Does (completed_text s.jobs.next d (finds text)) ∷ []) (tt, tt))
-looking_few s d None w = preparing_few s d (prepared (look_in s) d)
+looking_few : (limits : LimitsValue) (s : ExecutionState) (d : Digest) (o : Option (List ℕ)) → AreResultsWithin limits s.results → AllByRecursion (KeepsFew limits) (by_looking s d o).changes
+looking_few limits s d (Some text) w = (after_within limits (look_in s) d s.results w, uses_few limits (blobs_used (look_in s) d s.results) (Does (completed_text s.jobs.next d (finds text)) ∷ []) (tt, tt))
+looking_few limits s d None w = preparing_few limits s d (prepared (look_in s) d)
 
-execute_few : (slots : ℕ) (s : ExecutionState) (skip : Bool) (d : Digest) → AreResultsWithin s.results → AllByRecursion KeepsFew (execute slots s skip d).changes
-execute_few slots s skip d w = off (nat_eq slots 0) (nat_lt LAST_NUMBER s.jobs.next) where
-  off : (a b : Bool) → AllByRecursion KeepsFew (cond a (Executor.refused ExecutionIsOff) (cond b (Executor.refused QueueFull) (found_by s skip d))).changes
+execute_few : (limits : LimitsValue) (slots : ℕ) (s : ExecutionState) (skip : Bool) (d : Digest) → AreResultsWithin limits s.results → AllByRecursion (KeepsFew limits) (execute slots s skip d).changes
+execute_few limits slots s skip d w = off (nat_eq slots 0) (nat_lt LAST_NUMBER s.jobs.next) where
+  off : (a b : Bool) → AllByRecursion (KeepsFew limits) (cond a (Executor.refused ExecutionIsOff) (cond b (Executor.refused QueueFull) (found_by s skip d))).changes
   off true b = tt
   off false true = tt
-  off false false = looking_few s d (looked_up skip (look_in s) d s.results) w
+  off false false = looking_few limits s d (looked_up skip (look_in s) d s.results) w
 
 -- ---- a call that is refused changes nothing
 
@@ -166,7 +167,7 @@ so_holds (Queued number operation) k = refl
 done_same : (settings : Settings) (parent : ViewValue) (p : Slots) (old : Contents) (asked : ExecuteAskedValue) (calls : Calls) → old.executions.slots ≡ settings.slots → done_of p parent old asked ≡ executed (contents_beside settings (visible_in p parent) p old calls) asked
 done_same settings parent p old asked calls slots = ap (λ (n : ℕ). execute n (state_of p parent old) asked.skips_lookup asked.action) slots
 
-limits_of : (settings : Settings) (parent : ViewValue) (p : Slots) (old : Contents) → AreContentsInPool settings p old → AreWithin settings.quota (state_of p parent old)
+limits_of : (settings : Settings) (parent : ViewValue) (p : Slots) (old : Contents) → AreContentsInPool settings p old → AreWithin (limits_value settings.limits) settings.quota (state_of p parent old)
 limits_of settings parent p old kept = (subst (λ (n : ℕ). AreBlobsWithin n settings.quota (visible_in p old.view)) kept.limit kept.kept.within, kept.results)
 
 pub carries_executed : (settings : Settings) (parent : ViewValue) (message : List ℕ) (p q : Slots) (old : Contents) (view : ViewValue) (results : List Blob) (executions : Executions) (asked : ExecuteAskedValue) (a : CodeExecute.ExecuteAnswer)
@@ -177,8 +178,8 @@ pub carries_executed : (settings : Settings) (parent : ViewValue) (message : Lis
     → Carries Execute settings (visible_in p parent) message p old (Ok (executed_so a)) q (record old { view = view; results = results; executions = executions })
 carries_executed settings parent message p q old view results executions asked a kept slots is answered after moved same-slots same limit =
     let x : ExecuteDone = done_of p parent old asked in
-    let left = changes_within settings.quota x.changes (state_of p parent old) (execute_few old.executions.slots (state_of p parent old) asked.skips_lookup asked.action kept.results) (limits_of settings parent p old kept) in
-    let within : AreWithin settings.quota (execution_in q (sight_of view parent) results executions.queue) = subst (AreWithin settings.quota) (sym after) left in
+    let left = changes_within (limits_value settings.limits) settings.quota x.changes (state_of p parent old) (execute_few (limits_value settings.limits) old.executions.slots (state_of p parent old) asked.skips_lookup asked.action kept.results) (limits_of settings parent p old kept) in
+    let within : AreWithin (limits_value settings.limits) settings.quota (execution_in q (sight_of view parent) results executions.queue) = subst (AreWithin (limits_value settings.limits) settings.quota) (sym after) left in
     let new : Contents = record old { view = view; results = results; executions = executions } in
     record {
       answer = λ calls.

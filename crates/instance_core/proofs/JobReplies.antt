@@ -42,7 +42,7 @@ pub execute_items : (s : InstanceState) (request : List ℕ) → IsInstanceWithi
 execute_items s request w = go (execute_asked s.name request) refl where
   go : (r : Result ExecuteAskedValue Refusal) → execute_asked s.name request ≡ r → AreShortItems (r >>= λ asked. answering execute_answered (executed s asked).answer)
   go (Err refusal) is = (tt, tt)
-  go (Ok asked) is = done_items (executed s asked).answer (execute_short s.slots (execution_state s) asked.skips_lookup asked.action w.jobs.few_numbers (asked_form s.name request asked is) w.results)
+  go (Ok asked) is = done_items (executed s asked).answer (execute_short s.limits s.slots (execution_state s) asked.skips_lookup asked.action w.jobs.few_numbers (asked_form s.name request asked is) w.limits w.results)
 
 told_items_short : (r : Result WaitAnswer Refusal) → IfOk r IsShortWaitAnswer → AreShortItems (answering wait_answered r)
 told_items_short (Ok (has_told operation)) short = (tt, (short, (tt, tt)))

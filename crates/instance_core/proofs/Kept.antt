@@ -152,7 +152,7 @@ end_came : (came : CameMessages) (s : InstanceState) (outcome : OutcomeValue) (o
 end_came came s outcome None steps = (tt, tt)
 end_came came s outcome (Some job) steps =
     all_append (KeepsCame came) (ending_changes s outcome (Some job)) (Settles steps ∷ [])
-    (all_append (KeepsCame came) (map Text (admissions (ending_at s outcome job).blobs)) (Keeps (results_with job.action (ending_at s outcome job).stored s.results) ∷ [])
+    (all_append (KeepsCame came) (map Text (admissions (ending_at s outcome job).blobs)) (Keeps (results_with s.limits job.action (ending_at s outcome job).stored s.results) ∷ [])
     (texts_hold s (KeepsCame came) (came_allow came s) (admissions (ending_at s outcome job).blobs) (ending_stores s.quota s.visible job outcome)) (tt, tt))
     (tt, tt)
 

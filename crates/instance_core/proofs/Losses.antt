@@ -40,13 +40,13 @@ use Rattle.bytestream.specs.Writing as Writing
 use Rattle.bytestream.specs.Writing.{OpenWriteValue, PartValue, WrittenValue, WriteState, FirstAsked, first_asked, next_asked, part_outcome, after_last_part, after_end, after_taking}
 use Rattle.instance_core.specs.declared.event.CallId.{CallId}
 use Rattle.instance_core.specs.Calls.{ProgressValue, waits, has, writes, watches, CallValue, CallEventValue, head, message, fault, end, cancel, tick, start_jobs, end_late_jobs, end_job, call_at}
-use Rattle.instance_core.specs.State.{InstanceState, most_blobs, seen}
+use Rattle.instance_core.specs.State.{InstanceState, LimitsValue, seen}
 use Rattle.instance_core.specs.Changes.{InstanceChange, Text, Goes, Ends, Keeps, Does, Pushes, Settles}
 use Rattle.instance_core.specs.Methods.{use_asked, answer_to, request_changes, execution_state, execution_change, execution_changes}
 use Rattle.instance_core.specs.Named.{StoresNamedText}
 use Rattle.instance_core.specs.Writes.{write_state, with_piece, part_changes, first_part_changes, changes_asked, first_changes, next_changes, first_outcome, next_outcome}
 use Rattle.instance_core.specs.Answer.{answer, call_change, ending_at, ending_changes, ending_steps, head_answer, first_write_answer, next_write_answer, first_message_answer, answer_by_progress, message_answer, fault_by_progress, fault_answer, end_answer_by_progress, request_end_answer}
-use Rattle.instance_core.specs.Losses.{BringsPiece, uploads_with, text_with, WritesByRule, NothingWritten, PieceTaken, UploadFinished, UploadMisnamed, UploadTooLong, ResultsByRule, ResultsStay, ResultUsed, ResultStored, IsByRule}
+use Rattle.instance_core.specs.Losses.{BringsPiece, uploads_with, text_with, WritesByRule, NothingWritten, PieceTaken, UploadFinished, UploadMisnamed, UploadTooLong, IsAsked, AsksForResult, Got, Executed, BringsResult, Sent, Ran, ResultsByRule, ResultsStay, ResultUsed, ResultStored, IsByRule}
 use Rattle.instance_core.proofs.ChangesHeld.{call_holds}
 use Rattle.instance_core.proofs.NamedTexts.{all_append, find_named, update_named, batch_named, tree_named, get_named, read_named}
 use Rattle.instance_core.proofs.Outputs.{ending_stores}
@@ -60,16 +60,16 @@ texts_by_rule : (s : InstanceState) (event : CallEventValue) (cs : List Texts.Te
 texts_by_rule s event [] named = tt
 texts_by_rule s event (c ∷ cs) named = (named.0, texts_by_rule s event cs named.1)
 
-got : (s : InstanceState) (asked : Result Digest Refusal) → ResultsByRule s.results (after_asking (seen s) s.results asked)
-got s (Ok action) = go (is_some (blobs_for (texts_seen (seen s)) action s.results)) where
-  go : (b : Bool) → ResultsByRule s.results (cond b (with_match_first (same_digest action) s.results) s.results)
-  go true = ResultUsed action refl
+got : (s : InstanceState) (event : CallEventValue) (request : List ℕ) → IsAsked s event Called.GetActionResult request → (asked : Result Digest Refusal) → action_asked s.name request ≡ asked → ResultsByRule s event (after_asking (seen s) s.results asked)
+got s event request asks (Ok action) is = go (is_some (blobs_for (texts_seen (seen s)) action s.results)) where
+  go : (b : Bool) → ResultsByRule s event (cond b (with_match_first (same_digest action) s.results) s.results)
+  go true = ResultUsed action (Got request asks is) refl
   go false = ResultsStay refl
-got s (Err refusal) = ResultsStay refl
+got s event request asks (Err refusal) is = ResultsStay refl
 
-put : (s : InstanceState) (sent : Result ResultSentValue Refusal) → ResultsByRule s.results (after_sending s.results sent)
-put s (Ok sent) = ResultStored sent.action sent.text refl
-put s (Err refusal) = ResultsStay refl
+put : (s : InstanceState) (event : CallEventValue) (request : List ℕ) → IsAsked s event Called.UpdateActionResult request → (sent : Result ResultSentValue Refusal) → result_sent s.name request ≡ sent → ResultsByRule s event (after_sending s.limits s.results sent)
+put s event request asks (Ok sent) is = ResultStored sent.action sent.text (Sent request sent asks is refl refl) refl
+put s event request asks (Err refusal) is = ResultsStay refl
 
 -- ---- executions
 
@@ -93,10 +93,10 @@ uses_only [] last h = h
 uses_only (d ∷ ds) last h = uses_only ds last h
 
 -- the result that is used is the first change of all
-result_used : (s : InstanceState) (d : Digest) → ResultsByRule s.results (results_after (look_in (execution_state s)) d s.results)
-result_used s d = go (is_some (blobs_for (look_in (execution_state s)) d s.results)) where
-  go : (b : Bool) → ResultsByRule s.results (cond b (with_match_first (same_digest d) s.results) s.results)
-  go true = ResultUsed d refl
+result_used : (s : InstanceState) (event : CallEventValue) (d : Digest) → AsksForResult s event d → ResultsByRule s event (results_after (look_in (execution_state s)) d s.results)
+result_used s event d asks = go (is_some (blobs_for (look_in (execution_state s)) d s.results)) where
+  go : (b : Bool) → ResultsByRule s event (cond b (with_match_first (same_digest d) s.results) s.results)
+  go true = ResultUsed d asks refl
   go false = ResultsStay refl
 
 abbrev DoneByRule : InstanceState → CallEventValue → ExecuteDone → Type 0
@@ -110,58 +110,58 @@ job_by_rule s event d p = go (nat_le MOST_WAITING (length s.jobs.waiting)) where
       execution_by_rule s event (map Executor.Uses (met d p) ++ Executor.Pushes (job_of (look_in (execution_state s)) d p) ∷ [])
       (uses_only (met d p) (Executor.Pushes (job_of (look_in (execution_state s)) d p)) tt)
 
-looking_by_rule : (s : InstanceState) (event : CallEventValue) (d : Digest) (o : Option (List ℕ)) → DoneByRule s event (by_looking (execution_state s) d o)
-looking_by_rule s event d (Some text) =
+looking_by_rule : (s : InstanceState) (event : CallEventValue) (d : Digest) → AsksForResult s event d → (o : Option (List ℕ)) → DoneByRule s event (by_looking (execution_state s) d o)
+looking_by_rule s event d asks (Some text) =
     let used = blobs_used (look_in (execution_state s)) d s.results in
     let last : ExecuteChange = Executor.Does (completed_text s.jobs.next d (finds text)) in
-    (result_used s d, execution_by_rule s event (map Executor.Uses used ++ last ∷ []) (uses_only used last tt))
-looking_by_rule s event d None = go (prepared (look_in (execution_state s)) d) where
+    (result_used s event d asks, execution_by_rule s event (map Executor.Uses used ++ last ∷ []) (uses_only used last tt))
+looking_by_rule s event d asks None = go (prepared (look_in (execution_state s)) d) where
   go : (r : Result PreparedValue FaultValue) → DoneByRule s event (by_preparing (execution_state s) d r)
   go (Ok p) = job_by_rule s event d p
   go (Err f) = execution_by_rule s event (by_fault (execution_state s) d f).changes tt
 
-done_by_rule : (s : InstanceState) (event : CallEventValue) (skip : Bool) (d : Digest) → DoneByRule s event (execute s.slots (execution_state s) skip d)
-done_by_rule s event skip d = off (nat_eq s.slots 0) (nat_lt LAST_NUMBER s.jobs.next) where
+done_by_rule : (s : InstanceState) (event : CallEventValue) (skip : Bool) (d : Digest) → AsksForResult s event d → DoneByRule s event (execute s.slots (execution_state s) skip d)
+done_by_rule s event skip d asks = off (nat_eq s.slots 0) (nat_lt LAST_NUMBER s.jobs.next) where
   off : (a b : Bool) → DoneByRule s event (cond a (refused_with ExecutionIsOff) (cond b (refused_with QueueFull) (by_looking (execution_state s) d (looked_up skip (look_in (execution_state s)) d s.results))))
   off true b = tt
   off false true = tt
-  off false false = looking_by_rule s event d (looked_up skip (look_in (execution_state s)) d s.results)
+  off false false = looking_by_rule s event d asks (looked_up skip (look_in (execution_state s)) d s.results)
 
-executed_by_rule : (s : InstanceState) (event : CallEventValue) (asked : Result ExecuteAskedValue Refusal) → AreByRule s event (execution_changes s asked)
-executed_by_rule s event (Err refusal) = tt
-executed_by_rule s event (Ok asked) = done_by_rule s event asked.skips_lookup asked.action
+executed_by_rule : (s : InstanceState) (event : CallEventValue) (request : List ℕ) → IsAsked s event Called.Execute request → (asked : Result ExecuteAskedValue Refusal) → execute_asked s.name request ≡ asked → AreByRule s event (execution_changes s asked)
+executed_by_rule s event request asks (Err refusal) is = tt
+executed_by_rule s event request asks (Ok asked) is = done_by_rule s event asked.skips_lookup asked.action (Executed request asked asks is refl)
 
 -- ---- requests
 
-changes_by_rule : (s : InstanceState) (event : CallEventValue) (method : Method) (request : List ℕ) → AreByRule s event (request_changes method s request)
-changes_by_rule s event Called.FindMissingBlobs request = texts_by_rule s event (find_missing_changes s.name request) (find_named s request)
-changes_by_rule s event Called.BatchUpdateBlobs request = texts_by_rule s event (batch_update_changes s.name s.quota request) (update_named s request)
-changes_by_rule s event Called.BatchReadBlobs request = texts_by_rule s event (batch_read_changes s.name request) (batch_named s request)
-changes_by_rule s event Called.GetTree request = texts_by_rule s event (get_tree_changes s.name (seen s) request) (tree_named s request)
-changes_by_rule s event Called.GetActionResult request =
-    (got s (action_asked s.name request), texts_by_rule s event (get_action_result_changes s.name (seen s) s.results request) (get_named s request))
-changes_by_rule s event Called.UpdateActionResult request = (put s (result_sent s.name request), tt)
-changes_by_rule s event Called.Read request = texts_by_rule s event (use_asked (read_asked s.name request)) (read_named s request)
-changes_by_rule s event Called.Execute request = executed_by_rule s event (execute_asked s.name request)
-changes_by_rule s event method request = tt
+changes_by_rule : (s : InstanceState) (event : CallEventValue) (method : Method) (request : List ℕ) → IsAsked s event method request → AreByRule s event (request_changes method s request)
+changes_by_rule s event Called.FindMissingBlobs request asks = texts_by_rule s event (find_missing_changes s.name request) (find_named s request)
+changes_by_rule s event Called.BatchUpdateBlobs request asks = texts_by_rule s event (batch_update_changes s.name s.quota request) (update_named s request)
+changes_by_rule s event Called.BatchReadBlobs request asks = texts_by_rule s event (batch_read_changes s.name request) (batch_named s request)
+changes_by_rule s event Called.GetTree request asks = texts_by_rule s event (get_tree_changes s.name (seen s) request) (tree_named s request)
+changes_by_rule s event Called.GetActionResult request asks =
+    (got s event request asks (action_asked s.name request) refl, texts_by_rule s event (get_action_result_changes s.name (seen s) s.results request) (get_named s request))
+changes_by_rule s event Called.UpdateActionResult request asks = (put s event request asks (result_sent s.name request) refl, tt)
+changes_by_rule s event Called.Read request asks = texts_by_rule s event (use_asked (read_asked s.name request)) (read_named s request)
+changes_by_rule s event Called.Execute request asks = executed_by_rule s event request asks (execute_asked s.name request) refl
+changes_by_rule s event method request asks = tt
 
-request_by_rule : (s : InstanceState) (event : CallEventValue) (id : CallId) (method : Method) (request : List ℕ) → AreByRule s event (request_changes method s request ++ call_change id method (answer_to method s request) ∷ [])
-request_by_rule s event id method request =
-    all_append (IsByRule s event) (request_changes method s request) (call_change id method (answer_to method s request) ∷ []) (changes_by_rule s event method request)
+request_by_rule : (s : InstanceState) (event : CallEventValue) (id : CallId) (method : Method) (request : List ℕ) → IsAsked s event method request → AreByRule s event (request_changes method s request ++ call_change id method (answer_to method s request) ∷ [])
+request_by_rule s event id method request asks =
+    all_append (IsByRule s event) (request_changes method s request) (call_change id method (answer_to method s request) ∷ []) (changes_by_rule s event method request asks)
     (call_holds (IsByRule s event) id method (answer_to method s request) (λ n. tt) tt, tt)
 
 -- ---- the end of a job
 
-stores_result : (results : List Blob) (action : Digest) (stored : Option (List ℕ)) → ResultsByRule results (results_with action stored results)
-stores_result results action None = ResultsStay refl
-stores_result results action (Some text) = ResultStored action text refl
+stores_result : (s : InstanceState) (n : ℕ) (outcome : OutcomeValue) (job : JobValue) → running_job n s.jobs ≡ Some job → (stored : Option (List ℕ)) → (ending_at s outcome job).stored ≡ stored → ResultsByRule s (end_job n outcome) (results_with s.limits job.action stored s.results)
+stores_result s n outcome job runs None is = ResultsStay refl
+stores_result s n outcome job runs (Some text) is = ResultStored job.action text (Ran n outcome job refl runs refl is) refl
 
-ending_by_rule : (s : InstanceState) (event : CallEventValue) (outcome : OutcomeValue) (o : Option JobValue) → AreByRule s event (ending_changes s outcome o)
-ending_by_rule s event outcome None = tt
-ending_by_rule s event outcome (Some job) =
+ending_by_rule : (s : InstanceState) (n : ℕ) (outcome : OutcomeValue) (o : Option JobValue) → running_job n s.jobs ≡ o → AreByRule s (end_job n outcome) (ending_changes s outcome o)
+ending_by_rule s n outcome None is = tt
+ending_by_rule s n outcome (Some job) is =
     let end = ending_at s outcome job in
-    all_append (IsByRule s event) (map Text (admissions end.blobs)) (Keeps (results_with job.action end.stored s.results) ∷ [])
-    (texts_by_rule s event (admissions end.blobs) (ending_stores s.quota s.visible job outcome)) (stores_result s.results job.action end.stored, tt)
+    all_append (IsByRule s (end_job n outcome)) (map Text (admissions end.blobs)) (Keeps (results_with s.limits job.action end.stored s.results) ∷ [])
+    (texts_by_rule s (end_job n outcome) (admissions end.blobs) (ending_stores s.quota s.visible job outcome)) (stores_result s n outcome job is end.stored refl, tt)
 
 -- ---- a piece of an upload, and its end
 
@@ -213,15 +213,15 @@ misnamed d bytes is names = let other = names_same d bytes names in absurd (cc)
 abbrev with_taken : PartValue → InstanceState → WriteState
 with_taken part s = record (write_state s) { uploads = uploads_with part s }
 
-last_by_rule : (s : InstanceState) (event : CallEventValue) (part : PartValue) → BringsPiece s event part → part.is_last ≡ true → WritesByRule s event (after_last_part most_blobs s.quota part.key (finish_answer part.key (uploads_with part s)) (with_taken part s))
+last_by_rule : (s : InstanceState) (event : CallEventValue) (part : PartValue) → BringsPiece s event part → part.is_last ≡ true → WritesByRule s event (after_last_part s.limits.blobs s.quota part.key (finish_answer part.key (uploads_with part s)) (with_taken part s))
 last_by_rule s event part brings last = go (is_digest_of part.key.digest (text_with part s)) refl where
-  go : (b : Bool) → is_digest_of part.key.digest (text_with part s) ≡ b → WritesByRule s event (after_last_part most_blobs s.quota part.key (cond b taken (refused Hash)) (with_taken part s))
+  go : (b : Bool) → is_digest_of part.key.digest (text_with part s) ≡ b → WritesByRule s event (after_last_part s.limits.blobs s.quota part.key (cond b taken (refused Hash)) (with_taken part s))
   go true is = UploadFinished part brings last (same_names part.key.digest (text_with part s) is) refl
   go false is = UploadMisnamed part brings last (misnamed part.key.digest (text_with part s) is) refl
 
-end_by_rule : (s : InstanceState) (event : CallEventValue) (part : PartValue) → BringsPiece s event part → WritesByRule s event (after_end most_blobs s.quota part (with_taken part s))
+end_by_rule : (s : InstanceState) (event : CallEventValue) (part : PartValue) → BringsPiece s event part → WritesByRule s event (after_end s.limits.blobs s.quota part (with_taken part s))
 end_by_rule s event part brings = go part.is_last refl where
-  go : (last : Bool) → part.is_last ≡ last → WritesByRule s event (cond last (after_last_part most_blobs s.quota part.key (finish_answer part.key (uploads_with part s)) (with_taken part s)) (with_taken part s))
+  go : (last : Bool) → part.is_last ≡ last → WritesByRule s event (cond last (after_last_part s.limits.blobs s.quota part.key (finish_answer part.key (uploads_with part s)) (with_taken part s)) (with_taken part s))
   go true is = last_by_rule s event part brings is
   go false is = PieceTaken part brings refl
 
@@ -229,7 +229,7 @@ piece_by_rule : (s : InstanceState) (event : CallEventValue) (part : PartValue) 
 piece_by_rule s event part brings (Ok u) = PieceTaken part brings refl
 piece_by_rule s event part brings (Err e) = NothingWritten refl
 
-whole_by_rule : (first : Bool) (s : InstanceState) (event : CallEventValue) (part : PartValue) → BringsPiece s event part → (r : Result Unit UploadError) → part_outcome first s.quota part s.uploads ≡ r → WritesByRule s event (after_taking most_blobs s.quota s.moment part r (write_state s))
+whole_by_rule : (first : Bool) (s : InstanceState) (event : CallEventValue) (part : PartValue) → BringsPiece s event part → (r : Result Unit UploadError) → part_outcome first s.quota part s.uploads ≡ r → WritesByRule s event (after_taking s.limits.blobs s.quota s.moment part r (write_state s))
 whole_by_rule first s event part brings (Ok u) is = end_by_rule s event part brings
 whole_by_rule first s event part brings (Err Size) is = UploadTooLong part brings (long_part first s.quota part s.uploads is) refl
 whole_by_rule first s event part brings (Err Offset) is = NothingWritten refl
@@ -305,27 +305,28 @@ fault_by_rule : (s : InstanceState) (event : CallEventValue) (id : CallId) (refu
 fault_by_rule s event id refusal None = tt
 fault_by_rule s event id refusal (Some call) = fault_by s event id refusal call.progress
 
-ended_by : (s : InstanceState) (event : CallEventValue) (id : CallId) (method : Method) (p : ProgressValue) → AreByRule s event (end_answer_by_progress s id method p).changes
-ended_by s event id method waits = (tt, tt)
-ended_by s event id method (has request) = request_by_rule s event id method request
-ended_by s event id method (writes write) = (tt, tt)
-ended_by s event id method (watches n) = tt
+ended_by : (s : InstanceState) (id : CallId) (call : CallValue) → call_at id s.calls ≡ Some call → (p : ProgressValue) → call.progress ≡ p → AreByRule s (end id) (end_answer_by_progress s id call.method p).changes
+ended_by s id call here waits is = (tt, tt)
+ended_by s id call here (has request) is =
+    request_by_rule s (end id) id call.method request (record { id = id; ends = refl; call = call; in_course = here; of_method = refl; came = is })
+ended_by s id call here (writes write) is = (tt, tt)
+ended_by s id call here (watches n) is = tt
 
-ended_by_rule : (s : InstanceState) (event : CallEventValue) (id : CallId) (o : Option CallValue) → AreByRule s event (request_end_answer s id o).changes
-ended_by_rule s event id None = tt
-ended_by_rule s event id (Some call) = ended_by s event id call.method call.progress
+ended_by_rule : (s : InstanceState) (id : CallId) (o : Option CallValue) → call_at id s.calls ≡ o → AreByRule s (end id) (request_end_answer s id o).changes
+ended_by_rule s id None is = tt
+ended_by_rule s id (Some call) is = ended_by s id call is call.progress refl
 
 pub changes_are_by_rule : (s : InstanceState) (event : CallEventValue) → AllByRecursion (IsByRule s event) (answer s event).changes
 changes_are_by_rule s (head id method) = head_by_rule s id method (call_at id s.calls)
 changes_are_by_rule s (message id bytes) = message_by_rule s id bytes (call_at id s.calls) refl
 changes_are_by_rule s (fault id refusal) = fault_by_rule s (fault id refusal) id refusal (call_at id s.calls)
-changes_are_by_rule s (end id) = ended_by_rule s (end id) id (call_at id s.calls)
+changes_are_by_rule s (end id) = ended_by_rule s id (call_at id s.calls) refl
 changes_are_by_rule s (cancel id) = (tt, tt)
 changes_are_by_rule s tick = (tt, tt)
 changes_are_by_rule s start_jobs = (refl, tt)
 changes_are_by_rule s end_late_jobs = (refl, tt)
 changes_are_by_rule s (end_job n outcome) =
-    then_by_rule s (end_job n outcome) (ending_changes s outcome (running_job n s.jobs)) (Settles (ending_steps s n outcome (running_job n s.jobs))) (ending_by_rule s (end_job n outcome) outcome (running_job n s.jobs)) refl
+    then_by_rule s (end_job n outcome) (ending_changes s outcome (running_job n s.jobs)) (Settles (ending_steps s n outcome (running_job n s.jobs))) (ending_by_rule s n outcome (running_job n s.jobs) refl) refl
 
 front_by : (s : InstanceState) (event : CallEventValue) (made left : List InstanceChange) → AreByRule s event (made ++ left) → AreByRule s event made
 front_by s event [] left rules = tt

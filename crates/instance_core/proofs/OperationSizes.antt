@@ -9,7 +9,7 @@ use Rattle.reapi_messages.proofs.Tools.{bind_ok, ok_is}
 use Rattle.reapi_messages.specs.MessageError.{MessageError}
 use Rattle.reapi_messages.specs.Fields.{value_of_text}
 use Rattle.cas_service.specs.Requests.{message_or_refusal, instance_check, function_asked, digest_or_refusal}
-use Rattle.tree_calls.specs.Complete.{AreResultsWithin}
+use Rattle.tree_calls.specs.Complete.{LimitsValue, IsLimits, AreResultsWithin}
 use Rattle.job_queue.specs.Jobs.{Jobs, running_job}
 use Rattle.job_queue.specs.Order.{AreJobs}
 use Rattle.job_queue.specs.declared.queue.Running.{Running}
@@ -73,8 +73,8 @@ end_short slots moment n e jobs h short = end_told slots moment n e jobs h.order
 pub wait_short : (name : List ℕ) (jobs : Jobs JobValue) → AreTold jobs → IfOk (wait name jobs) IsShortWaitAnswer
 wait_short name jobs h = Waits.wait_short name jobs h.order (told_of jobs h)
 
-pub execute_short : (slots : ℕ) (s : ExecutionState) (skip : Bool) (d : Digest) → s.jobs.next ≤ LAST_NUMBER + 1 → HasForm d → AreResultsWithin s.results → IfOk (execute slots s skip d).answer IsShortExecuteAnswer
-execute_short slots s skip d few form results = Lemmas.execute_short slots s skip d few results form
+pub execute_short : (limits : LimitsValue) (slots : ℕ) (s : ExecutionState) (skip : Bool) (d : Digest) → s.jobs.next ≤ LAST_NUMBER + 1 → HasForm d → IsLimits limits → AreResultsWithin limits s.results → IfOk (execute slots s skip d).answer IsShortExecuteAnswer
+execute_short limits slots s skip d few form good results = Lemmas.execute_short limits slots s skip d few good results form
 
 pub failed_short : (n : ℕ) (d : Digest) (fault : Fault) → n ≤ LAST_NUMBER + 1 → HasForm d → IsShort (completed_text n d (fails fault []))
 failed_short n d fault few form = let short = Texts.failed_short n d fault few form in omega arith

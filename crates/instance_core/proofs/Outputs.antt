@@ -10,7 +10,7 @@ use Rattle.digest.specs.declared.HashFunction.{HashFunction}
 use Rattle.digest.specs.Naming.{Names, function_of, hash_by, same_digest, is_empty_digest}
 use Rattle.digest.proofs.Same.{function_again, same_equal}
 use Rattle.instance_view.specs.Visible.{Blob, visible_text, blobs_length}
-use Rattle.quota_evict.specs.Within.{AreBlobsWithin, most_stored_bytes, most_blobs}
+use Rattle.quota_evict.specs.Within.{AreBlobsWithin, most_stored_bytes}
 use Rattle.quota_evict.proofs.Seen.{seen_named}
 use Rattle.job_queue.proofs.Orders.{all-weaker}
 use Rattle.job_queue.specs.declared.queue.TheConstants.{LAST_NUMBER}
@@ -135,11 +135,11 @@ one_size t d (c ∷ cs) there passes = go (same_digest d c) (t c) refl refl ther
 abbrev keys : List Blob → List Digest
 keys blobs = map (λ (b : Blob). b.0) blobs
 
-key_size : (quota : ℕ) (visible blobs : List Blob) (d : Digest) → AreBlobsWithin most_blobs quota visible → fresh_bytes visible blobs ≤ quota → among d (keys blobs) ≡ true → d.size ≤ quota
-key_size quota visible blobs d within few there = go (visible_text d visible) refl where
+key_size : (limit quota : ℕ) (visible blobs : List Blob) (d : Digest) → AreBlobsWithin limit quota visible → fresh_bytes visible blobs ≤ quota → among d (keys blobs) ≡ true → d.size ≤ quota
+key_size limit quota visible blobs d within few there = go (visible_text d visible) refl where
   go : (o : Option (List ℕ)) → visible_text d visible ≡ o → d.size ≤ quota
   go (Some text) is =
-      let size = (seen_named most_blobs quota visible d text within is).size in
+      let size = (seen_named limit quota visible d text within is).size in
       let short = seen_few d text visible is in
       let bytes = within.bytes in
       omega arith
@@ -154,10 +154,10 @@ sizes_below [] h = tt
 sizes_below (b ∷ bs) h = (h.0, sizes_below bs h.1)
 
 -- blobs for which there is room have sizes that messages can say
-have_sizes : (quota : ℕ) (visible blobs : List Blob) → quota ≤ most_stored_bytes → AreBlobsWithin most_blobs quota visible → nat_lt quota (fresh_bytes visible blobs) ≡ false → AllByRecursion (λ (b : Blob). b.0.size < 2 ^ 63) blobs
-have_sizes quota visible blobs most within room =
+have_sizes : (limit quota : ℕ) (visible blobs : List Blob) → quota ≤ most_stored_bytes → AreBlobsWithin limit quota visible → nat_lt quota (fresh_bytes visible blobs) ≡ false → AllByRecursion (λ (b : Blob). b.0.size < 2 ^ 63) blobs
+have_sizes limit quota visible blobs most within room =
     let few : fresh_bytes visible blobs ≤ quota = not_over quota (fresh_bytes visible blobs) room in
-    sizes_below blobs (all-weaker (λ (d : Digest). among d (keys blobs) ≡ true) (λ (d : Digest). d.size < 2 ^ 63) (λ d there. below quota d.size most (key_size quota visible blobs d within few there)) (keys blobs) (each_among (keys blobs)))
+    sizes_below blobs (all-weaker (λ (d : Digest). among d (keys blobs) ≡ true) (λ (d : Digest). d.size < 2 ^ 63) (λ d there. below quota d.size most (key_size limit quota visible blobs d within few there)) (keys blobs) (each_among (keys blobs)))
   where
     not_over : (a b : ℕ) → nat_lt a b ≡ false → b ≤ a
     not_over a b is = grind (arith, nat_tests, is)
@@ -174,10 +174,10 @@ first false b is = absurd (cc)
 abbrev IsShortEnd : ℕ → JobValue → EndingValue → Type 0
 IsShortEnd n job e = IsShort (completed_text n job.action e.end_is)
 
-pub ending_short : (quota : ℕ) (visible : List Blob) (n : ℕ) (job : JobValue) (outcome : OutcomeValue) → quota ≤ most_stored_bytes → AreBlobsWithin most_blobs quota visible → n ≤ LAST_NUMBER + 1 → HasForm job.action → IsNarrowOutcome outcome
+pub ending_short : (limit quota : ℕ) (visible : List Blob) (n : ℕ) (job : JobValue) (outcome : OutcomeValue) → quota ≤ most_stored_bytes → AreBlobsWithin limit quota visible → n ≤ LAST_NUMBER + 1 → HasForm job.action → IsNarrowOutcome outcome
     → IsShort (completed_text n job.action (ending quota visible job outcome).end_is)
-ending_short quota visible n job failed most within number form narrow = failed_short n job.action RunFailed number form
-ending_short quota visible n job (exited x) most within number form narrow =
+ending_short limit quota visible n job failed most within number form narrow = failed_short n job.action RunFailed number form
+ending_short limit quota visible n job (exited x) most within number form narrow =
     exited_is (IsShortEnd n job) quota visible job (failed_short n job.action RunFailed number form) (failed_short n job.action QuotaExceeded number form) x
     (λ taken room. given_short n job.action (result_text job.action x) number form
-    (result_short job x (first (are_asked (outputs_asked job) x.outputs) (list_all (is_output job.action) x.outputs) taken) narrow (have_sizes quota visible (blobs_given job.action x) most within room)))
+    (result_short job x (first (are_asked (outputs_asked job) x.outputs) (list_all (is_output job.action) x.outputs) taken) narrow (have_sizes limit quota visible (blobs_given job.action x) most within room)))

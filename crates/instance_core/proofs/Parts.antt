@@ -20,9 +20,9 @@ use Rattle.cas_service.specs.Changes as Texts
 use Rattle.instance_core.specs.declared.event.CallId.{CallId}
 use Rattle.instance_core.specs.declared.event.Reply.{Reply}
 use Rattle.uploads.specs.Uploads.{UploadList}
-use Rattle.tree_calls.specs.Complete.{AreResultsWithin}
+use Rattle.tree_calls.specs.Complete.{LimitsValue, AreResultsWithin}
 use Rattle.instance_core.specs.Calls.{CallValue, ProgressValue, has, Calls, IsProgressOf}
-use Rattle.instance_core.specs.State.{InstanceState, most_blobs}
+use Rattle.instance_core.specs.State.{InstanceState}
 use Rattle.instance_core.specs.Methods.{answer_to, request_changes}
 use Rattle.instance_core.specs.Changes.{InstanceChange, Text, Keeps, state_after_change, state_after_changes, MadeInPart}
 use Rattle.instance_core.specs.Answer.{call_change, request_end_answer}
@@ -56,12 +56,12 @@ stores_answered (Err NoMemory) sent reply limit most quota p q old new same is s
 abbrev pub with_texts : List Blob → InstanceState → InstanceState
 with_texts visible s = record s { visible = visible }
 
-pub made_texts : (cs : List Texts.TextChange) (s : InstanceState) → state_after_changes (map Text cs) s ≡ with_texts (Texts.visible_after_changes most_blobs s.quota cs s.visible) s
+pub made_texts : (cs : List Texts.TextChange) (s : InstanceState) → state_after_changes (map Text cs) s ≡ with_texts (Texts.visible_after_changes s.limits.blobs s.quota cs s.visible) s
 made_texts [] s = refl
-made_texts (c ∷ cs) s = made_texts cs (with_texts (Texts.visible_after_change most_blobs s.quota c s.visible) s)
+made_texts (c ∷ cs) s = made_texts cs (with_texts (Texts.visible_after_change s.limits.blobs s.quota c s.visible) s)
 
 -- a front of the changes of the texts
-pub texts_in_part : (cs : List Texts.TextChange) (s : InstanceState) (new : List Blob) → Texts.MadeInPart most_blobs s.quota cs s.visible new → MadeInPart (map Text cs) s (with_texts new s)
+pub texts_in_part : (cs : List Texts.TextChange) (s : InstanceState) (new : List Blob) → Texts.MadeInPart s.limits.blobs s.quota cs s.visible new → MadeInPart (map Text cs) s (with_texts new s)
 texts_in_part cs s new part = record {
   made = map Text part.made;
   left = map Text part.left;
@@ -154,7 +154,7 @@ append_nil (c ∷ cs) = ap (λ (xs : List InstanceChange). c ∷ xs) (append_nil
 
 -- texts alone
 pub leaves_texts : {X : Type 0} (r : Result X CallError) (shape : X → Answer) (cs : List Texts.TextChange) (s : InstanceState) (new : List Blob)
-    → IfAnswered r (new ≡ Texts.visible_after_changes most_blobs s.quota cs s.visible) → IfNoMemory r (Texts.MadeInPart most_blobs s.quota cs s.visible new) → Leaves (shaped shape r) (map Text cs) s (with_texts new s)
+    → IfAnswered r (new ≡ Texts.visible_after_changes s.limits.blobs s.quota cs s.visible) → IfNoMemory r (Texts.MadeInPart s.limits.blobs s.quota cs s.visible new) → Leaves (shaped shape r) (map Text cs) s (with_texts new s)
 leaves_texts (Ok x) shape cs s new whole part = record { whole = ap (λ (bs : List Blob). with_texts bs s) whole ∙ sym (made_texts cs s); memory = tt }
 leaves_texts (Err (Refused refusal)) shape cs s new whole part = record { whole = ap (λ (bs : List Blob). with_texts bs s) whole ∙ sym (made_texts cs s); memory = tt }
 leaves_texts (Err NoMemory) shape cs s new whole part = record { whole = tt; memory = texts_in_part cs s new part }
@@ -165,13 +165,13 @@ with_results results s = record s { results = results }
 both_set : (s : InstanceState) (new visible results rs : List Blob) → new ≡ visible → results ≡ rs → with_texts new (with_results results s) ≡ with_texts visible (with_results rs s)
 both_set s new visible results rs p q = rw (p, q) refl
 
-all_set : (s : InstanceState) (kept : List Blob) (cs : List Texts.TextChange) (new results : List Blob) → new ≡ Texts.visible_after_changes most_blobs s.quota cs s.visible → results ≡ kept
+all_set : (s : InstanceState) (kept : List Blob) (cs : List Texts.TextChange) (new results : List Blob) → new ≡ Texts.visible_after_changes s.limits.blobs s.quota cs s.visible → results ≡ kept
     → with_texts new (with_results results s) ≡ state_after_changes (Keeps kept ∷ map Text cs) s
-all_set s kept cs new results p q = both_set s new (Texts.visible_after_changes most_blobs s.quota cs s.visible) results kept p q ∙ sym (made_texts cs (with_results kept s))
+all_set s kept cs new results p q = both_set s new (Texts.visible_after_changes s.limits.blobs s.quota cs s.visible) results kept p q ∙ sym (made_texts cs (with_results kept s))
 
 -- results, and then texts
 pub leaves_results : {X : Type 0} (r : Result X CallError) (shape : X → Answer) (kept : List Blob) (cs : List Texts.TextChange) (s : InstanceState) (new results : List Blob)
-    → IfAnswered r (new ≡ Texts.visible_after_changes most_blobs s.quota cs s.visible) → IfAnswered r (results ≡ kept) → OnErr r ((results ≡ s.results) × (new ≡ s.visible))
+    → IfAnswered r (new ≡ Texts.visible_after_changes s.limits.blobs s.quota cs s.visible) → IfAnswered r (results ≡ kept) → OnErr r ((results ≡ s.results) × (new ≡ s.visible))
     → Leaves (shaped shape r) (Keeps kept ∷ map Text cs) s (with_texts new (with_results results s))
 leaves_results (Ok x) shape kept cs s new results whole left err = record { whole = all_set s kept cs new results whole left; memory = tt }
 leaves_results (Err (Refused refusal)) shape kept cs s new results whole left err = record { whole = all_set s kept cs new results whole left; memory = tt }
@@ -224,9 +224,9 @@ if_no_memory (Err (Refused refusal)) P Q f p = tt
 if_no_memory (Err NoMemory) P Q f p = f p
 
 -- results of an answer, and without one
-pub settled_results : {A : Type 0} (outcome : Result A CallError) (old kept new : List Blob) → IfAnswered outcome (new ≡ kept) → OnErr outcome (new ≡ old) → AreResultsWithin old → AreResultsWithin kept → AreResultsWithin new
-settled_results (Ok x) old kept new h same few few' = subst AreResultsWithin (sym h) few'
-settled_results (Err e) old kept new h same few few' = subst AreResultsWithin (sym same) few
+pub settled_results : {A : Type 0} (limits : LimitsValue) (outcome : Result A CallError) (old kept new : List Blob) → IfAnswered outcome (new ≡ kept) → OnErr outcome (new ≡ old) → AreResultsWithin limits old → AreResultsWithin limits kept → AreResultsWithin limits new
+settled_results limits (Ok x) old kept new h same few few' = subst (AreResultsWithin limits) (sym h) few'
+settled_results limits (Err e) old kept new h same few few' = subst (AreResultsWithin limits) (sym same) few
 
 pub both_same : {A : Type 0} (outcome : Result A CallError) (P Q : Type 0) → OnErr outcome (P × Q) → OnErr outcome P
 both_same (Ok x) P Q h = tt

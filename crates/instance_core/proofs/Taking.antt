@@ -33,7 +33,8 @@ use Rattle.instance_core.specs.Contents.{AreContentsInPool}
 use Rattle.instance_core.specs.Jobs.{IsWholeJob}
 use Rattle.instance_core.specs.Shown.{slots_of, ongoing_in, contents_state}
 use Rattle.instance_core.specs.Slots.{InstanceSlots, state_in, holders_of_instance, IsInstanceInPool}
-use Rattle.instance_core.specs.State.{InstanceState, IsInstanceWithin, most_blobs}
+use Rattle.instance_core.specs.State.{InstanceState, IsInstanceWithin}
+use Rattle.instance_limits.specs.Shown.{limits_value}
 use Rattle.instance_core.proofs.JobLimits.{all_without}
 use Rattle.instance_core.proofs.EventLimits.{ending_after_keeps, ending_front_keeps}
 
@@ -58,6 +59,7 @@ jobs_become p q i queue calls now jobs held moves is same =
 forgotten_within : (n : ℕ) (s : InstanceState) → IsInstanceWithin s → IsInstanceWithin (with_jobs (jobs_without n s.jobs) s.calls s)
 forgotten_within n s w = record {
   quota = w.quota;
+  limits = w.limits;
   texts = w.texts;
   uploads = w.uploads;
   results = w.results;
@@ -132,7 +134,7 @@ view_counted view jobs here h = omega arith
 view_others : (view jobs here : ℕ) → here < view + jobs + 2 ^ 125 + 2 ^ 124 → jobs ≤ 1064 * 2 ^ 63 → here < view + 2 ^ 126
 view_others view jobs here h few = omega (arith, h, few)
 
-pub contents_in_pool : (p : Slots) (settings : Settings) (contents : Contents) (calls : Calls) → contents.view.limit ≡ most_blobs → AreJobs contents.executions.queue
+pub contents_in_pool : (p : Slots) (settings : Settings) (contents : Contents) (calls : Calls) → contents.view.limit ≡ (limits_value settings.limits).blobs → AreJobs contents.executions.queue
     → IsInstanceInPool p (slots_of settings contents calls) → AreContentsInPool settings p contents
 contents_in_pool p settings contents calls limit order kept = record {
   quota = kept.within.quota;
@@ -152,11 +154,11 @@ enough : (count view jobs entries limit : ℕ) → count < view + jobs + 2 ^ 125
 enough count view jobs entries limit others few a b c = omega (arith, others, few, a, b, c)
 
 -- there is room for as many holders more as a job can keep texts
-pub room_left : (p : Slots) (settings : Settings) (contents : Contents) (calls : Calls) → contents.view.limit ≡ most_blobs → AreJobs contents.executions.queue
+pub room_left : (p : Slots) (settings : Settings) (contents : Contents) (calls : Calls) → contents.view.limit ≡ (limits_value settings.limits).blobs → AreJobs contents.executions.queue
     → IsInstanceInPool p (slots_of settings contents calls) → (k : ℕ) → count_at p k + 2 ^ 64 < 2 ^ 127
 room_left p settings contents calls limit order kept k =
     enough (count_at p k) (holders contents.view k) (jobs_holders contents.executions.queue k) (length contents.view.entries) contents.view.limit (kept.others k) (jobs_few contents.executions.queue order k)
-    (holders-few contents.view.entries k) (entries_fit settings.quota p contents.view (contents_in_pool p settings contents calls limit order kept).kept) (omega (arith, limit))
+    (holders-few contents.view.entries k) (entries_fit settings.quota p contents.view (contents_in_pool p settings contents calls limit order kept).kept) (omega (arith, limit, kept.within.limits.few_blobs))
 
 -- .. behind the outcome of a run its jobs are those that they were
 pub ended_state : (p q : Slots) (settings : Settings) (old new : Contents) (calls : Calls) → ((k : ℕ) → holders old.view k + jobs_holders old.executions.queue k ≤ count_at p k)

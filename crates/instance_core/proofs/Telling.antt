@@ -19,7 +19,7 @@ use Rattle.instance_core.specs.ReplyHolders.{items_holders, replies_holders}
 use Rattle.instance_core.specs.Apart.{hears, replies_to}
 use Rattle.instance_core.specs.Calls.{Calls, CallValue}
 use Rattle.instance_core.specs.Replies.{ReplyValue}
-use Rattle.instance_core.specs.Watching.{is_watcher, is_watching, watchers, told_reply, replies_told, replies_to_watchers}
+use Rattle.instance_core.specs.Watching.{is_watcher, is_watching, watchers, told_reply, replies_told, replies_to_watchers, watched_by, watched_numbers}
 
 -- ---- a list from a place on
 
@@ -39,7 +39,7 @@ none_left xs i none = go (nat_le (length xs) i) refl where
   go true past = drop_all xs i (grind (arith, nat_tests, past))
   go false within = absurd (let inside : i < length xs = grind (arith, nat_tests, within) in some_at xs i inside none)
 
-next_at : {X : Type 0} (xs : List X) (i : ℕ) (x : X) → Some x ≡ slice_get xs i → drop i xs ≡ x ∷ drop (i + 1) xs
+pub next_at : {X : Type 0} (xs : List X) (i : ℕ) (x : X) → Some x ≡ slice_get xs i → drop i xs ≡ x ∷ drop (i + 1) xs
 next_at {X} xs i x is =
     let first : get_or xs i x ≡ x = get_or_from_slice_get xs i x x (sym is) in
     let after : suc i ≡ i + 1 = omega arith in
@@ -131,3 +131,33 @@ order_added s order old new is pushed =
 pub pushed_holds : (old : List Reply) (r : Reply) (k : ℕ) → items_holders r.items.items k ≡ 0 → replies_holders (old ++ r ∷ []) k ≡ replies_holders old k
 pushed_holds [] r k none = omega (arith, none)
 pushed_holds (o ∷ old) r k none = let later = pushed_holds old r k none in omega (arith, later)
+
+-- ---- which jobs are watched
+
+abbrev watched_by_call : CallId × CallValue → Option ℕ
+watched_by_call c = watched_by c.1.progress
+
+-- the call at a place, and then those behind it
+pub watched_next : (calls : Calls) (place : ℕ) (c : CallId × CallValue) (old new all : List ℕ) → Some c ≡ slice_get calls place → new ≡ old ++ watched_numbers (c ∷ []) → old ++ watched_numbers (drop place calls) ≡ all → new ++ watched_numbers (drop (place + 1) calls) ≡ all
+watched_next calls place c old new all is pushed h =
+    let later : Calls = drop (place + 1) calls in
+    let split : watched_numbers (drop place calls) ≡ watched_numbers (c ∷ []) ++ watched_numbers later =
+    ap watched_numbers (next_at calls place c is) ∙ filter_map-append watched_by_call (c ∷ []) later in
+    ap (λ (ns : List ℕ). ns ++ watched_numbers later) pushed
+    ∙ append_assoc old (watched_numbers (c ∷ [])) (watched_numbers later)
+    ∙ ap (λ (ns : List ℕ). old ++ ns) (sym split) ∙ h
+
+pub watched_one : (id : CallId) (call : CallValue) (number : ℕ) (old new : List ℕ) → Some number ≡ watched_by call.progress → new ≡ old ++ number ∷ [] → new ≡ old ++ watched_numbers ((id, call) ∷ [])
+watched_one id call number old new is pushed =
+    let one : watched_numbers ((id, call) ∷ []) ≡ number ∷ [] = rw (← is) refl in
+    pushed ∙ ap (λ (ns : List ℕ). old ++ ns) (sym one)
+
+pub watched_none : (id : CallId) (call : CallValue) (old : List ℕ) → None ≡ watched_by call.progress → old ≡ old ++ watched_numbers ((id, call) ∷ [])
+watched_none id call old is =
+    let none : watched_numbers ((id, call) ∷ []) ≡ [] = rw (← is) refl in
+    sym (append-nil old) ∙ ap (λ (ns : List ℕ). old ++ ns) (sym none)
+
+pub watched_all : (calls : Calls) (place : ℕ) (old all : List ℕ) → None ≡ slice_get calls place → old ++ watched_numbers (drop place calls) ≡ all → old ≡ all
+watched_all calls place old all none h =
+    let past : watched_numbers (drop place calls) ≡ [] = ap watched_numbers (none_left calls place none) in
+    sym (append-nil old) ∙ ap (λ (ns : List ℕ). old ++ ns) (sym past) ∙ h

@@ -90,7 +90,7 @@ ended_with : (s : InstanceState) (n : ℕ) (outcome : OutcomeValue) (o : Option 
 ended_with s n outcome None h = record { given = h.given; busy = h.busy }
 ended_with s n outcome (Some job) h =
     let end = ending_at s outcome job in
-    admitted_rest (admissions end.blobs) (results_with job.action end.stored s.results) (ending_steps s n outcome (Some job)) s (turn_rests (ending_of n end.end_is (running_job n s.jobs)) s h.given)
+    admitted_rest (admissions end.blobs) (results_with s.limits job.action end.stored s.results) (ending_steps s n outcome (Some job)) s (turn_rests (ending_of n end.end_is (running_job n s.jobs)) s h.given)
 
 pub ended_rest : (s : InstanceState) (n : ℕ) (outcome : OutcomeValue) → WatchAtRest s → WatchAtRest (state_after s (end_job n outcome))
 ended_rest s n outcome h = ended_with s n outcome (running_job n s.jobs) h

@@ -14,7 +14,7 @@ use Rattle.uploads.specs.declared.error.UploadError.{UploadError}
 use Rattle.uploads.specs.Uploads.{KeyValue, text_so_far}
 use Rattle.uploads.specs.Writing.{finish_answer, after_piece}
 use Rattle.bytestream.specs.Writing.{PartValue, WriteState, part_outcome, after_last_part, after_end, after_taking, after_part}
-use Rattle.instance_core.specs.State.{InstanceState, most_blobs}
+use Rattle.instance_core.specs.State.{InstanceState}
 use Rattle.instance_core.specs.Writes.{write_state, with_piece, with_part}
 use Rattle.instance_core.specs.Named.{IsOldOrNamed}
 use Rattle.instance_core.proofs.WriteLimits.{finish_names}
@@ -82,8 +82,8 @@ part_all P limit quota moment part w (Err e) named h = h
 old_ones : (bs : List Blob) → AllByRecursion (IsOldOrNamed bs) bs
 old_ones bs = recursion_from_All (IsOldOrNamed bs) bs (λ k d within. inl (All-contains_itself bs k d within))
 
-pub whole_adds : (first : Bool) (s : InstanceState) (part : PartValue) → AllByRecursion (IsOldOrNamed s.visible) (after_part first most_blobs s.quota s.moment part (write_state s)).visible
-whole_adds first s part = part_all (IsOldOrNamed s.visible) most_blobs s.quota s.moment part (write_state s) (part_outcome first s.quota part s.uploads) (λ b named. inr named) (old_ones s.visible)
+pub whole_adds : (first : Bool) (s : InstanceState) (part : PartValue) → AllByRecursion (IsOldOrNamed s.visible) (after_part first s.limits.blobs s.quota s.moment part (write_state s)).visible
+whole_adds first s part = part_all (IsOldOrNamed s.visible) s.limits.blobs s.quota s.moment part (write_state s) (part_outcome first s.quota part s.uploads) (λ b named. inr named) (old_ones s.visible)
 
 -- a piece changes no text
 pub piece_adds : (first : Bool) (s : InstanceState) (part : PartValue) → AllByRecursion (IsOldOrNamed s.visible) (with_part first s part).visible

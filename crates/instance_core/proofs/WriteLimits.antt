@@ -1,5 +1,5 @@
 -- What a message of a Write leaves keeps the limits of an instance.
-use Rattle.std.proofs.Common.{◌≡◌, ◌<◌, ◌^◌, ℕ, Bool, true, false, cond, List, Result, Ok, Err, refl, subst, arith}
+use Rattle.std.proofs.Common.{◌≡◌, ◌<◌, ◌^◌, ℕ, Bool, true, false, cond, List, Result, Ok, Err, refl, subst}
 use Rattle.std.specs.Prelude.{is_some}
 use Rattle.reapi_messages.specs.Results.{◌>>=◌}
 use Rattle.reapi_messages.specs.Fields.{value_of_text}
@@ -23,12 +23,12 @@ use Rattle.bytestream.specs.Querying.{key_of_name}
 use Rattle.bytestream.specs.Writing as Writing
 use Rattle.bytestream.specs.Writing.{OpenWriteValue, PartValue, WriteState, FirstAsked, first_asked, part_outcome, part_answer, after_last_part, after_end, after_taking, after_part, reply_first, first_part_answer}
 use Rattle.instance_core.proofs.StatedSizes.{name_below}
-use Rattle.instance_core.specs.State.{InstanceState, most_blobs}
+use Rattle.instance_core.specs.State.{InstanceState}
 use Rattle.instance_core.specs.Writes.{write_state, with_piece, with_part, first_outcome}
 
 -- texts and uploads within their limits
-pub record IsWithin (quota : ℕ) (w : WriteState) : Type 0 where
-  pub texts : AreBlobsWithin most_blobs quota w.visible
+pub record IsWithin (limit quota : ℕ) (w : WriteState) : Type 0 where
+  pub texts : AreBlobsWithin limit quota w.visible
   pub uploads : AreUploadsWithin quota w.uploads
 
 -- ---- a piece
@@ -53,34 +53,34 @@ finish_names key us u is = go (is_digest_of key.digest (text_so_far key us)) ref
   go true test is = same_names key.digest (text_so_far key us) test
   go false test is = cc
 
-finished_within : (quota : ℕ) (key : KeyValue) (w : WriteState) (r : Result Unit UploadError) → r ≡ finish_answer key w.uploads → IsWithin quota w → IsWithin quota (after_last_part most_blobs quota key r w)
-finished_within quota key w (Ok u) is h = record {
-  texts = admitted_within most_blobs quota key.digest (text_so_far key w.uploads) w.visible (omega arith) (finish_names key w.uploads u is) h.texts;
+finished_within : (limit quota : ℕ) (key : KeyValue) (w : WriteState) (r : Result Unit UploadError) → 0 < limit → r ≡ finish_answer key w.uploads → IsWithin limit quota w → IsWithin limit quota (after_last_part limit quota key r w)
+finished_within limit quota key w (Ok u) some is h = record {
+  texts = admitted_within limit quota key.digest (text_so_far key w.uploads) w.visible some (finish_names key w.uploads u is) h.texts;
   uploads = within_without quota key w.uploads h.uploads;
 }
-finished_within quota key w (Err e) is h = record { texts = h.texts; uploads = within_without quota key w.uploads h.uploads }
+finished_within limit quota key w (Err e) some is h = record { texts = h.texts; uploads = within_without quota key w.uploads h.uploads }
 
-end_within : (quota : ℕ) (part : PartValue) (w : WriteState) → IsWithin quota w → IsWithin quota (after_end most_blobs quota part w)
-end_within quota part w h = go part.is_last where
-  go : (last : Bool) → IsWithin quota (cond last (after_last_part most_blobs quota part.key (finish_answer part.key w.uploads) w) w)
-  go true = finished_within quota part.key w (finish_answer part.key w.uploads) refl h
+end_within : (limit quota : ℕ) (part : PartValue) (w : WriteState) → 0 < limit → IsWithin limit quota w → IsWithin limit quota (after_end limit quota part w)
+end_within limit quota part w some h = go part.is_last where
+  go : (last : Bool) → IsWithin limit quota (cond last (after_last_part limit quota part.key (finish_answer part.key w.uploads) w) w)
+  go true = finished_within limit quota part.key w (finish_answer part.key w.uploads) some refl h
   go false = h
 
-part_within : (first : Bool) (quota moment : ℕ) (part : PartValue) (w : WriteState) (r : Result Unit UploadError) → r ≡ part_outcome first quota part w.uploads → IsWithin quota w → IsWithin quota (after_taking most_blobs quota moment part r w)
-part_within first quota moment part w (Ok u) is h =
+part_within : (first : Bool) (limit quota moment : ℕ) (part : PartValue) (w : WriteState) (r : Result Unit UploadError) → 0 < limit → r ≡ part_outcome first quota part w.uploads → IsWithin limit quota w → IsWithin limit quota (after_taking limit quota moment part r w)
+part_within first limit quota moment part w (Ok u) some is h =
     let taken : WriteState = record w { uploads = after_piece moment part.key part.piece (Ok u) w.uploads } in
-    end_within quota part taken (record { texts = h.texts; uploads = taken_within first quota moment part w.uploads (Ok u) is h.uploads })
-part_within first quota moment part w (Err e) is h = record { texts = h.texts; uploads = taken_within first quota moment part w.uploads (Err e) is h.uploads }
+    end_within limit quota part taken some (record { texts = h.texts; uploads = taken_within first quota moment part w.uploads (Ok u) is h.uploads })
+part_within first limit quota moment part w (Err e) some is h = record { texts = h.texts; uploads = taken_within first quota moment part w.uploads (Err e) is h.uploads }
 
 -- ---- a part of a message
 
-pub whole_within : (first : Bool) (s : InstanceState) (part : PartValue) → IsWithin s.quota (write_state s) → IsWithin s.quota (after_part first most_blobs s.quota s.moment part (write_state s))
-whole_within first s part h = part_within first s.quota s.moment part (write_state s) (part_outcome first s.quota part s.uploads) refl h
+pub whole_within : (first : Bool) (s : InstanceState) (part : PartValue) → 0 < s.limits.blobs → IsWithin s.limits.blobs s.quota (write_state s) → IsWithin s.limits.blobs s.quota (after_part first s.limits.blobs s.quota s.moment part (write_state s))
+whole_within first s part some h = part_within first s.limits.blobs s.quota s.moment part (write_state s) (part_outcome first s.quota part s.uploads) some refl h
 
 -- a piece that was taken, before its upload ends
-pub piece_within : (first : Bool) (s : InstanceState) (part : PartValue) → IsWithin s.quota (write_state s) → IsWithin s.quota (with_part first s part)
+pub piece_within : (first : Bool) (s : InstanceState) (part : PartValue) → IsWithin s.limits.blobs s.quota (write_state s) → IsWithin s.limits.blobs s.quota (with_part first s part)
 piece_within first s part h = go (part_outcome first s.quota part s.uploads) refl where
-  go : (r : Result Unit UploadError) → r ≡ part_outcome first s.quota part s.uploads → IsWithin s.quota (with_piece s.moment part r (write_state s))
+  go : (r : Result Unit UploadError) → r ≡ part_outcome first s.quota part s.uploads → IsWithin s.limits.blobs s.quota (with_piece s.moment part r (write_state s))
   go (Ok u) is = record { texts = h.texts; uploads = taken_within first s.quota s.moment part s.uploads (Ok u) is h.uploads }
   go (Err e) is = h
 

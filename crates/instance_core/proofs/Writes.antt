@@ -21,7 +21,7 @@ use Rattle.bytestream.specs.Writing.{OpenWriteValue, PartValue, WrittenValue, Fi
 use Rattle.instance_core.specs.declared.event.CallId.{CallId}
 use Rattle.instance_core.specs.declared.event.Reply.{Reply}
 use Rattle.instance_core.specs.Calls.{Calls}
-use Rattle.instance_core.specs.State.{InstanceState, most_blobs}
+use Rattle.instance_core.specs.State.{InstanceState}
 use Rattle.instance_core.specs.Changes.{InstanceChange, Text, Wrote, state_after_changes, MadeInPart}
 use Rattle.instance_core.specs.Writes.{write_state, with_part, part_changes, first_part_changes, changes_asked, first_changes, next_changes, first_outcome, next_outcome}
 use Rattle.instance_core.specs.Answer.{first_write_answer, next_write_answer, first_message_answer}
@@ -73,20 +73,20 @@ next_replies id changes (Err refusal) = refl
 abbrev leaving : WriteState → InstanceState → InstanceState
 leaving w s = becomes w.visible w.uploads s.calls s
 
-first_whole : (s : InstanceState) (message : List ℕ) → leaving (after_first s.name most_blobs s.quota s.moment message (write_state s)) s ≡ state_after_changes (first_changes s message) s
+first_whole : (s : InstanceState) (message : List ℕ) → leaving (after_first s.name s.limits.blobs s.quota s.moment message (write_state s)) s ≡ state_after_changes (first_changes s message) s
 first_whole s message = go (first_asked s.name message) where
-  seen_or_not : (asked : FirstAsked) (b : Bool) → leaving (cond b (record (write_state s) { visible = visible_after_use asked.part.key.digest s.visible }) (after_part true most_blobs s.quota s.moment asked.part (write_state s))) s
+  seen_or_not : (asked : FirstAsked) (b : Bool) → leaving (cond b (record (write_state s) { visible = visible_after_use asked.part.key.digest s.visible }) (after_part true s.limits.blobs s.quota s.moment asked.part (write_state s))) s
       ≡ state_after_changes (cond b (Text (Use asked.part.key.digest) ∷ []) (part_changes true s asked.part)) s
   seen_or_not asked true = refl
   seen_or_not asked false = refl
 
-  go : (r : Result FirstAsked Refusal) → leaving (after_first_asked most_blobs s.quota s.moment r (write_state s)) s ≡ state_after_changes (changes_asked (first_part_changes s) r) s
+  go : (r : Result FirstAsked Refusal) → leaving (after_first_asked s.limits.blobs s.quota s.moment r (write_state s)) s ≡ state_after_changes (changes_asked (first_part_changes s) r) s
   go (Ok asked) = seen_or_not asked (is_some (visible_text asked.part.key.digest s.visible))
   go (Err refusal) = refl
 
-next_whole : (s : InstanceState) (write : OpenWriteValue) (message : List ℕ) → leaving (after_next write most_blobs s.quota s.moment message (write_state s)) s ≡ state_after_changes (next_changes s write message) s
+next_whole : (s : InstanceState) (write : OpenWriteValue) (message : List ℕ) → leaving (after_next write s.limits.blobs s.quota s.moment message (write_state s)) s ≡ state_after_changes (next_changes s write message) s
 next_whole s write message = go (next_asked write message) where
-  go : (r : Result PartValue Refusal) → leaving (after_next_asked most_blobs s.quota s.moment r (write_state s)) s ≡ state_after_changes (changes_asked (part_changes false s) r) s
+  go : (r : Result PartValue Refusal) → leaving (after_next_asked s.limits.blobs s.quota s.moment r (write_state s)) s ≡ state_after_changes (changes_asked (part_changes false s) r) s
   go (Ok part) = refl
   go (Err refusal) = refl
 
@@ -103,7 +103,7 @@ taken_in_part : (first : Bool) (s : InstanceState) (part : PartValue) (rest : Li
 taken_in_part first s part rest uploads (inl same) = same_in_part s (part_changes first s part ++ rest) uploads same
 taken_in_part first s part rest uploads (inr taken) = record {
   made = Wrote (with_part first s part) ∷ [];
-  left = Wrote (after_part first most_blobs s.quota s.moment part (write_state s)) ∷ rest;
+  left = Wrote (after_part first s.limits.blobs s.quota s.moment part (write_state s)) ∷ rest;
   front = refl;
   so_far = rw taken.0 (ap (λ (u : UploadList). becomes s.visible u s.calls s) taken.1);
 }
@@ -166,7 +166,7 @@ shown_part (Err NoMemory) p q v w s changes uploads P is f h =
     subst (λ (bs : List Blob). MadeInPart changes s (becomes bs uploads s.calls s)) same (f h.2)
 
 pub first_done : (o : Result Written CallError) (r : Result (Vec Reply Global) AllocError) (p q : Slots) (v w : ViewValue) (s : InstanceState) (id : CallId) (message : List ℕ) (limit : ℕ) (uploads : UploadList) (calls : Calls)
-    → limit ≡ most_blobs → s.visible ≡ visible_in p v
+    → limit ≡ s.limits.blobs → s.visible ≡ visible_in p v
     → IfAnswered o (visible_in q w ≡ (after_first s.name limit s.quota s.moment message (write_state s)).visible)
     → IfAnswered o (uploads ≡ (after_first s.name limit s.quota s.moment message (write_state s)).uploads)
     → IfNoMemory o ((w ≡ v) × (q ≡ p) × IsFirstOldOrTaken s.quota s.moment (first_asked s.name message) (write_state s) uploads) → IfNoMemory o (OnOk r ⊥)
@@ -178,13 +178,13 @@ first_done o r p q v w s id message limit uploads calls most is texts ups part n
     let P = IsFirstOldOrTaken s.quota s.moment (first_asked s.name message) (write_state s) uploads in
     let here = shown_part o p q v w s (changes ++ tail) uploads P is (first_in_part s message tail uploads) part in
     rw (first_split id Write changes (first_outcome s message))
-    (written o r s changes tail (after_first s.name most_blobs s.quota s.moment message (write_state s)) (visible_in q w) uploads calls (first_whole s message)
+    (written o r s changes tail (after_first s.name s.limits.blobs s.quota s.moment message (write_state s)) (visible_in q w) uploads calls (first_whole s message)
     (subst (λ (n : ℕ). IfAnswered o (visible_in q w ≡ (after_first s.name n s.quota s.moment message (write_state s)).visible)) most texts)
     (subst (λ (n : ℕ). IfAnswered o (uploads ≡ (after_first s.name n s.quota s.moment message (write_state s)).uploads)) most ups)
     here none all same)
 
 pub next_done : (o : Result (Option (Vec ℕ Global)) CallError) (r : Result (Vec Reply Global) AllocError) (p q : Slots) (v w : ViewValue) (s : InstanceState) (id : CallId) (call : OpenWriteValue) (message : List ℕ) (limit : ℕ) (uploads : UploadList) (calls : Calls)
-    → limit ≡ most_blobs → s.visible ≡ visible_in p v
+    → limit ≡ s.limits.blobs → s.visible ≡ visible_in p v
     → IfAnswered o (visible_in q w ≡ (after_next call limit s.quota s.moment message (write_state s)).visible)
     → IfAnswered o (uploads ≡ (after_next call limit s.quota s.moment message (write_state s)).uploads)
     → IfNoMemory o ((w ≡ v) × (q ≡ p) × IsNextOldOrTaken s.quota s.moment (next_asked call message) s.uploads uploads) → IfNoMemory o (OnOk r ⊥)
@@ -196,7 +196,7 @@ next_done o r p q v w s id call message limit uploads calls most is texts ups pa
     let P = IsNextOldOrTaken s.quota s.moment (next_asked call message) s.uploads uploads in
     let here = shown_part o p q v w s (changes ++ tail) uploads P is (next_in_part s call message tail uploads) part in
     rw (next_split id changes (next_outcome s call message))
-    (written o r s changes tail (after_next call most_blobs s.quota s.moment message (write_state s)) (visible_in q w) uploads calls (next_whole s call message)
+    (written o r s changes tail (after_next call s.limits.blobs s.quota s.moment message (write_state s)) (visible_in q w) uploads calls (next_whole s call message)
     (subst (λ (n : ℕ). IfAnswered o (visible_in q w ≡ (after_next call n s.quota s.moment message (write_state s)).visible)) most texts)
     (subst (λ (n : ℕ). IfAnswered o (uploads ≡ (after_next call n s.quota s.moment message (write_state s)).uploads)) most ups)
     here none all same)

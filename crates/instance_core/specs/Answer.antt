@@ -156,7 +156,7 @@ ending_at s outcome job = ending s.quota s.visible job outcome
 abbrev pub changes_kept : InstanceState → Digest → List Blob → Option (List ℕ) →
     List InstanceChange
 changes_kept s action blobs stored =
-    map Text (admissions blobs) ++ Keeps (results_with action stored s.results) ∷ []
+    map Text (admissions blobs) ++ Keeps (results_with s.limits action stored s.results) ∷ []
 
 -- those of a job that ends so
 abbrev pub ending_changes : InstanceState → OutcomeValue → Option JobValue → List InstanceChange

@@ -10,7 +10,7 @@ use Rattle.execution.specs.Job.{JobValue}
 use Rattle.execution.specs.Steps.{StepValue, jobs_after_steps}
 use Rattle.instance_core.specs.Calls.{CallValue, with_call, without_call}
 use Rattle.instance_core.specs.Watching.{calls_after_steps}
-use Rattle.instance_core.specs.State.{InstanceState, most_blobs}
+use Rattle.instance_core.specs.State.{InstanceState}
 
 pub data InstanceChange : Type 0 where
   -- a use of a text, or an admission
@@ -34,7 +34,7 @@ pub data InstanceChange : Type 0 where
 
 abbrev pub state_after_change : InstanceChange → InstanceState → InstanceState
 state_after_change (Text c) s =
-    record s { visible = Texts.visible_after_change most_blobs s.quota c s.visible }
+    record s { visible = Texts.visible_after_change s.limits.blobs s.quota c s.visible }
 state_after_change (Goes id call) s = record s { calls = with_call id call s.calls }
 state_after_change (Ends id) s = record s { calls = without_call id s.calls }
 state_after_change (Wrote w) s = record s { visible = w.visible; uploads = w.uploads }

@@ -95,7 +95,8 @@ request_changes GetTree s message = map Text (get_tree_changes s.name (seen s) m
 request_changes GetActionResult s message =
     Keeps (after_get s.name (seen s) s.results message)
     ∷ map Text (get_action_result_changes s.name (seen s) s.results message)
-request_changes UpdateActionResult s message = Keeps (after_update s.name s.results message) ∷ []
+request_changes UpdateActionResult s message =
+    Keeps (after_update s.name s.limits s.results message) ∷ []
 request_changes Read s message = map Text (use_asked (read_asked s.name message))
 request_changes Execute s message = execution_changes s (execute_asked s.name message)
 request_changes _ s message = []

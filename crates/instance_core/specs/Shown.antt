@@ -7,6 +7,7 @@ use Rattle.std.specs.declared.alloc.AllocError.{AllocError}
 use Rattle.std.specs.declared.alloc.Global.{Global}
 use Rattle.std.specs.declared.vec.Vec.{Vec}
 use Rattle.rpc.specs.declared.refusal.Refusal.{Refusal}
+use Rattle.instance_limits.specs.Shown.{limits_value}
 use Rattle.instance_view.specs.Visible.{Blob}
 use Rattle.instance_core.specs.declared.event.CallEvent.{CallEvent}
 use Rattle.instance_core.specs.declared.event.CallEvent.TheVariants as Code
@@ -97,6 +98,7 @@ slots_of settings contents calls = record {
   name = string_bytes settings.name;
   quota = settings.quota;
   slots = settings.slots;
+  limits = limits_value settings.limits;
   moment = settings.moment;
   view = contents.view;
   uploads = contents.uploads;
@@ -121,6 +123,7 @@ contents_state settings p contents o = record {
   name = string_bytes settings.name;
   quota = settings.quota;
   slots = settings.slots;
+  limits = limits_value settings.limits;
   moment = settings.moment;
   visible = visible_in p contents.view;
   parent = [];

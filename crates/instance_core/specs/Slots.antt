@@ -11,7 +11,7 @@ use Rattle.job_queue.specs.Jobs.{Jobs}
 use Rattle.execution.specs.InPool.{jobs_in, jobs_holders}
 use Rattle.execution.specs.declared.job.Job.{Job}
 use Rattle.instance_core.specs.Calls.{Calls}
-use Rattle.instance_core.specs.State.{InstanceState, IsInstanceWithin, seeing}
+use Rattle.instance_core.specs.State.{InstanceState, IsInstanceWithin, LimitsValue, seeing}
 use Rattle.std.specs.List.{AllByRecursion}
 use Rattle.digest.specs.Naming.{Names}
 
@@ -19,6 +19,7 @@ pub record InstanceSlots : Type 0 where
   pub name : List ℕ
   pub quota : ℕ
   pub slots : ℕ
+  pub limits : LimitsValue
   pub moment : ℕ
   pub view : ViewValue
   pub uploads : UploadList
@@ -32,6 +33,7 @@ state_in p i = record {
   name = i.name;
   quota = i.quota;
   slots = i.slots;
+  limits = i.limits;
   moment = i.moment;
   visible = visible_in p i.view;
   parent = [];
@@ -55,9 +57,12 @@ pub record IsBeside (p : Slots) (parent : ViewValue) (i : InstanceSlots) : Type 
   pub counted : (k : ℕ) → holders_of_instance i k + holders parent k ≤ count_at p k
   pub named : AllByRecursion (λ (b : Blob). Names b.0 b.1) (visible_in p parent)
 
--- what it was configured with stays: its name, its quota and how many actions it runs at once
+-- what it was configured with stays: its name, its quota, how many actions it runs at once, and the
+-- numbers that were chosen for it
 abbrev pub KeepsConfig : InstanceSlots → InstanceSlots → Type 0
-KeepsConfig old new = (new.name ≡ old.name) × (new.quota ≡ old.quota) × (new.slots ≡ old.slots)
+KeepsConfig old new =
+    (new.name ≡ old.name) × (new.quota ≡ old.quota) × (new.slots ≡ old.slots)
+    × (new.limits ≡ old.limits)
 
 -- the pool counts the instance among its holders, and the instance keeps its limits
 pub record IsInstanceInPool (p : Slots) (i : InstanceSlots) : Type 0 where

@@ -1,6 +1,7 @@
--- An instance: its name, its quota in bytes, how many actions it may run at once, the moment of
--- what happens to it in milliseconds, its texts (the most recently used first), its unfinished
--- uploads, its results of actions (the most recently used first), its jobs and its calls in course.
+-- An instance: its name, its quota in bytes, how many actions it may run at once, the numbers that
+-- an operator chose for it, the moment of what happens to it in milliseconds, its texts (the most
+-- recently used first), its unfinished uploads, its results of actions (the most recently used
+-- first), its jobs and its calls in course.
 use Rattle.std.specs.Prelude.{ℕ, ◌≤◌, List, [], ◌++◌, length}
 use Rattle.std.specs.List.{AllByRecursion, IsDistinct}
 use Rattle.digest.specs.Naming.{Names}
@@ -15,12 +16,13 @@ use Rattle.job_queue.specs.declared.queue.TheConstants.{MOST_RUNNING}
 use Rattle.execution.specs.Job.{JobValue}
 use Rattle.instance_core.specs.Jobs.{AreWhole, AreToldShortly}
 use Rattle.instance_core.specs.Calls.{Calls, same_call, KeepShort}
-pub use Rattle.quota_evict.specs.Within.{most_blobs}
+pub use Rattle.instance_limits.specs.Limits.{LimitsValue, IsLimits}
 
 pub record InstanceState : Type 0 where
   pub name : List ℕ
   pub quota : ℕ
   pub slots : ℕ
+  pub limits : LimitsValue
   pub moment : ℕ
   pub visible : List Blob
   -- what the instance's parent has, while an event is carried out
@@ -31,11 +33,12 @@ pub record InstanceState : Type 0 where
   pub calls : Calls
 
 -- at first there are no texts, no uploads, no results, no jobs and no calls
-abbrev pub new_instance : List ℕ → ℕ → ℕ → InstanceState
-new_instance name quota slots = record {
+abbrev pub new_instance : List ℕ → ℕ → ℕ → LimitsValue → InstanceState
+new_instance name quota slots limits = record {
   name = name;
   quota = quota;
   slots = slots;
+  limits = limits;
   moment = 0;
   visible = [];
   parent = [];
@@ -59,9 +62,10 @@ seen s = s.visible ++ s.parent
 -- the limits that an instance keeps
 pub record IsInstanceWithin (s : InstanceState) : Type 0 where
   pub quota : s.quota ≤ most_stored_bytes
-  pub texts : AreBlobsWithin most_blobs s.quota s.visible
+  pub limits : IsLimits s.limits
+  pub texts : AreBlobsWithin s.limits.blobs s.quota s.visible
   pub uploads : AreUploadsWithin s.quota s.uploads
-  pub results : AreResultsWithin s.results
+  pub results : AreResultsWithin s.limits s.results
   -- no more jobs run than there are slots, of which there are no more than jobs may run
   pub slots : s.slots ≤ MOST_RUNNING
   pub jobs : AreJobs s.jobs

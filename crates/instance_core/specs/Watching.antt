@@ -1,6 +1,6 @@
 -- Calls that watch jobs, and what they are told.
-use Rattle.std.specs.Prelude.{◌≡◌, ◌⊎◌, ◌≤◌, ◌<◌, ◌==◌, not, is_some, ℕ, Bool, false, filter, map, List, [], ◌∷◌, length, if◌then◌else◌}
-use Rattle.std.specs.List.{AllByRecursion, flat_map}
+use Rattle.std.specs.Prelude.{◌≡◌, ◌⊎◌, ◌≤◌, ◌<◌, ◌==◌, not, is_some, ℕ, Bool, false, filter, map, List, [], ◌∷◌, length, if◌then◌else◌, Option, Some, None}
+use Rattle.std.specs.List.{AllByRecursion, filter_map, flat_map}
 use Rattle.std.specs.Map.{lookup}
 use Rattle.job_queue.specs.Jobs.{Jobs, same_number}
 use Rattle.execution.specs.Orders.{ToldValue, told}
@@ -23,6 +23,17 @@ is_watcher n c = is_watching n c.1.progress
 -- the calls that watch the job of a number, in the order in which they began
 abbrev pub watchers : ℕ → Calls → List CallId
 watchers n calls = map (λ (c : CallId × CallValue). c.0) (filter (is_watcher n) calls)
+
+-- the number of the job that a call watches, if it watches one
+abbrev pub watched_by : ProgressValue → Option ℕ
+watched_by waits = None
+watched_by (has message) = None
+watched_by (writes write) = None
+watched_by (watches n) = Some n
+
+-- the numbers of the jobs that calls watch, as often as they do
+abbrev pub watched_numbers : Calls → List ℕ
+watched_numbers calls = filter_map (λ (c : CallId × CallValue). watched_by c.1.progress) calls
 
 -- ---- what they are told
 

@@ -7,7 +7,7 @@ use Rattle.instance_view.specs.Visible.{visible_text}
 use Rattle.cas_service.specs.Changes.{Use}
 use Rattle.bytestream.specs.Writing.{OpenWriteValue, PartValue, WrittenValue, WriteState, FirstAsked, write_state_with, first_asked, next_asked, part_outcome, first_answer, next_answer, after_part}
 use Rattle.instance_core.specs.Changes.{InstanceChange, Text, Wrote}
-use Rattle.instance_core.specs.State.{InstanceState, most_blobs}
+use Rattle.instance_core.specs.State.{InstanceState}
 
 -- the texts and the uploads of an instance
 abbrev pub write_state : InstanceState → WriteState
@@ -29,7 +29,7 @@ with_part first s part =
 abbrev pub part_changes : Bool → InstanceState → PartValue → List InstanceChange
 part_changes first s part =
     Wrote (with_part first s part)
-    ∷ Wrote (after_part first most_blobs s.quota s.moment part (write_state s)) ∷ []
+    ∷ Wrote (after_part first s.limits.blobs s.quota s.moment part (write_state s)) ∷ []
 
 -- a blob that the instance has is used, and no upload begins
 abbrev pub first_part_changes : InstanceState → FirstAsked → List InstanceChange

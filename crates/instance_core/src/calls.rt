@@ -1,15 +1,16 @@
 //! The calls in course.
 
-ghost use Rattle.std.specs.Prelude.{◌≡◌, ◌<◌, ◌^◌, ◌==◌, not, [], Some, IsSome, filter, length, option_map, slice_get, IfOk, OnOk, OnErr};
+ghost use Rattle.std.specs.Prelude.{◌≡◌, ◌<◌, ◌^◌, ◌==◌, ◌++◌, ◌∷◌, not, [], Some, IsSome, filter, length, option_map, slice_get, IfOk, OnOk, OnErr};
 ghost use Rattle.std.specs.List.{IsDistinct};
 ghost use Rattle.std.specs.Map.{keys_of};
 ghost use Rattle.std.specs.Option.{option_copied};
 ghost use Rattle.instance_core.specs.Calls.{CallValue, call_at, same_call, with_call, without_call, watches, IsProgressOf, AreInCourse};
-ghost use Rattle.instance_core.specs.Watching.{calls_after_steps, calls_told, is_watcher, is_watching};
+ghost use Rattle.instance_core.specs.Watching.{calls_after_steps, calls_told, is_watcher, is_watching, watched_by, watched_numbers};
 ghost use Rattle.execution.specs.Ordered.{told_shown};
 ghost use Rattle.execution.specs.Taking.{steps_shown};
 ghost use Rattle.instance_core.specs.Apart.{calls_apart};
 ghost use Rattle.instance_core.specs.Shown.{progress_shown};
+ghost use Rattle.instance_core.specs.declared.event.CallId.{CallId};
 
 use crate::event::{CallId, Reply, ReplyItem};
 use bytestream::OpenWrite;
@@ -89,6 +90,16 @@ impl Call {
         }
     }
 
+    /// The number of the job that it watches, if it watches one.
+    fn watched(&self) -> Option<u64>
+        ensures { result ≡ watched_by self.now.progress }
+    {
+        match self.progress {
+            Progress::Watches(number) => Some(number),
+            Progress::Waits | Progress::Has(_) | Progress::Writes(_) => None,
+        }
+    }
+
     /// Lets go of the call, and of its message.
     fn let_go(self) {
         if let Progress::Has(message) = self.progress {
@@ -142,6 +153,18 @@ fn length_of(item: &ReplyItem) -> u64 {
         ReplyItem::Gives(range) => range.until.saturating_sub(range.from),
         ReplyItem::Begins | ReplyItem::Ends | ReplyItem::Refuses(_) => 0,
     }
+}
+
+/// Adds the number of the job that a call watches, if it watches one.
+#[tactic(auto, using(crate::proofs::Telling::watched_one, crate::proofs::Telling::watched_none))]
+fn add_watched(numbers: &mut Vec<u64>, call: &Call) -> Result<(), AllocError>
+    ensures { (id : CallId) → OnOk result (numbers.new.items
+        ≡ numbers.old.items ++ watched_numbers ((id, call.now) ∷ [])) }
+{
+    if let Some(number) = call.watched() {
+        numbers.push(number)?;
+    }
+    Ok(())
 }
 
 /// Puts a call in the place of the one of that name, which is there.
@@ -299,6 +322,20 @@ impl Calls {
         ensures few { length self.now < 2 ^ 63 }
     {
         self.by_id.as_slice().get_index(place)
+    }
+
+    /// The numbers of the jobs that calls watch, in the order in which these began: a number stands
+    /// there once for each call that watches its job.
+    pub fn watched(&self, alloc: Global) -> Result<Vec<u64>, AllocError>
+        ensures { IfOk result (λ numbers. numbers.items ≡ watched_numbers self.now) }
+    {
+        let mut numbers = Vec::new(alloc);
+        let mut place = 0;
+        'calls: while let Some((_id, call)) = self.at(place) {
+            add_watched(&mut numbers, call)?;
+            place += 1;
+        }
+        Ok(numbers)
     }
 
     /// Takes out all calls that watch the job of a number. The others keep their order.

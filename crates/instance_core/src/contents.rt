@@ -1,7 +1,8 @@
 //! What an instance is configured as, and what it keeps.
 
-use action_cache::Results;
+use action_cache::{DroppedResults, Results};
 use execution::Executions;
+use instance_limits::Limits;
 use instance_view::{Dropped, View};
 use uploads::Uploads;
 
@@ -11,6 +12,7 @@ pub struct Settings {
     pub name: String,
     pub quota: u64,
     pub slots: u32,
+    pub limits: Limits,
     /// In milliseconds.
     pub moment: u64,
 }
@@ -38,6 +40,8 @@ pub struct InstanceSizes {
     pub waiting: usize,
     /// Jobs that run.
     pub running: usize,
-    /// What it dropped since the start.
+    /// Which blobs it dropped since the start.
     pub dropped: Dropped,
+    /// Which results.
+    pub dropped_results: DroppedResults,
 }

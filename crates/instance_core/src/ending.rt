@@ -17,6 +17,7 @@ ghost use Rattle.execution.specs.Ordered.{orders_by};
 ghost use Rattle.execution.specs.Steps.{end_steps};
 ghost use Rattle.execution.specs.Taking.{steps_shown};
 ghost use Rattle.outcomes.specs.Ending.{results_with};
+ghost use Rattle.instance_limits.specs.Shown.{limits_value};
 ghost use Rattle.instance_core.specs.Answer.{answer, changes_kept, ending_changes};
 ghost use Rattle.instance_core.specs.Calls.{IsShortEvent, end_job};
 ghost use Rattle.instance_core.specs.Changes.{MadeInPart, state_after_changes};
@@ -36,6 +37,7 @@ use blob_pool::Pool;
 use digest::Digest;
 use execution::{Executions, end_steps};
 use execution_messages::End;
+use instance_limits::Limits;
 use keyed_maps::MapKey;
 use outcomes::{Ending, OutputBlob, admit_blobs, end_of_run};
 use run_outcomes::Outcome;
@@ -66,14 +68,19 @@ fn ready_to_end(
 }
 
 /// Stores the result of an action, where there is one to store.
-fn store(results: &mut Results, action: &Digest, stored: Option<Vec<u8>>) -> Result<(), AllocError>
-    ensures stored { OnOk result (results.new
-        ≡ results_with action.now (option_map (λ text. text.items) stored) results.old) }
+fn store(
+    results: &mut Results,
+    limits: Limits,
+    action: &Digest,
+    stored: Option<Vec<u8>>,
+) -> Result<(), AllocError>
+    ensures stored { OnOk result (results.new ≡ results_with (limits_value limits) action.now
+        (option_map (λ text. text.items) stored) results.old) }
     ensures err { OnErr result (results.new ≡ results.old) }
 {
     match stored {
         None => Ok(()),
-        Some(text) => results.update(action, text),
+        Some(text) => results.update(limits, action, text),
     }
 }
 
@@ -105,7 +112,7 @@ fn keep_outputs(
     ensures executions { contents.new.executions ≡ contents.old.executions }
 {
     admit_blobs(&mut contents.view, pool, settings.quota, blobs)?;
-    store(&mut contents.results, action, stored)
+    store(&mut contents.results, settings.limits, action, stored)
 }
 
 /// Admits what the run of a job left, stores its result, and makes ready that the job ends. All

@@ -7,6 +7,7 @@ ghost use Rattle.blob_pool.specs.Moves.{Moves};
 ghost use Rattle.instance_core.specs.Calls.{IsShortEvent, cancel, tick, start_jobs, end_late_jobs, end_job};
 ghost use Rattle.instance_core.specs.Apart.{calls_apart, replies_on, AreRepliesTo};
 ghost use Rattle.instance_core.specs.State.{InstanceState, IsInstanceWithin, new_instance, at_moment, seeing};
+ghost use Rattle.instance_limits.specs.Shown.{limits_value};
 ghost use Rattle.instance_view.specs.Shown.{sizes as total_of};
 ghost use Rattle.instance_view.specs.Visible.{Blob};
 ghost use Rattle.instance_core.specs.Slots.{KeepsConfig, state_in, state_beside, holders_of_instance, IsInstanceInPool, IsBeside, IsKeptSomewhere};
@@ -22,6 +23,7 @@ ghost use Rattle.execution.specs.InPool.{task_in};
 ghost use Rattle.execution.specs.Orders.{task_of};
 ghost use Rattle.execution.specs.Taking.{CanTake, steps_shown};
 ghost use Rattle.instance_core.specs.Turns.{IsReady};
+ghost use Rattle.instance_core.specs.Watching.{watched_numbers};
 ghost use Rattle.quota_evict.specs.Within.{most_stored_bytes};
 
 use crate::answers::{on_end, on_fault, on_head, on_message};
@@ -33,11 +35,13 @@ use crate::turns::{Turn, make_ready};
 use action_cache::Results;
 use blob_pool::Pool;
 use call_counts::CallCounts;
-use execution::{Executions, Step, Task, forget_job, start_steps, take_steps, task_of, tick_steps};
+use execution::{
+    Executions, Job, Step, Task, forget_job, start_steps, take_steps, task_of, tick_steps,
+};
+use instance_limits::Limits;
 use instance_view::View;
 use job_queue::Queue;
 use keyed_maps::MapKey;
-use quota_evict::MOST_BLOBS;
 use run_outcomes::Outcome;
 use std::alloc::{AllocError, Global};
 use std::marker::Model;
@@ -66,7 +70,8 @@ impl Drop for Instance {
 
 impl Model for Instance {
     ghost use Rattle.std.specs.Prelude.{◌≡◌, ◌≤◌, ◌^◌};
-    ghost use Rattle.quota_evict.specs.Within.{most_blobs, most_stored_bytes};
+    ghost use Rattle.quota_evict.specs.Within.{most_stored_bytes};
+    ghost use Rattle.instance_limits.specs.Shown.{limits_value};
     ghost use Rattle.instance_core.specs.Slots.{InstanceSlots};
 
     ghost Value = { InstanceSlots };
@@ -77,7 +82,8 @@ impl Model for Instance {
     ghost view = { λ i. slots_of i.settings i.contents i.calls };
 
     ghost invariant = { λ i. (i.settings.quota ≤ most_stored_bytes)
-        × (i.contents.view.limit ≡ most_blobs) × AreInCourse i.calls
+        × (i.contents.view.limit ≡ (limits_value i.settings.limits).blobs)
+        × AreInCourse i.calls
         × (i.contents.executions.slots ≡ i.settings.slots) };
 }
 
@@ -90,17 +96,18 @@ impl Instance {
         name: &str,
         quota: u64,
         slots: u32,
+        limits: Limits,
     ) -> Result<Instance, AllocError>
         requires quota { quota ≤ most_stored_bytes }
         requires slots { slots ≤ MOST_RUNNING }
-        ensures opened { (p : Slots) →
-            IfOk result (λ instance. state_in p instance ≡ new_instance name.now quota slots) }
+        ensures opened { (p : Slots) → IfOk result (λ instance. state_in p instance
+            ≡ new_instance name.now quota slots (limits_value limits)) }
         ensures within { (p : Slots) →
             IfOk result (λ instance. IsInstanceWithin (state_in p instance)) }
         ensures holders { (k : ℕ) → IfOk result (λ instance. holders_of_instance instance k ≡ 0) }
     {
         let name = String::from_str(alloc, name)?;
-        let view = View::new(alloc, key, MOST_BLOBS)?;
+        let view = View::new(alloc, key, limits.blobs() as usize)?;
         let results = Results::new(alloc, key)?;
         let executions = Executions {
             slots: slots as usize,
@@ -112,6 +119,7 @@ impl Instance {
                 name,
                 quota,
                 slots,
+                limits,
                 moment: 0,
             },
             contents: Contents {
@@ -122,6 +130,13 @@ impl Instance {
             },
             calls,
         })
+    }
+
+    /// What was chosen for it.
+    pub fn limits(&self) -> Limits
+        ensures { limits_value result ≡ self.now.limits }
+    {
+        self.settings.limits
     }
 
     /// Its texts, for reading.
@@ -161,7 +176,23 @@ impl Instance {
             waiting: executions.queue.waiting_count(),
             running: executions.queue.running_count(),
             dropped: view.dropped(),
+            dropped_results: results.dropped(),
         }
+    }
+
+    /// Its jobs, for reading.
+    pub fn jobs(&self) -> &Queue<Job>
+        ensures { result.now ≡ self.now.jobs }
+    {
+        &self.contents.executions.queue
+    }
+
+    /// The numbers of its jobs that calls watch, in the order in which these began: a number stands
+    /// there once for each call that watches its job.
+    pub fn watched(&self, alloc: Global) -> Result<Vec<u64>, AllocError>
+        ensures { IfOk result (λ numbers. numbers.items ≡ watched_numbers self.now.calls) }
+    {
+        self.calls.watched(alloc)
     }
 
     /// The moment of what happens, in milliseconds.

@@ -15,7 +15,7 @@ ghost use Rattle.instance_core.specs.Losses.{IsByRule, HasNoEmptyBlob};
 ghost use Rattle.instance_core.specs.Room.{LosesForRoom, all_touched};
 ghost use Rattle.instance_core.specs.Named.{StoresNamed};
 ghost use Rattle.instance_core.specs.NamedReplies.{ServesNamed};
-ghost use Rattle.instance_core.specs.State.{InstanceState, IsInstanceWithin, most_blobs, new_instance};
+ghost use Rattle.instance_core.specs.State.{InstanceState, IsInstanceWithin, LimitsValue, new_instance};
 ghost use Rattle.instance_core.specs.Watching.{WatchAtRest, WatchDuring};
 
 /// A call stores bytes only under the digest that names them, whatever its request says: a batch,
@@ -38,8 +38,8 @@ pub fn calls_serve_named_blobs()
 /// The request that is answered at the end of a call is a message that came for this call: what is
 /// kept of a request until then is kept as it came, whatever else happens.
 pub fn requests_are_answered_as_they_came()
-    ensures opened { (name : List ℕ) (quota slots : ℕ)
-        → HaveKept [] (new_instance name quota slots).calls }
+    ensures opened { (name : List ℕ) (quota slots : ℕ) (limits : LimitsValue)
+        → HaveKept [] (new_instance name quota slots limits).calls }
     ensures kept { (came : CameMessages) (s t : InstanceState) (event : CallEventValue)
         → HaveKept came s.calls → MadeInPart (answer s event).changes s t
         → HaveKept (came ++ message_in event) t.calls }
@@ -84,18 +84,18 @@ pub fn calls_lose_by_rules()
 /// A blob is lost for want of room alone. Where any front of an event's changes was made, and so
 /// where all were, a blob that is gone stood behind others, each of which stood before it already
 /// or was used or admitted by these changes; and these have more bytes together with it than the
-/// quota, or are more than 65,536.
+/// quota, or are more than its limits allow.
 pub fn calls_lose_blobs_for_room()
     ensures { (s t : InstanceState) (event : CallEventValue) → IsInstanceWithin s
         → (part : MadeInPart (answer s event).changes s t)
-        → LosesForRoom most_blobs s.quota (all_touched part.made) s.visible t.visible }
+        → LosesForRoom s.limits.blobs s.quota (all_touched part.made) s.visible t.visible }
 {}
 
 /// The empty blob is always there, and has no entry in an instance: at first there is none, and no
 /// event gives it one, nor does any front of an event's changes. So it has no slot in the pool.
 pub fn the_empty_blob_has_no_slot()
-    ensures opened { (name : List ℕ) (quota slots : ℕ)
-        → HasNoEmptyBlob (new_instance name quota slots).visible }
+    ensures opened { (name : List ℕ) (quota slots : ℕ) (limits : LimitsValue)
+        → HasNoEmptyBlob (new_instance name quota slots limits).visible }
     ensures kept { (s t : InstanceState) (event : CallEventValue)
         → MadeInPart (answer s event).changes s t → HasNoEmptyBlob s.visible
         → HasNoEmptyBlob t.visible }

@@ -32,7 +32,5 @@ pub use laws::{
     calls_store_named_texts, orders_have_their_texts, requests_are_answered_as_they_came,
     starts_are_told_on_one_connection, the_empty_blob_has_no_slot,
 };
-pub use limits::{
-    limits_of_batches_and_trees, limits_of_results, limits_of_texts, limits_of_uploads,
-};
+pub use limits::{limits_of_batches_and_trees, limits_of_texts, limits_of_uploads};
 pub use turns::Turn;

@@ -11,7 +11,6 @@ ghost use Rattle.tree_calls.specs.Asking.{longest_request};
 ghost use Rattle.tree_calls.specs.DirectoryConstants.{MOST_DIRECTORY_BYTES};
 ghost use Rattle.tree_calls.specs.ListingConstants.{MOST_DIRECTORIES};
 ghost use Rattle.tree_calls.specs.PagesConstants.{MOST_PAGE_BYTES};
-ghost use Rattle.action_cache.specs.declared.results.TheConstants.{MOST_RESULTS, MOST_RESULT_BYTES};
 
 /// What texts keep to: the bytes of one text and of a page of it, and how many a view may have at
 /// most.
@@ -38,10 +37,4 @@ pub fn limits_of_batches_and_trees()
     ensures directory { MOST_DIRECTORY_BYTES ≡ 67108864 }
     ensures page { MOST_PAGE_BYTES ≡ 4000000 }
     ensures directories { MOST_DIRECTORIES ≡ 10000 }
-{}
-
-/// What the results of actions keep to: how many an instance has, and the bytes of them all.
-pub fn limits_of_results()
-    ensures results { MOST_RESULTS ≡ 10000 }
-    ensures bytes { MOST_RESULT_BYTES ≡ 67108864 }
 {}

@@ -54,6 +54,7 @@ pub fn update_result(
         AreContentsInPool settings.now p contents.old → CarriesTexts UpdateActionResult settings.now
         parent message.now p contents.old result p contents.new }
 {
-    let outcome = update_action_result(alloc, &settings.name, &mut contents.results, message);
+    let results = &mut contents.results;
+    let outcome = update_action_result(alloc, &settings.name, settings.limits, results, message);
     one_message(outcome)
 }

@@ -8,6 +8,8 @@ const WINDOW: u64 = 60_000;
 pub struct Dropped {
     /// How many texts; 2^64 - 1 where it were more.
     pub count: u64,
+    /// Of these, how many since there were too many, and not too large a sum of bytes.
+    pub for_number: u64,
     /// How many milliseconds lay between the last use of a text and its end, of the one with the
     /// fewest that was dropped in the minute of the last one or in the minute before; 0 where none
     /// was dropped.
@@ -18,6 +20,7 @@ pub struct Dropped {
 #[derive(Clone, Copy, Debug)]
 pub(crate) struct Drops {
     count: u64,
+    for_number: u64,
     /// The minute of the last one.
     minute: u64,
     /// The shortest age of those of that minute.
@@ -30,14 +33,16 @@ impl Drops {
     pub(crate) fn none() -> Drops {
         Drops {
             count: 0,
+            for_number: 0,
             minute: 0,
             youngest: u64::MAX,
             youngest_before: u64::MAX,
         }
     }
 
-    /// With one that is dropped at this moment, so many milliseconds after its last use.
-    pub(crate) fn with(self, moment: u64, age: u64) -> Drops {
+    /// With one that is dropped at this moment, so many milliseconds after its last use, since
+    /// there are too many, or for the sum of bytes.
+    pub(crate) fn with(self, moment: u64, age: u64, is_for_number: bool) -> Drops {
         let minute = moment / WINDOW;
         let (youngest, youngest_before) = if minute == self.minute {
             (self.youngest.min(age), self.youngest_before)
@@ -46,8 +51,14 @@ impl Drops {
         } else {
             (age, u64::MAX)
         };
+        let for_number = if is_for_number {
+            self.for_number.saturating_add(1)
+        } else {
+            self.for_number
+        };
         Drops {
             count: self.count.saturating_add(1),
+            for_number,
             minute,
             youngest,
             youngest_before,
@@ -62,6 +73,7 @@ impl Drops {
         };
         Dropped {
             count: self.count,
+            for_number: self.for_number,
             youngest_age,
         }
     }

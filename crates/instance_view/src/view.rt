@@ -307,9 +307,11 @@ impl View {
         ensures limit { self.new.limit ≡ self.old.limit }
         ensures moves { Moves pool.old pool.new (holders self.old) (holders self.new) }
     {
+        let is_for_number = self.cache.len() > self.limit;
         if let Some(entry) = pop(&mut self.cache) {
             self.bytes -= entry.0.size;
-            self.drops = self.drops.with(self.moment, entry.1.age(self.moment));
+            let age = entry.1.age(self.moment);
+            self.drops = self.drops.with(self.moment, age, is_for_number);
             release_kept(pool, entry.1.kept());
         }
     }

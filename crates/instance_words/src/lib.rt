@@ -5,13 +5,14 @@ mod mistakes;
 
 ghost use Rattle.std.specs.Prelude.{◌≡◌, ◌++◌, ◌+◌, IfNone, IfOk, IfSome, Some, codes, map, option_map, string_bytes};
 ghost use Rattle.decimals.specs.Number.{decimal_of};
+ghost use Rattle.server_events.specs.LimitsShown.{limits_value};
 ghost use Rattle.server_events.specs.Shown.{config_value};
 ghost use Rattle.instance_words.specs.Mistakes.{colons};
 ghost use Rattle.instance_words.specs.Words.{AreWordsOf, IsWordOf, parent_part, written};
 
 use decimals::decimal;
 pub use mistakes::{Mistake, Part, mistake_of};
-use server_events::{ConfigFault, Configs, InstanceConfig};
+use server_events::{ConfigFault, Configs, InstanceConfig, Limits};
 use std::alloc::{AllocError, Global};
 use thiserror::Error;
 
@@ -159,13 +160,15 @@ fn owned(alloc: Global, parent: Option<&str>) -> Result<Option<String>, AllocErr
     }
 }
 
-/// The port and the configuration that a word names.
+/// The port and the configuration that a word names, with the numbers of all.
 fn instance_of(
     alloc: Global,
+    limits: Limits,
     place: usize,
     word: &str,
 ) -> Result<(u16, InstanceConfig), InstancesFault>
-    ensures { IfOk result (λ found. IsWordOf word.now found.0 (config_value found.1)) }
+    ensures { IfOk result (λ found.
+        IsWordOf (limits_value limits) word.now found.0 (config_value found.1)) }
 {
     let Some(parts) = parts_of(word) else {
         return Err(InstancesFault::Bad(place, WordFault::Parts));
@@ -178,6 +181,7 @@ fn instance_of(
                 name,
                 quota,
                 slots,
+                limits,
                 parent,
             };
             Ok((port, config))
@@ -201,17 +205,18 @@ fn fault_of(fault: ConfigFault) -> InstancesFault {
 /// The ports and the configurations of the words, or the first fault of a word by itself.
 fn read_words(
     alloc: Global,
+    limits: Limits,
     words: &[&str],
 ) -> Result<(Vec<u16>, Vec<InstanceConfig>), InstancesFault>
-    ensures { IfOk result (λ read. AreWordsOf (map (λ word. word.now) words.now) read.0.items
-        (map config_value read.1.items)) }
+    ensures { IfOk result (λ read. AreWordsOf (limits_value limits)
+        (map (λ word. word.now) words.now) read.0.items (map config_value read.1.items)) }
 {
     let mut ports: Vec<u16> = Vec::new(alloc);
     let mut configs = Vec::new(alloc);
     let mut left = words;
     let mut place = 0;
     'words: while let [word, rest @ ..] = left {
-        let (port, config) = instance_of(alloc, place, word)?;
+        let (port, config) = instance_of(alloc, limits, place, word)?;
         ports.push(port)?;
         configs.push(config)?;
         left = rest;
@@ -220,13 +225,17 @@ fn read_words(
     Ok((ports, configs))
 }
 
-/// The instances of the words, or the first fault: in a word by itself; else in the configurations;
-/// else a port that is given again.
-pub fn instances_of(alloc: Global, words: &[&str]) -> Result<Instances, InstancesFault>
-    ensures { IfOk result (λ instances. AreWordsOf (map (λ word. word.now) words.now)
-        instances.ports.items instances.configs) }
+/// The instances of the words, each with these numbers, or the first fault: in a word by itself;
+/// else in the configurations; else a port that is given again.
+pub fn instances_of(
+    alloc: Global,
+    limits: Limits,
+    words: &[&str],
+) -> Result<Instances, InstancesFault>
+    ensures { IfOk result (λ instances. AreWordsOf (limits_value limits)
+        (map (λ word. word.now) words.now) instances.ports.items instances.configs) }
 {
-    let (ports, configs) = read_words(alloc, words)?;
+    let (ports, configs) = read_words(alloc, limits, words)?;
     let configs = match Configs::new(configs) {
         Ok(configs) => configs,
         Err(fault) => return Err(fault_of(fault)),

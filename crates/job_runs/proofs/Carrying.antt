@@ -78,13 +78,13 @@ known_adds (Some fs) gs more (inl lost) = absurd (let no : Some gs ≡ None = lo
 known_adds (Some fs) gs more (inr adds) = (fs, refl, (let same : gs ≡ fs ++ more = cc in same))
 
 -- by these facts of one call
-record IsCall (key : RunKey) (runs now : List Run) (to_begin noted : List RunKey) (first : RunEvent) (last : List RunEvent)
+pub record IsCall (key : RunKey) (runs now : List Run) (to_begin noted : List RunKey) (first : RunEvent) (last : List RunEvent)
     (f g : Option (List FolderCall)) (p q : Option (List ProgramCall)) : Type 0 where
-  of_key : told_of first ≡ key
-  others : (other : RunKey) → is_key other key ≡ false → own_runs other now ≡ own_runs other runs
-  adds : (s : SoFar) → IsOfJob s.order first → IsLinked key s (own_runs key runs)
+  pub of_key : told_of first ≡ key
+  pub others : (other : RunKey) → is_key other key ≡ false → own_runs other now ≡ own_runs other runs
+  pub adds : (s : SoFar) → IsOfJob s.order first → IsLinked key s (own_runs key runs)
       → ((k : RunKey) → has_key k to_begin ≡ true → own_runs k runs ≡ []) → Adds1 key s first last (own_runs key now) f g p q
-  notes : (s : SoFar) → IsOfJob s.order first → IsLinked key s (own_runs key runs)
+  pub notes : (s : SoFar) → IsOfJob s.order first → IsLinked key s (own_runs key runs)
       → ((k : RunKey) → has_key k to_begin ≡ true → own_runs k runs ≡ []) → (k : RunKey) → has_key k noted ≡ true → own_runs k now ≡ []
 
 goes_on : (key : RunKey) (runs now : List Run) (to_begin noted : List RunKey) (first : RunEvent) (last : List RunEvent)
@@ -117,7 +117,7 @@ pub record StaysLost (f g : Option (List FolderCall)) (p q : Option (List Progra
   pub programs : p ≡ None → q ≡ None
 
 -- this call carries what ran so far
-carry : (key : RunKey) (runs now : List Run) (to_begin noted : List RunKey) (first : RunEvent) (last : List RunEvent)
+pub carry : (key : RunKey) (runs now : List Run) (to_begin noted : List RunKey) (first : RunEvent) (last : List RunEvent)
     (f g : Option (List FolderCall)) (p q : Option (List ProgramCall)) (h : List RunEvent)
     → StaysLost f g p q → IsCall key runs now to_begin noted first last f g p q → Carry runs to_begin f p h → Carry now noted g q (h ++ first ∷ last)
 carry key runs now to_begin noted first last f g p q h lost it was = go f g p q refl refl refl refl was
@@ -135,7 +135,7 @@ carry key runs now to_begin noted first last f g p q h lost it was = go f g p q 
 
 -- ---- of what each call makes of what is known
 
-same_lost : (f g : Option (List FolderCall)) (p q : Option (List ProgramCall)) → g ≡ f → q ≡ p → StaysLost f g p q
+pub same_lost : (f g : Option (List FolderCall)) (p q : Option (List ProgramCall)) → g ≡ f → q ≡ p → StaysLost f g p q
 same_lost f g p q fs ps = record { folders = λ none. fs ∙ none; programs = λ none. ps ∙ none }
 
 ends_lost : (key : RunKey) (e : Option Ending) (left : Result (Option Ending) RunFault) (f g : Option (List FolderCall)) (p q : Option (List ProgramCall)) → EndsBy key e left f g p q → StaysLost f g p q
@@ -143,7 +143,7 @@ ends_lost key None left f g p q by = same_lost f g p q by.1 by.2
 ends_lost key (Some Killing) left f g p q by = record { folders = λ none. by.2 ∙ none; programs = lost_adds p q _ by.3.2 }
 ends_lost key (Some Removing) left f g p q by = record { folders = lost_adds f g _ by.2; programs = λ none. by.3 ∙ none }
 
-killed_lost : (key : RunKey) (told_it : Result ⊤ RunFault) (old new : List Run) (f g : Option (List FolderCall)) (p q : Option (List ProgramCall)) → IsKilled key told_it old new f g p q → StaysLost f g p q
+pub killed_lost : (key : RunKey) (told_it : Result ⊤ RunFault) (old new : List Run) (f g : Option (List FolderCall)) (p q : Option (List ProgramCall)) → IsKilled key told_it old new f g p q → StaysLost f g p q
 killed_lost key told_it old new f g p q (inl h) = same_lost f g p q h.0.2 h.0.3
 killed_lost key told_it old new f g p q (inr h) = ends_lost key (ending_of h.0) h.1.left f g p q h.1.by
 
@@ -176,7 +176,7 @@ still_there k key ks there = go (has_key k ks) refl
     go false is = absurd (true≢false (sym there ∙ none-without k key ks is))
 
 -- a call for a key, which is noted no more
-taken_notes : (key : RunKey) (runs now : List Run) (to_begin noted : List RunKey) → noted ≡ without_key key to_begin
+pub taken_notes : (key : RunKey) (runs now : List Run) (to_begin noted : List RunKey) → noted ≡ without_key key to_begin
     → ((other : RunKey) → is_key other key ≡ false → own_runs other now ≡ own_runs other runs)
     → ((k : RunKey) → has_key k to_begin ≡ true → own_runs k runs ≡ []) → (k : RunKey) → has_key k noted ≡ true → own_runs k now ≡ []
 taken_notes key runs now to_begin noted taken others was k there = go (is_key k key) refl
@@ -264,7 +264,7 @@ kill_ends key s = record { order = refl; right = tt }
 lent_ends : (key : RunKey) (s : SoFar) → IsEnd key s (lent key.instance key.job None)
 lent_ends key s = record { order = refl; right = tt }
 
-again : (key : RunKey) → record { instance = key.instance; job = key.job } ≡ key
+pub again : (key : RunKey) → record { instance = key.instance; job = key.job } ≡ key
 again key = key_made (record { instance = key.instance; job = key.job }) key refl refl
 
 -- of one that was only noted

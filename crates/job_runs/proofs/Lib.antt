@@ -6,6 +6,12 @@ mod Numbering
 mod Parts
 mod Spans
 mod Ran
+mod Fitting
+mod Planned
+mod NoTurns
+mod Stepped
+mod Serving
 mod Linked
 mod Went
 mod Carrying
+mod Overseen

@@ -109,12 +109,12 @@ pub record Adds1 (key : RunKey) (s : SoFar) (first : RunEvent) (last : List RunE
 
 -- ---- a run that is to be ended
 
-record EndCalls (key : RunKey) (f g : Option (List FolderCall)) (p q : Option (List ProgramCall)) : Type 0 where
-  calls : List RunCall
-  folders : Adds f g (folder_calls calls)
-  programs : Adds p q (program_calls calls)
-  own : AreOwn key calls
-  idle : AreIdle calls
+pub record EndCalls (key : RunKey) (f g : Option (List FolderCall)) (p q : Option (List ProgramCall)) : Type 0 where
+  pub calls : List RunCall
+  pub folders : Adds f g (folder_calls calls)
+  pub programs : Adds p q (program_calls calls)
+  pub own : AreOwn key calls
+  pub idle : AreIdle calls
 
 pub same_adds : {C : Type 0} (before now : Option (List C)) → now ≡ before → Adds before now []
 same_adds {C} before now is = subst (λ (o : Option (List C)). Adds before o []) (sym is) (adds_none before)
@@ -138,7 +138,7 @@ kill_calls key a Removing f g p q fs adds = record {
   idle = ((refl, refl), ((refl, refl), tt));
 }
 
-end_calls : (key : RunKey) (e : Option Ending) (left : Result (Option Ending) RunFault) (f g : Option (List FolderCall)) (p q : Option (List ProgramCall)) → EndsBy key e left f g p q → EndCalls key f g p q
+pub end_calls : (key : RunKey) (e : Option Ending) (left : Result (Option Ending) RunFault) (f g : Option (List FolderCall)) (p q : Option (List ProgramCall)) → EndsBy key e left f g p q → EndCalls key f g p q
 end_calls key None left f g p q by = no_end_calls key f g p q by.1 by.2
 end_calls key (Some Killing) left f g p q by = kill_calls key by.3.0 (left_of_kill by.3.0) f g p q by.2 by.3.2
 end_calls key (Some Removing) left f g p q by = record {
@@ -194,6 +194,12 @@ none_ended key s first old new f g p q end none same fs ps linked = record {
 
 pub replaced_end : (key : RunKey) (state : State) (old new : List Run) (f g : Option (List FolderCall)) (p q : Option (List ProgramCall)) → (ends : Ends key state old new f g p q) → IsReplaced key state (option_map Over (still_left ends.left)) old new
 replaced_end key state old new f g p q ends = record { earlier = ends.earlier; later = ends.later; place = ends.place; there = ends.there; then = ends.then; same_key = ends.same_key }
+
+-- the run that is ended is the only one of its key
+pub only_ended : (key : RunKey) (s : SoFar) (state : State) (old new : List Run) (f g : Option (List FolderCall)) (p q : Option (List ProgramCall))
+    → (ends : Ends key state old new f g p q) → IsLinked key s (own_runs key old) → IsOnlyOne key s state (option_map Over (still_left ends.left)) ends.place new
+unfolding replaced_end
+only_ended key s state old new f g p q ends linked = only_one key s state (option_map Over (still_left ends.left)) old new (replaced_end key state old new f g p q ends) linked
 
 one_ended : (key : RunKey) (s : SoFar) (first : RunEvent) (state : State) (old new : List Run) (f g : Option (List FolderCall)) (p q : Option (List ProgramCall))
     → IsEnd key s first → (ends : Ends key state old new f g p q) → IsLinked key s (own_runs key old) → Adds1 key s first [] (own_runs key new) f g p q

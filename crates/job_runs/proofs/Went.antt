@@ -38,7 +38,7 @@ use Rattle.job_runs.proofs.Linked.{IsReplaced, others_stay, only_one, first_own,
 abbrev pub at : TaskValue → List RunCall → SoFar
 at t calls = record { order = to_run t; calls = calls }
 
-abbrev done_with : List RunCall → SoFar
+abbrev pub done_with : List RunCall → SoFar
 done_with calls = record { order = no_more; calls = calls }
 
 key_again : (key : RunKey) → record { instance = key.instance; job = key.job } ≡ key
@@ -52,21 +52,21 @@ outcome_of_key key (Err fault) = (key_again key, tt)
 
 -- ---- what becomes of it
 
-record Becoming (key : RunKey) (t : TaskValue) (before : List RunCall) (last : List RunEvent) (rs : List Run)
+pub record Becoming (key : RunKey) (t : TaskValue) (before : List RunCall) (last : List RunEvent) (rs : List Run)
     (f g : Option (List FolderCall)) (p q : Option (List ProgramCall)) : Type 0 where
-  calls : List RunCall
-  folders : Adds f g (folder_calls calls)
-  programs : Adds p q (program_calls calls)
-  own : AreOwn key calls
-  begun : IsRunOf key t (before ++ calls)
-  right : AreRightOf key (at t (before ++ calls)) (map told last)
-  linked : IsLinked key (fold step_by (at t (before ++ calls)) (map told last)) rs
+  pub calls : List RunCall
+  pub folders : Adds f g (folder_calls calls)
+  pub programs : Adds p q (program_calls calls)
+  pub own : AreOwn key calls
+  pub begun : IsRunOf key t (before ++ calls)
+  pub right : AreRightOf key (at t (before ++ calls)) (map told last)
+  pub linked : IsLinked key (fold step_by (at t (before ++ calls)) (map told last)) rs
 
 failed_told : (key : RunKey) (fault : RunFault) → IsNotLeft fault → fault_events key fault ≡ gave key.instance key.job failed ∷ []
 failed_told key Left h = absurd h
 failed_told key fault h = refl
 
-over_linked : (key : RunKey) (calls : List RunCall) (place : Place) (left : Option Ending) → IsLinked key (done_with calls) (run_kept place (option_map Over left))
+pub over_linked : (key : RunKey) (calls : List RunCall) (place : Place) (left : Option Ending) → IsLinked key (done_with calls) (run_kept place (option_map Over left))
 over_linked key calls place None = tt
 over_linked key calls place (Some e) = refl
 
@@ -128,7 +128,7 @@ fold_two s [] ys = refl
 fold_two s (x ∷ xs) ys = fold_two (step_by s x) xs ys
 
 -- its task is lent, and then this becomes of it
-becoming_adds : (key : RunKey) (t : TaskValue) (before : List RunCall) (r : Result (Option Outcome) RunFault) (rs : List Run) (f g : Option (List FolderCall)) (p q : Option (List ProgramCall))
+pub becoming_adds : (key : RunKey) (t : TaskValue) (before : List RunCall) (r : Result (Option Outcome) RunFault) (rs : List Run) (f g : Option (List FolderCall)) (p q : Option (List ProgramCall))
     → Becoming key t before (outcome_events key r) rs f g p q → Adds1 key (at t before) (lent key.instance key.job (Some t)) (outcome_events key r) rs f g p q
 becoming_adds key t before r rs f g p q it =
     let last : List RunStep = map told (outcome_events key r) in
@@ -154,7 +154,7 @@ still_adds : (key : RunKey) (t : TaskValue) (before : List RunCall) (rs : List R
 still_adds key t before rs f g p q fs ps linked = record { calls = []; folders = same_adds f g fs; programs = same_adds p q ps; own = tt; of_last = tt; right = (tt, tt); linked = linked }
 
 -- nothing is asked, and that it failed is told
-failed_adds : (key : RunKey) (t : TaskValue) (before : List RunCall) (rs : List Run) (f g : Option (List FolderCall)) (p q : Option (List ProgramCall)) → g ≡ f → q ≡ p → rs ≡ []
+pub failed_adds : (key : RunKey) (t : TaskValue) (before : List RunCall) (rs : List Run) (f g : Option (List FolderCall)) (p q : Option (List ProgramCall)) → g ≡ f → q ≡ p → rs ≡ []
     → Adds1 key (at t before) (lent key.instance key.job (Some t)) (gave key.instance key.job failed ∷ []) rs f g p q
 failed_adds key t before rs f g p q fs ps none = record {
   calls = [];

@@ -408,8 +408,26 @@ impl<F: Folder + Drop, P: Programs + Drop> Runs for JobRunner<F, P> {
         }
     }
 
-    fn last_words(&self, run: RunKey, most: u32) -> io::Result<Vec<u8>> {
-        self.runner.programs().last_words(run, most)
+    fn next_waits(&self) -> bool {
+        let place = if self.next < self.count() {
+            self.next
+        } else {
+            0
+        };
+        self.runner.waits(place)
+    }
+
+    fn reason(
+        &self,
+        run: RunKey,
+        _task: Option<LentTask<'_>>,
+        fault: RunFault,
+        most: u32,
+    ) -> io::Result<Vec<u8>> {
+        match fault {
+            RunFault::Launcher => self.runner.programs().last_words(run, most),
+            _ => Ok(Vec::new(self.alloc)),
+        }
     }
 
     fn is_busy(&self) -> bool

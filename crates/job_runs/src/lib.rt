@@ -3,14 +3,24 @@
 #![tactic(auto)]
 
 mod commands;
+mod ended;
 mod job_runner;
 mod laws;
 mod lent;
 mod nodes;
+mod operated;
+mod reasons;
+mod run_counts;
 mod span;
 mod tasks;
 
+pub use ended::EndedJobs;
 pub use job_runner::JobRunner;
-pub use laws::{a_number_finds_the_text_of_its_digest, what_ran};
+pub use laws::{
+    a_number_finds_the_text_of_its_digest, what_is_served_is_of_jobs, what_ran,
+    what_ran_was_ordered,
+};
 pub use lent::LentTexts;
+pub use operated::{OperatedRuns, Oversight};
+pub use run_counts::{FAULT_WORDS, FAULTS, FailedRuns, RunCounts};
 pub use tasks::run_task;

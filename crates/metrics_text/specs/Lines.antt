@@ -2,7 +2,7 @@
 use Rattle.std.specs.Prelude.{ℕ, List, [], ◌∷◌, ◌++◌, ◌+◌, ◌/◌, ◌%◌, ◌==◌, if◌then◌else◌, codes}
 use Rattle.std.specs.Fmt.{decimal}
 use Rattle.metrics_text.specs.declared.page.Kind.{Kind}
-use Rattle.metrics_text.specs.declared.page.Kind.TheVariants.{Counter, Gauge}
+use Rattle.metrics_text.specs.declared.page.Kind.TheVariants.{Counter, Gauge, Histogram}
 use Rattle.metrics_text.specs.declared.page.Family.{Family}
 use Rattle.metrics_text.specs.declared.page.Label.{Label}
 use Rattle.metrics_text.specs.declared.page.Value.{Value}
@@ -11,6 +11,7 @@ use Rattle.metrics_text.specs.declared.page.Value.TheVariants.{Whole, Millisecon
 abbrev pub kind_word : Kind → List ℕ
 kind_word Counter = codes "counter"
 kind_word Gauge = codes "gauge"
+kind_word Histogram = codes "histogram"
 
 -- a byte of a label's value: a backslash, a quotation mark and a line feed have a backslash before
 -- them, and the line feed is an n
@@ -51,7 +52,7 @@ family_lines family =
     codes "# HELP " ++ family.name.now ++ codes " " ++ family.help.now
     ++ codes "\n# TYPE " ++ family.name.now ++ codes " " ++ kind_word family.kind ++ codes "\n"
 
--- a sample of the family of this name, with the label of all samples and its own
+-- a sample under this name, with the label of all samples and its own
 abbrev pub sample_line : List ℕ → Label → List Label → Value → List ℕ
 sample_line name common labels value =
     name ++ labels_text common labels ++ codes " " ++ value_text value ++ codes "\n"

@@ -2,13 +2,9 @@
 #![tactic(auto)]
 
 mod families;
-mod figures;
+mod metrics;
 mod page;
-mod single;
 
-pub use crate::families::figures_text;
-pub use crate::figures::{
-    CallFigures, ConnectionFigures, Count, HitFigures, InstanceFigures, JobFigures, ServerFigures,
-    StoreFigures,
-};
+pub use crate::families::{InstanceMetrics, metrics_text};
+pub use crate::metrics::Metrics;
 pub use crate::page::{Family, Kind, Label, Page, Value};

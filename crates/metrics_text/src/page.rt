@@ -6,11 +6,12 @@ ghost use Rattle.std.specs.Fmt.{decimal};
 
 use std::alloc::{AllocError, Global};
 
-/// Whether samples only rise, or may fall too.
+/// Whether samples only rise, or may fall too, or say how often something was at most how much.
 #[derive(Clone, Copy, Debug, PartialEq, Eq)]
 pub enum Kind {
     Counter,
     Gauge,
+    Histogram,
 }
 
 /// What is said of all samples of one name.
@@ -42,6 +43,7 @@ fn kind_word(kind: Kind) -> &'static str
     match kind {
         Kind::Counter => "counter",
         Kind::Gauge => "gauge",
+        Kind::Histogram => "histogram",
     }
 }
 
@@ -184,19 +186,19 @@ impl<'a> Page<'a> {
         Ok(())
     }
 
-    /// Adds a sample of a family. It has the label of all samples, and then these.
+    /// Adds a sample under a name. It has the label of all samples, and then these.
     pub fn add_sample(
         &mut self,
-        family: &Family<'_>,
+        name: &str,
         labels: &[Label<'_>],
         value: Value,
     ) -> Result<(), AllocError>
         ensures ok { OnOk result (self.new.text.items ≡ self.old.text.items
-            ++ sample_line family.now.name.now self.old.common labels.now value) }
+            ++ sample_line name.now self.old.common labels.now value) }
         ensures common { self.new.common ≡ self.old.common }
     {
         let text = &mut self.text;
-        text.extend_from_slice(family.name.as_bytes())?;
+        text.extend_from_slice(name.as_bytes())?;
         add_labels(text, self.common, labels)?;
         text.push(b' ')?;
         add_value(self.alloc, text, value)?;

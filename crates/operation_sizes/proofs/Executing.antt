@@ -18,7 +18,7 @@ use Rattle.execution_messages.specs.Progress.{completed_text, finds}
 use Rattle.rpc.specs.declared.refusal.Refusal.{Refusal}
 use Rattle.rpc.specs.declared.refusal.Refusal.TheVariants.{ExecutionIsOff, QueueFull}
 use Rattle.actions.specs.Walk.{Nodes, bad_directory, missing, too_deep, too_many, walk}
-use Rattle.tree_calls.specs.Complete.{AreResultsWithin}
+use Rattle.tree_calls.specs.Complete.{LimitsValue, IsLimits, AreResultsWithin}
 use Rattle.execution.specs.Execute.{Does, ExecuteChange, ExecuteDone, ExecutionState, Pushes, Uses, by_job, by_looking, by_preparing, execute, look_in, looked_up, refused}
 use Rattle.execution.specs.Preparing.{FaultValue, PreparedValue, action_found, action_or_fault, command_found, fault_alone, job_of, met, prepared, prepared_with, with_command}
 use Rattle.operation_sizes.specs.Short.{HasForm}
@@ -134,17 +134,17 @@ module _ (s : ExecutionState) (d : Digest) (few : s.jobs.next ≤ LAST_NUMBER + 
       let short = missing_short s.jobs.next d f.fault f.missing few h faults.forms (omega arith) in
       record { answered = omega arith; changed = (omega arith, tt) }
 
-  looking_told : (o : Option (List ℕ)) → ((text : List ℕ) → o ≡ Some text → length text ≤ 67108864) → IsToldDone (by_looking s d o)
+  looking_told : (o : Option (List ℕ)) → ((text : List ℕ) → o ≡ Some text → length text ≤ 2147483648) → IsToldDone (by_looking s d o)
   looking_told None stored = preparing_told (prepared (look_in s) d) (preparing_few (look_in s) d h)
   looking_told (Some text) stored =
       let room = stored text refl in
       let short = found_short s.jobs.next d text few h (omega arith) in
       record { answered = omega arith; changed = (tt, after_uses (blobs_used (look_in s) d s.results) (Does (completed_text s.jobs.next d (finds text)) ∷ []) (omega arith, tt)) }
 
-pub execute_told : (slots : ℕ) (s : ExecutionState) (skip : Bool) (d : Digest) → s.jobs.next ≤ LAST_NUMBER + 1 → AreResultsWithin s.results → HasForm d → IsToldDone (execute slots s skip d)
-execute_told slots s skip d few within h = off (nat_eq slots 0) refl where
-  stored : (text : List ℕ) → looked_up skip (look_in s) d s.results ≡ Some text → length text ≤ 67108864
-  stored text is = let one = looked_up_short skip (look_in s) d s.results text is in let all = within.short in omega arith
+pub execute_told : (limits : LimitsValue) (slots : ℕ) (s : ExecutionState) (skip : Bool) (d : Digest) → s.jobs.next ≤ LAST_NUMBER + 1 → IsLimits limits → AreResultsWithin limits s.results → HasForm d → IsToldDone (execute slots s skip d)
+execute_told limits slots s skip d few good within h = off (nat_eq slots 0) refl where
+  stored : (text : List ℕ) → looked_up skip (look_in s) d s.results ≡ Some text → length text ≤ 2147483648
+  stored text is = let one = looked_up_short skip (look_in s) d s.results text is in let all = within.short in let most = good.short_results in omega arith
 
   left : (b : Bool) → nat_eq slots 0 ≡ false → nat_lt LAST_NUMBER s.jobs.next ≡ b → IsToldDone (execute slots s skip d)
   left true on none = rw (on, none) (refusal_told QueueFull)
@@ -154,5 +154,5 @@ execute_told slots s skip d few within h = off (nat_eq slots 0) refl where
   off true none = rw none (refusal_told ExecutionIsOff)
   off false on = left (nat_lt LAST_NUMBER s.jobs.next) on refl
 
-pub execute_short : (slots : ℕ) (s : ExecutionState) (skip : Bool) (d : Digest) → s.jobs.next ≤ LAST_NUMBER + 1 → AreResultsWithin s.results → HasForm d → IfOk (execute slots s skip d).answer IsShortExecuteAnswer
-execute_short slots s skip d few within h = (execute_told slots s skip d few within h).answered
+pub execute_short : (limits : LimitsValue) (slots : ℕ) (s : ExecutionState) (skip : Bool) (d : Digest) → s.jobs.next ≤ LAST_NUMBER + 1 → IsLimits limits → AreResultsWithin limits s.results → HasForm d → IfOk (execute slots s skip d).answer IsShortExecuteAnswer
+execute_short limits slots s skip d few good within h = (execute_told limits slots s skip d few good within h).answered

@@ -8,7 +8,7 @@ use Rattle.job_queue.specs.declared.queue.Running.{Running}
 use Rattle.job_queue.specs.declared.queue.TheConstants.{LAST_NUMBER, MOST_ENDED}
 use Rattle.job_queue.specs.Changes.{JobChange, pushes, does, starts, ends, forgets, jobs_after}
 use Rattle.job_queue.proofs.Orders.{all-append, all-drop}
-use Rattle.tree_calls.specs.Complete.{AreResultsWithin}
+use Rattle.tree_calls.specs.Complete.{LimitsValue, IsLimits, AreResultsWithin}
 use Rattle.execution.specs.Changes.{after_changes}
 use Rattle.execution.specs.Execute.{Does, ExecuteChange, ExecutionState, Keeps, Pushes, Uses, execute}
 use Rattle.execution.specs.Job.{JobValue}
@@ -81,5 +81,5 @@ changes_keep (Keeps results ∷ cs) s told h = changes_keep cs _ told.1 h
 changes_keep (Does operation ∷ cs) s told h = changes_keep cs _ told.1 (change_told (does operation) s.jobs told.0 h)
 changes_keep (Pushes job ∷ cs) s told h = changes_keep cs _ told.1 (change_told (pushes job) s.jobs told.0 h)
 
-pub execute_keeps : (slots : ℕ) (s : ExecutionState) (skip : Bool) (d : Digest) → s.jobs.next ≤ LAST_NUMBER + 1 → AreResultsWithin s.results → HasForm d → AreTold s.jobs → AreTold (after_changes (execute slots s skip d).changes s).jobs
-execute_keeps slots s skip d few within form h = changes_keep (execute slots s skip d).changes s (execute_told slots s skip d few within form).changed h
+pub execute_keeps : (limits : LimitsValue) (slots : ℕ) (s : ExecutionState) (skip : Bool) (d : Digest) → s.jobs.next ≤ LAST_NUMBER + 1 → IsLimits limits → AreResultsWithin limits s.results → HasForm d → AreTold s.jobs → AreTold (after_changes (execute slots s skip d).changes s).jobs
+execute_keeps limits slots s skip d few good within form h = changes_keep (execute slots s skip d).changes s (execute_told limits slots s skip d few good within form).changed h

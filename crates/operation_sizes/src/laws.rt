@@ -11,7 +11,7 @@ ghost use Rattle.instance_view.specs.Visible.{Blob};
 ghost use Rattle.input_tree.specs.Listing.{Lookup};
 ghost use Rattle.quota_evict.specs.Within.{AreBlobsWithin};
 ghost use Rattle.cas_service.specs.Requests.{digest_or_refusal};
-ghost use Rattle.tree_calls.specs.Complete.{AreResultsWithin};
+ghost use Rattle.tree_calls.specs.Complete.{LimitsValue, IsLimits, AreResultsWithin};
 ghost use Rattle.job_queue.specs.Jobs.{Jobs, no_jobs, running_job};
 ghost use Rattle.job_queue.specs.Order.{AreJobs};
 ghost use Rattle.job_queue.specs.declared.queue.TheConstants.{LAST_NUMBER};
@@ -86,8 +86,9 @@ pub fn runs_are_told_shortly()
 pub fn answers_to_execute_are_short()
     ensures missing { (look : Lookup) (d : Digest) (f : FaultValue) → HasForm d →
         prepared look d ≡ Err f → length f.missing ≤ 10_002 }
-    ensures short { (slots : ℕ) (s : ExecutionState) (skip : Bool) (d : Digest) →
-        s.jobs.next ≤ LAST_NUMBER + 1 → AreResultsWithin s.results → HasForm d →
+    ensures short { (limits : LimitsValue) (slots : ℕ) (s : ExecutionState) (skip : Bool)
+        (d : Digest) → s.jobs.next ≤ LAST_NUMBER + 1 → IsLimits limits →
+        AreResultsWithin limits s.results → HasForm d →
         IfOk (execute slots s skip d).answer IsShortExecuteAnswer }
 {}
 
@@ -121,8 +122,9 @@ pub fn steps_are_told_shortly()
 /// Jobs stay so that all that is told of them is short.
 pub fn jobs_stay_told()
     ensures opening { AreTold no_jobs }
-    ensures execute { (slots : ℕ) (s : ExecutionState) (skip : Bool) (d : Digest) →
-        s.jobs.next ≤ LAST_NUMBER + 1 → AreResultsWithin s.results → HasForm d →
+    ensures execute { (limits : LimitsValue) (slots : ℕ) (s : ExecutionState) (skip : Bool)
+        (d : Digest) → s.jobs.next ≤ LAST_NUMBER + 1 → IsLimits limits →
+        AreResultsWithin limits s.results → HasForm d →
         AreTold s.jobs → AreTold (after_changes (execute slots s skip d).changes s).jobs }
     ensures steps { (steps : List StepValue) (jobs : Jobs JobValue) → AreToldShortly steps →
         AreTold jobs → AreTold (jobs_after_steps steps jobs) }

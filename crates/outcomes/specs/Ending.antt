@@ -3,7 +3,7 @@
 use Rattle.std.specs.Prelude.{ℕ, ℤ, pos, Bool, false, List, [], nat_lt, option_map, unwrap_or, ◌==◌, ◌&&◌, map, Option, Some, None, if◌then◌else◌}
 use Rattle.digest.specs.declared.Digest.{Digest}
 use Rattle.instance_view.specs.Visible.{Blob}
-use Rattle.action_cache.specs.Results.{results_after_store}
+use Rattle.action_cache.specs.Results.{LimitsValue, results_after_store}
 use Rattle.cas_service.specs.Changes.{TextChange, Store}
 use Rattle.actions.specs.Commands.{AskedOutput, asked_outputs, command_in}
 use Rattle.execution_messages.specs.declared.fault.Fault.TheVariants.{QuotaExceeded, RunFailed}
@@ -62,6 +62,6 @@ abbrev pub admissions : List Blob → List TextChange
 admissions blobs = map admission_of blobs
 
 -- the results with the one that is stored; one that is too long changes nothing
-abbrev pub results_with : Digest → Option (List ℕ) → List Blob → List Blob
-results_with action None results = results
-results_with action (Some text) results = results_after_store action text results
+abbrev pub results_with : LimitsValue → Digest → Option (List ℕ) → List Blob → List Blob
+results_with limits action None results = results
+results_with limits action (Some text) results = results_after_store limits action text results

@@ -20,9 +20,6 @@ use digest::Digest;
 use instance_view::View;
 use std::alloc::AllocError;
 
-/// How many texts an instance has at most.
-pub const MOST_BLOBS: usize = 65_536;
-
 /// Why a text was not admitted.
 #[derive(Clone, Copy, Debug, PartialEq, Eq)]
 pub enum AdmitError {

@@ -1,7 +1,8 @@
 //! `remoted check`.
 
 use crate::exit::{DONE, Exit};
-use crate::serve_ports::{ip_of, is_memory};
+use crate::options::ip_of;
+use crate::serve_ports::is_memory;
 use command_line::Question;
 use port_check::{Answer, ask, question_bytes};
 use std::io::{self, Write};

@@ -4,23 +4,31 @@
 mod beginning;
 mod checking;
 mod clock;
+mod ending;
 mod exit;
 mod figures;
+mod instance_figures;
 mod notices;
 mod operator;
+mod options;
+mod pieces;
 mod process;
+mod refusals;
 mod serve_ports;
 mod standard_error;
+mod telling;
 mod watching;
 
 use crate::checking::check_port;
 use crate::exit::{DONE, Exit, FAILED};
 use crate::process::{open_streams, words_of};
 use crate::serve_ports::serve_ports;
+use crate::telling::tell_figures;
 use command_line::{CommandLineError, Invocation, parse};
 use probe::{Request, probe};
 use program_status::{Fault, Status, read_file};
 use replay::replay;
+use server_events::Limits;
 use std::io::{self, BufWriter, ErrorKind, Write};
 use std::net::{Ipv4Addr, SocketAddr, TcpStream};
 use std::process::ExitCode;
@@ -33,10 +41,11 @@ enum Script {
     Events,
 }
 
-/// Carries out the script of a file, and says how the program ends.
+/// Carries out the script of a file by instances with these numbers, and says how the program ends.
 fn carry_out_file<O: Write, E: Write>(
     rt: &HostRuntime,
     script: Script,
+    limits: Limits,
     file: &str,
     output: &mut O,
     errors: &mut E,
@@ -46,8 +55,8 @@ fn carry_out_file<O: Write, E: Write>(
     };
     let mut input = text.as_slice();
     let status = match script {
-        Script::Calls => unary(rt.alloc(), &mut input, output, errors),
-        Script::Events => replay(rt.alloc(), &mut input, output, errors),
+        Script::Calls => unary(rt.alloc(), limits, &mut input, output, errors),
+        Script::Events => replay(rt.alloc(), limits, &mut input, output, errors),
     };
     Ok(Exit::With(status))
 }
@@ -104,14 +113,17 @@ fn perform<O: Write, E: Write>(
     errors: &mut E,
 ) -> io::Result<Exit> {
     match invocation {
-        Invocation::Unary { file: Some(file) } => {
-            carry_out_file(rt, Script::Calls, file, output, errors)
-        }
-        Invocation::Unary { file: None } => {
-            let status = unary(rt.alloc(), &mut rt.stdin(), output, errors);
+        Invocation::Unary {
+            file: Some(file),
+            limits,
+        } => carry_out_file(rt, Script::Calls, *limits, file, output, errors),
+        Invocation::Unary { file: None, limits } => {
+            let status = unary(rt.alloc(), *limits, &mut rt.stdin(), output, errors);
             Ok(Exit::With(status))
         }
-        Invocation::Replay { file } => carry_out_file(rt, Script::Events, file, output, errors),
+        Invocation::Replay { file, limits } => {
+            carry_out_file(rt, Script::Events, *limits, file, output, errors)
+        }
         Invocation::Probe {
             port,
             send,
@@ -119,6 +131,9 @@ fn perform<O: Write, E: Write>(
             turns,
         } => probe_with_file(rt, *port, send, (*want, *turns), output, errors),
         Invocation::Check(question) => check_port(rt, *question, output, errors),
+        Invocation::Figures { metrics, instance } => {
+            tell_figures(rt, metrics, *instance, output, errors)
+        }
         Invocation::Serve(service) => serve_ports(rt, service, output, errors),
     }
 }

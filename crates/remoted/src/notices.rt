@@ -1,12 +1,13 @@
 //! Lines for what an operator has to know of an instance: how often it came since the last line.
 
-use crate::figures::{FAULTS, RESOURCE_EXHAUSTED};
+use crate::instance_figures::FAULTS;
+use crate::pieces::Turns;
+use crate::refusals::{CAUSES, REFUSALS};
 use crate::standard_error::StandardError;
 use crate::watching::Due;
 use host_folders::FolderCounts;
 use host_sockets::SocketCounts;
 use instance_core::InstanceSizes;
-use rpc::Method;
 use serve::{ErrorLines, InstanceCounts, Sight};
 use server_events::Configs;
 use std::alloc::{AllocError, Global};
@@ -49,13 +50,15 @@ impl YoungDrops {
 #[derive(Clone, Copy)]
 struct Seen {
     counts: InstanceCounts,
-    uploads: u64,
-    actions: u64,
+    /// By cause.
+    refused: [u64; CAUSES],
     drops: YoungDrops,
     /// How often a run was kept from beginning by folders that are to be removed.
     held: u64,
     /// Whether one was since it was looked before.
     is_held: bool,
+    /// How many runs had left links in their output directories.
+    links: u64,
 }
 
 /// Lines about each instance, and about the ports of all.
@@ -148,8 +151,7 @@ impl Notices {
     pub fn new(alloc: Global, instances: usize) -> Result<Notices, AllocError> {
         let nothing = Seen {
             counts: InstanceCounts::new(),
-            uploads: 0,
-            actions: 0,
+            refused: [0; CAUSES],
             drops: YoungDrops {
                 seen: 0,
                 untold: 0,
@@ -157,6 +159,7 @@ impl Notices {
             },
             held: 0,
             is_held: false,
+            links: 0,
         };
         Ok(Notices {
             seen: vec![in alloc; nothing; instances]?,
@@ -169,7 +172,7 @@ impl Notices {
         &mut self,
         alloc: Global,
         configs: &Configs,
-        sight: &Sight<'_>,
+        (sight, turns): (&Sight<'_>, &Turns),
         (folders, sockets): (&FolderCounts, &SocketCounts),
         lines: &mut ErrorLines<StandardError>,
     ) {
@@ -178,7 +181,9 @@ impl Notices {
         for (seen, config) in self.seen.iter_mut().zip(configs.instances()) {
             let name = config.name.as_str();
             tell_instance(alloc, name, number, sight, lines, seen);
+            tell_refused(alloc, name, turns.refused(number), lines, seen);
             tell_folders(alloc, name, number, folders, lines, seen);
+            tell_links(alloc, name, number, folders, lines, seen);
             number = number.saturating_add(1);
         }
     }
@@ -218,31 +223,25 @@ fn tell_instance(
     let Some(counts) = sight.counts.instances().get(number as usize) else {
         return;
     };
-    let (sizes, calls) = (served.instance().sizes(), served.instance().call_counts());
-    let uploads = calls.of(Method::Write).ended[RESOURCE_EXHAUSTED];
-    let actions = calls.of(Method::Execute).ended[RESOURCE_EXHAUSTED];
     tell_connections(alloc, lines, name, &seen.counts, counts);
-    tell_more(
-        alloc,
-        lines,
-        name,
-        "uploads refused",
-        (seen.uploads, uploads),
-    );
-    tell_more(
-        alloc,
-        lines,
-        name,
-        "actions refused, the queue is full",
-        (seen.actions, actions),
-    );
+    let sizes = served.instance().sizes();
     tell_dropped(alloc, lines, name, sight.moment, &sizes, &mut seen.drops);
-    *seen = Seen {
-        counts: *counts,
-        uploads,
-        actions,
-        ..*seen
-    };
+    seen.counts = *counts;
+}
+
+/// Tells what was refused, a line for each cause.
+fn tell_refused(
+    alloc: Global,
+    name: &str,
+    refused: [u64; CAUSES],
+    lines: &mut ErrorLines<StandardError>,
+    seen: &mut Seen,
+) {
+    let counts = seen.refused.iter().zip(refused.iter());
+    for ((was, is), cause) in counts.zip(REFUSALS.iter()) {
+        tell_more(alloc, lines, name, cause.line, (*was, *is));
+    }
+    seen.refused = refused;
 }
 
 /// Tells when folders that are to be removed begin to keep runs from beginning.
@@ -267,4 +266,23 @@ fn tell_folders(
     }
     seen.held = held;
     seen.is_held = is_held;
+}
+
+/// Tells how many runs left links in their output directories, and which was the last.
+fn tell_links(
+    alloc: Global,
+    name: &str,
+    number: u32,
+    folders: &FolderCounts,
+    lines: &mut ErrorLines<StandardError>,
+    seen: &mut Seen,
+) {
+    let (links, last) = (folders.links(number), folders.last_with_links(number));
+    let what: Result<String, AllocError> = format!(in alloc;
+        "runs with links in their output directories, the last is {last}"
+    );
+    if let Ok(what) = what {
+        tell_more(alloc, lines, name, what.as_str(), (seen.links, links));
+    }
+    seen.links = links;
 }

@@ -1,15 +1,18 @@
 //! What an operator is told of a server while it serves, and how it is ended.
 
-use crate::figures::{JobTimes, Turns, figures_of};
+use crate::ending::EndFile;
+use crate::figures::{JobTimes, figures_text};
 use crate::notices::Notices;
+use crate::pieces::Turns;
 use crate::standard_error::StandardError;
 use crate::watching::{MetricsFile, StopFile};
 use command_line::{Service, VERSION};
 use host_folders::FolderCounts;
 use host_sockets::{HostSockets, SocketCounts};
-use host_wires::ThisHost;
+use host_wires::{ThisHost, TurnClock};
+use job_runs::Oversight;
 use serve::{ErrorLines, Sight, Watch};
-use server_events::{Configs, InstanceConfig};
+use server_events::{Configs, InstanceConfig, Limits};
 use std::alloc::{AllocError, Global};
 use std::net::SocketAddr;
 
@@ -31,15 +34,44 @@ fn instance_line(
     }
 }
 
+/// Whether these are the numbers that instances have where none are chosen.
+fn are_usual(limits: Limits) -> bool {
+    let usual = Limits::usual();
+    limits.blobs() == usual.blobs()
+        && limits.results() == usual.results()
+        && limits.result_bytes() == usual.result_bytes()
+        && limits.window() == usual.window()
+}
+
+/// The line on the numbers of all instances.
+fn numbers_line(alloc: Global, limits: Limits) -> Result<String, AllocError> {
+    let (blobs, results) = (limits.blobs(), limits.results());
+    let (bytes, window) = (limits.result_bytes(), limits.window());
+    format!(in alloc;
+        "remoted: each keeps {blobs} blobs, and {results} results of {bytes} bytes, and has windows \
+         of {window} bytes\n"
+    )
+}
+
+/// What is counted beside the server: folders, jobs that were ended, what the system refuses, and
+/// turns.
+#[derive(Clone, Copy)]
+pub struct Counters<'a> {
+    pub folders: &'a FolderCounts,
+    pub oversight: &'a Oversight,
+    pub sockets: &'a SocketCounts,
+    pub turns: &'a TurnClock,
+}
+
 /// Whoever watches a server for its operator.
 #[derive(Drop)]
 pub struct Operator<'a> {
     rt: &'a HostRuntime,
     configs: &'a Configs,
-    folders: &'a FolderCounts,
-    sockets: &'a SocketCounts,
+    counters: Counters<'a>,
     metrics: Option<MetricsFile<'a>>,
     stop: Option<StopFile<'a>>,
+    end: Option<EndFile<'a>>,
     notices: Notices,
     lines: ErrorLines<StandardError>,
     times: JobTimes,
@@ -52,23 +84,23 @@ impl<'a> Operator<'a> {
     pub fn new(
         rt: &'a HostRuntime,
         configs: &'a Configs,
-        folders: &'a FolderCounts,
-        sockets: &'a SocketCounts,
+        counters: Counters<'a>,
         metrics: Option<MetricsFile<'a>>,
         stop: Option<StopFile<'a>>,
+        end: Option<EndFile<'a>>,
     ) -> Result<Operator<'a>, AllocError> {
         let count = configs.instances().len();
         Ok(Operator {
             rt,
             configs,
-            folders,
-            sockets,
+            counters,
             metrics,
             stop,
+            end,
             notices: Notices::new(rt.alloc(), count)?,
             lines: ErrorLines::new(rt.alloc(), StandardError::new(rt), count)?,
             times: JobTimes::new(rt.alloc(), count)?,
-            turns: Turns::new(rt),
+            turns: Turns::new(rt, count)?,
             noticed: 0,
         })
     }
@@ -94,11 +126,17 @@ impl<'a> Operator<'a> {
                 self.tell(instance_line(alloc, config, address));
             }
         }
+        if !are_usual(service.limits) {
+            self.tell(numbers_line(alloc, service.limits));
+        }
         if let Some(path) = service.metrics {
             self.tell(format!(in alloc; "remoted: figures are written to {path}\n"));
         }
         if let Some(path) = service.stop {
             self.tell(format!(in alloc; "remoted: ends once {path} is there\n"));
+        }
+        if let Some(path) = service.end {
+            self.tell(format!(in alloc; "remoted: jobs are ended by the lines of {path}\n"));
         }
         if service.turns != u64::MAX {
             let turns = service.turns;
@@ -126,20 +164,30 @@ impl<'a> Operator<'a> {
         if !metrics.is_due(sight.moment) {
             return;
         }
-        let figures = figures_of(
+        let text = figures_text(
             self.rt,
             self.configs,
             sight,
             &self.times,
-            (self.folders, self.sockets),
+            &self.counters,
             &mut self.turns,
             metrics.path(),
         );
         // Where memory is refused the file stays as it is until the next time.
-        if let Ok(figures) = figures {
-            if let Some(line) = metrics.write(&figures, sight.moment) {
+        if let Ok(text) = text {
+            if let Some(line) = metrics.write(&text, sight.moment) {
                 self.lines.write_line(line.as_str());
             }
+        }
+    }
+
+    /// Has jobs ended where the operator wants that, and tells of it, line by line.
+    fn end_jobs(&mut self, sight: &Sight<'_>) {
+        let Some(end) = &mut self.end else {
+            return;
+        };
+        for line in end.look(sight).iter() {
+            self.lines.write_line(line.as_str());
         }
     }
 
@@ -152,8 +200,8 @@ impl<'a> Operator<'a> {
         self.notices.tell(
             self.rt.alloc(),
             self.configs,
-            sight,
-            (self.folders, self.sockets),
+            (sight, &self.turns),
+            (self.counters.folders, self.counters.sockets),
             &mut self.lines,
         );
     }
@@ -161,8 +209,10 @@ impl<'a> Operator<'a> {
 
 impl Watch for Operator<'_> {
     fn look(&mut self, sight: &Sight<'_>) -> bool {
-        self.turns.add(self.rt, sight);
+        self.turns
+            .add(self.rt, sight, self.counters.turns, &self.times);
         self.times.pass(sight);
+        self.end_jobs(sight);
         self.tell_notices(sight);
         self.write_figures(sight);
         match &mut self.stop {

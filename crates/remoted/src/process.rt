@@ -72,3 +72,27 @@ fn ignored(rt: &HostRuntime) -> Option<u64> {
     let digits = text.lines().find_map(|line| line.strip_prefix("SigIgn:"))?;
     u64::from_str_radix(digits.trim(), 16).ok()
 }
+
+/// The bytes of memory that this process has now, if the system tells.
+pub fn resident(rt: &HostRuntime) -> Option<u64> {
+    let text = fs::read_to_string(rt, "/proc/self/status").ok()?;
+    let line = text.lines().find_map(|line| line.strip_prefix("VmRSS:"))?;
+    let kilobytes = line.trim().split(' ').next()?;
+    kilobytes.parse::<u64>().ok()?.checked_mul(1024)
+}
+
+/// The milliseconds of processor time that this process has used, if the system tells.
+pub fn processor_milliseconds() -> Option<u64> {
+    let mut time = libc::types::timespec {
+        tv_sec: 0,
+        tv_nsec: 0,
+    };
+    if libc::clock_gettime(libc::CLOCK_PROCESS_CPUTIME_ID, &mut time) != 0 {
+        return None;
+    }
+    let seconds = u64::try_from(time.tv_sec).ok()?;
+    let nanoseconds = u64::try_from(time.tv_nsec).ok()?;
+    seconds
+        .checked_mul(1000)?
+        .checked_add(nanoseconds / 1_000_000)
+}

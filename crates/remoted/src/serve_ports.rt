@@ -2,6 +2,7 @@
 
 ghost use Rattle.std.specs.Prelude.{◌≡◌, map, is_some, IfOk, IfSome, string_bytes};
 ghost use Rattle.std.specs.Net.Socket.{socket_port};
+ghost use Rattle.server_events.specs.LimitsShown.{limits_value};
 ghost use Rattle.instance_words.specs.Words.{AreWordsOf};
 ghost use Rattle.host_sockets.specs.Ports.{ListensAt, addresses};
 ghost use Rattle.remoted.specs.Launching.{KnowsInstances};
@@ -10,18 +11,20 @@ use crate::beginning::{
     begin, can_open, can_run, can_write, guard_against_leases, keep_freed_memory, slots_of,
 };
 use crate::clock::milliseconds_between;
+use crate::ending::EndFile;
 use crate::exit::{DONE, Exit, FAILED};
-use crate::operator::Operator;
+use crate::operator::{Counters, Operator};
+use crate::options::{Options, options_of};
 use crate::standard_error::StandardError;
 use crate::watching::{MetricsFile, StopFile};
 use command_line::Service;
-use host_folders::{FolderCounts, HostFolder, Work};
+use host_folders::{FolderCounts, HostFolder, Links, Work};
 use host_programs::{HostPrograms, HostSpawner, Launcher, launcher_path};
 use host_shells::Sessions;
 use host_sockets::{HostSockets, ListenError, SocketCounts};
-use host_wires::ThisHost;
+use host_wires::{ThisHost, TurnClock};
 use instance_words::{Instances, InstancesFault, instances_of, mistake_of};
-use job_runs::JobRunner;
+use job_runs::{JobRunner, OperatedRuns, Oversight};
 use keyed_maps::MapKey;
 use serve::{ErrorLines, Sockets, Tally, serve};
 use server_events::Configs;
@@ -29,6 +32,7 @@ use std::alloc::{AllocError, Global};
 use std::io::{self, ErrorKind, Write};
 use std::net::{IpAddr, Ipv4Addr, SocketAddr};
 use std::random::RandomSource;
+use std::rc::Rc;
 use std::time::{Duration, Instant};
 use std::{fs, thread};
 
@@ -37,7 +41,7 @@ use std::{fs, thread};
 const MOST_ENDING: u64 = 15_000;
 
 /// What runs actions on this host.
-type Runner<'a> = JobRunner<HostFolder<'a>, HostPrograms<'a, HostRuntime, HostSpawner<'a>>>;
+type Runner<'a> = OperatedRuns<'a, HostFolder<'a>, HostPrograms<'a, HostRuntime, HostSpawner<'a>>>;
 
 pub fn is_memory(error: &io::Error) -> bool {
     error.kind() == ErrorKind::OutOfMemory
@@ -65,13 +69,14 @@ fn tell_fault<E: Write>(words: &[&str], fault: InstancesFault, errors: &mut E) -
 /// listening on one, that is told, and there are none.
 fn listen<'a, E: Write>(
     rt: &'a HostRuntime,
+    host: ThisHost<'a>,
     ip: IpAddr,
     ports: &[u16],
     errors: &mut E,
 ) -> io::Result<Option<HostSockets<'a, ThisHost<'a>>>>
     ensures { IfOk result (λ found. IfSome found (ListensAt ip ports.now)) }
 {
-    match HostSockets::listen(ThisHost::new(rt)?, rt.alloc(), ip, ports) {
+    match HostSockets::listen(host, rt.alloc(), ip, ports) {
         Ok(sockets) => Ok(Some(sockets)),
         Err(ListenError::Port(address, error)) if !is_memory(&error) => {
             tell_taken(address, &error, errors)?;
@@ -81,14 +86,16 @@ fn listen<'a, E: Write>(
     }
 }
 
-/// Tells that there is no listening at an address, which is named where it is not the usual one.
+/// Tells that there is no listening at an address, which is named where it is not the usual one,
+/// and why, on a line of its own.
 fn tell_taken<E: Write>(address: SocketAddr, error: &io::Error, errors: &mut E) -> io::Result<()> {
+    let port = address.port();
     if address.ip() == IpAddr::V4(Ipv4Addr::LOCALHOST) {
-        let port = address.port();
-        writeln!(errors, "remoted: cannot listen on {port}: {error}")
+        writeln!(errors, "remoted: cannot listen on {port}")?;
     } else {
-        writeln!(errors, "remoted: cannot listen on {address}: {error}")
+        writeln!(errors, "remoted: cannot listen on {address}")?;
     }
+    writeln!(errors, "remoted: port {port}: {error}")
 }
 
 /// What came of telling something after which the server goes on: it does so where the line could
@@ -174,7 +181,8 @@ fn place_of<E: Write>(
 fn job_runner<'a, E: Write>(
     rt: &'a HostRuntime,
     work: Work,
-    folders: &'a FolderCounts,
+    links: Links,
+    shared: (&'a FolderCounts, &'a Oversight),
     launcher: Option<Launcher>,
     instances: &Instances,
     errors: &mut E,
@@ -182,13 +190,16 @@ fn job_runner<'a, E: Write>(
     requires launcher { IfSome launcher (KnowsInstances instances.now.configs) }
 {
     let path = String::from_str(rt.alloc(), work.path())?;
-    let mut folder = HostFolder::new(rt, work, folders);
+    let (folders, oversight) = shared;
+    let failure = &oversight.failure;
+    let mut folder = HostFolder::new(rt, work, links, folders, failure);
     if slots_of(instances) > 0 {
         guard_against_leases(rt, &mut folder, errors)?;
     }
     let (sessions, spawner) = (Sessions::new(rt), HostSpawner::new(rt));
-    let programs = HostPrograms::new(rt, sessions, spawner, path, launcher);
-    Ok(JobRunner::new(rt.alloc(), folder, programs, slots_of(instances))?)
+    let programs = HostPrograms::new(rt, sessions, spawner, path, launcher, failure);
+    let runs = JobRunner::new(rt.alloc(), folder, programs, slots_of(instances))?;
+    Ok(OperatedRuns::new(rt.alloc(), runs, oversight))
 }
 
 /// The milliseconds since a moment; 0 where the clock cannot be read.
@@ -224,8 +235,7 @@ fn end_runs(
 fn operator_of<'a>(
     rt: &'a HostRuntime,
     configs: &'a Configs,
-    folders: &'a FolderCounts,
-    refusals: &'a SocketCounts,
+    counters: Counters<'a>,
     service: &Service<'a>,
 ) -> Result<Operator<'a>, AllocError> {
     let metrics = match service.metrics {
@@ -236,7 +246,11 @@ fn operator_of<'a>(
         Some(path) => Some(StopFile::new(rt, path)),
         None => None,
     };
-    Operator::new(rt, configs, folders, refusals, metrics, stop)
+    let end = match service.end {
+        Some(path) => Some(EndFile::new(rt, path, configs, &counters.oversight.ended)),
+        None => None,
+    };
+    Operator::new(rt, configs, counters, metrics, stop, end)
 }
 
 /// Removes the folder of this start where runs were, unless something is left in it: the next start
@@ -263,8 +277,7 @@ fn serve_turns(
     instances: &Instances,
     mut sockets: HostSockets<'_, ThisHost<'_>>,
     runs: &mut Runner<'_>,
-    folders: &FolderCounts,
-    refusals: &SocketCounts,
+    counters: Counters<'_>,
     service: &Service<'_>,
 ) -> Result<(), AllocError>
     requires ports { map socket_port (addresses sockets) ≡ instances.now.ports.items }
@@ -272,7 +285,7 @@ fn serve_turns(
     let (alloc, configs) = (rt.alloc(), &instances.configs);
     let count = configs.instances().len();
     let mut lines = ErrorLines::new(alloc, StandardError::new(rt), count)?;
-    let mut operator = operator_of(rt, configs, folders, refusals, service)?;
+    let mut operator = operator_of(rt, configs, counters, service)?;
     operator.tell_start(&sockets, service);
     let served = serve(
         alloc,
@@ -323,17 +336,18 @@ fn is_stopped<E: Write>(
     Ok(true)
 }
 
-/// Serves these instances at an address. What the system refuses is counted there.
+/// Serves these instances as the options say. What the system refuses is counted there.
 fn serve_instances<'a, O: Write, E: Write>(
     rt: &'a HostRuntime,
     service: &Service<'_>,
-    address: IpAddr,
+    options: Options,
     instances: &Instances,
     refusals: &'a SocketCounts,
     output: &mut O,
     errors: &mut E,
 ) -> io::Result<Exit>
-    requires words { AreWordsOf (map (λ word. word.now) service.now.instances.items)
+    requires words { AreWordsOf (limits_value service.now.limits)
+        (map (λ word. word.now) service.now.instances.items)
         instances.now.ports.items instances.now.configs }
 {
     let Some(launcher) = launcher_of(rt, service, instances, errors)? else {
@@ -346,7 +360,9 @@ fn serve_instances<'a, O: Write, E: Write>(
         return Ok(FAILED);
     }
     let key = map_key(rt)?;
-    let Some(mut sockets) = listen(rt, address, &instances.ports, errors)? else {
+    let turns = Rc::new(rt.alloc(), TurnClock::new())?;
+    let host = ThisHost::with_clock(rt, turns.clone()?)?;
+    let Some(mut sockets) = listen(rt, host, options.address, &instances.ports, errors)? else {
         return Ok(FAILED);
     };
     sockets.count_in(refusals);
@@ -355,49 +371,20 @@ fn serve_instances<'a, O: Write, E: Write>(
     };
     let start = String::from_str(rt.alloc(), work.path())?;
     let folders = FolderCounts::new(rt.alloc(), instances.ports.len())?;
-    let mut runs = job_runner(rt, work, &folders, launcher, instances, errors)?;
+    let oversight = Oversight::new(rt.alloc(), instances.ports.len())?;
+    let shared = (&folders, &oversight);
+    let mut runs = job_runner(rt, work, options.links, shared, launcher, instances, errors)?;
     told(announce(&instances.configs, &sockets, output))?;
-    let ended = serve_turns(
-        rt, key, instances, sockets, &mut runs, &folders, refusals, service,
-    );
+    let counters = Counters {
+        folders: &folders,
+        oversight: &oversight,
+        sockets: refusals,
+        turns: turns.as_ref(),
+    };
+    let ended = serve_turns(rt, key, instances, sockets, &mut runs, counters, service);
     remove_start(rt, start.as_str());
     ended?;
     Ok(DONE)
-}
-
-/// Whether the figures would be written to the file that ends the server, or beside them.
-fn are_one_file(metrics: &str, stop: &str) -> bool {
-    metrics == stop || stop.strip_suffix(".new") == Some(metrics)
-}
-
-/// The address of the words. Where it is none, or another word is wrong, that is told, and there is
-/// no answer.
-fn address_of<E: Write>(service: &Service<'_>, errors: &mut E) -> io::Result<Option<IpAddr>> {
-    if service.work.is_empty() {
-        writeln!(errors, "remoted: --work names no folder")?;
-        return Ok(None);
-    }
-    if let (Some(metrics), Some(stop)) = (service.metrics, service.stop) {
-        if are_one_file(metrics, stop) {
-            writeln!(errors, "remoted: writing {metrics} would make {stop}")?;
-            return Ok(None);
-        }
-    }
-    ip_of("--listen", service.listen, errors)
-}
-
-/// The address that a word is; where it is none, that is told, and there is no answer.
-pub fn ip_of<E: Write>(option: &str, word: &str, errors: &mut E) -> io::Result<Option<IpAddr>> {
-    match word.parse::<IpAddr>() {
-        Ok(address) => Ok(Some(address)),
-        Err(_) => {
-            writeln!(
-                errors,
-                "remoted: {option} is no IPv4 or IPv6 address: {word}"
-            )?;
-            Ok(None)
-        }
-    }
 }
 
 /// Serves instances on ports of this host, and says how the program ends. An error is one of the
@@ -408,14 +395,14 @@ pub fn serve_ports<O: Write, E: Write>(
     output: &mut O,
     errors: &mut E,
 ) -> io::Result<Exit> {
-    let Some(address) = address_of(service, errors)? else {
+    let Some(options) = options_of(service, errors)? else {
         return Ok(Exit::BadWords);
     };
     keep_freed_memory(rt.alloc());
     let refusals = SocketCounts::new();
-    match instances_of(rt.alloc(), &service.instances) {
+    match instances_of(rt.alloc(), service.limits, &service.instances) {
         Ok(instances) => serve_instances(
-            rt, service, address, &instances, &refusals, output, errors,
+            rt, service, options, &instances, &refusals, output, errors,
         ),
         Err(fault) => tell_fault(&service.instances, fault, errors),
     }

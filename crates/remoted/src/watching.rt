@@ -1,7 +1,6 @@
 //! What an operator watches a server by: the file of its figures, and the file that ends it.
 
 use crate::serve_ports::is_memory;
-use metrics_text::{ServerFigures, figures_text};
 use std::alloc::AllocError;
 use std::fs::{self, File, OpenOptions};
 use std::io::{self, ErrorKind, Write};
@@ -78,8 +77,8 @@ impl<'a> MetricsFile<'a> {
 
     /// Writes the file anew, whole or not at all. Where that could not be done there is a line to
     /// be told, once until it goes well again.
-    pub fn write(&mut self, figures: &ServerFigures<'_>, moment: u64) -> Option<String> {
-        let Err(error) = self.replace(figures) else {
+    pub fn write(&mut self, text: &[u8], moment: u64) -> Option<String> {
+        let Err(error) = self.replace(text) else {
             self.is_told = false;
             return None;
         };
@@ -91,10 +90,9 @@ impl<'a> MetricsFile<'a> {
         format!(in self.rt.alloc(); "remoted: cannot write {path}: {error}\n").ok()
     }
 
-    fn replace(&self, figures: &ServerFigures<'_>) -> io::Result<()> {
-        let text = figures_text(self.rt.alloc(), figures)?;
+    fn replace(&self, text: &[u8]) -> io::Result<()> {
         let file = self.create_beside()?;
-        let replaced = self.put(file, &text);
+        let replaced = self.put(file, text);
         if replaced.is_err() {
             let _ = fs::remove_file(self.rt, self.beside.as_str());
         }
@@ -154,12 +152,4 @@ impl<'a> StopFile<'a> {
     pub fn ends(&mut self, moment: u64) -> bool {
         self.looking.take(moment) && matches!(self.is_there(), Ok(true))
     }
-}
-
-/// The bytes of memory that this process has now, if the system tells.
-pub fn resident(rt: &HostRuntime) -> Option<u64> {
-    let text = fs::read_to_string(rt, "/proc/self/status").ok()?;
-    let line = text.lines().find_map(|line| line.strip_prefix("VmRSS:"))?;
-    let kilobytes = line.trim().split(' ').next()?;
-    kilobytes.parse::<u64>().ok()?.checked_mul(1024)
 }

@@ -8,6 +8,7 @@ use Rattle.server_core.specs.Families.{family_in, family_events}
 use Rattle.server_core.specs.LoneOutput.{lone_output, strays}
 use Rattle.server_events.specs.Configs.{ConfigValue, parent_of}
 use Rattle.server_events.specs.Events.{EventValue}
+use Rattle.server_events.specs.Limits.{LimitsValue}
 use Rattle.execution.specs.Orders.{OrderValue, start, kill}
 use Rattle.script.specs.ResultLines.{sent_line, start_line, kill_line, refusal_line, stray_line}
 use Rattle.script.specs.ReplayScript.{ReplayScriptValue, replay_script_of}
@@ -65,6 +66,7 @@ abbrev pub printed_text_of : Result ReplayScriptValue ℕ → Result (List ℕ) 
 printed_text_of (Ok script) = Ok (printed_text script)
 printed_text_of (Err number) = Err number
 
--- what the script of a text prints, or the number of its first bad line
-abbrev pub text_printed_by : List ℕ → Result (List ℕ) ℕ
-text_printed_by text = printed_text_of (replay_script_of text)
+-- what the script of a text prints, where these limits were chosen for its instances, or the number
+-- of its first bad line
+abbrev pub text_printed_by : LimitsValue → List ℕ → Result (List ℕ) ℕ
+text_printed_by limits text = printed_text_of (replay_script_of limits text)

@@ -12,6 +12,7 @@ ghost use Rattle.server_core.specs.LoneOutput.{config_at, lone_output, strays};
 ghost use Rattle.server_core.specs.RunSoFar.{HasTaken};
 ghost use Rattle.server_core.specs.Shown.{output_at};
 ghost use Rattle.server_events.specs.Configs.{ConfigValue, config_fault, parent_of};
+ghost use Rattle.server_events.specs.LimitsShown.{limits_value};
 ghost use Rattle.server_events.specs.Shown.{config_value};
 
 use crate::lines::lines;
@@ -19,7 +20,7 @@ use program_status::{Status, read_all, told};
 use script::ScriptFault;
 use script::replay::{EventReader, ReplayScript, parse};
 use server_core::{Outputs, ServerRun};
-use server_events::{Configs, InstanceConfig};
+use server_events::{Configs, InstanceConfig, Limits};
 use std::alloc::{AllocError, Global};
 use std::io::{Read, Write};
 
@@ -79,45 +80,53 @@ fn carry_out(alloc: Global, script: ReplayScript) -> Result<Vec<u8>, AllocError>
 }
 
 /// What the script of a text prints.
-fn replayed(alloc: Global, text: &[u8]) -> Result<Vec<u8>, ScriptFault>
-    ensures printed { IfOk result (λ lines. text_printed_by text.now ≡ Ok lines.items) }
-    ensures fault { IfErr result (IsFaultOf (text_printed_by text.now)) }
+fn replayed(alloc: Global, limits: Limits, text: &[u8]) -> Result<Vec<u8>, ScriptFault>
+    ensures printed { IfOk result (λ lines.
+        text_printed_by (limits_value limits) text.now ≡ Ok lines.items) }
+    ensures fault { IfErr result (IsFaultOf (text_printed_by (limits_value limits) text.now)) }
 {
-    let script = parse(alloc, text)?;
+    let script = parse(alloc, limits, text)?;
     match carry_out(alloc, script) {
         Ok(lines) => Ok(lines),
         Err(_) => Err(ScriptFault::NoMemory),
     }
 }
 
-fn perform<I: Read, O: Write>(alloc: Global, input: &mut I, output: &mut O) -> Result<(), Status>
+fn perform<I: Read, O: Write>(
+    alloc: Global,
+    limits: Limits,
+    input: &mut I,
+    output: &mut O,
+) -> Result<(), Status>
     ensures { IfSome (I.remaining input.old)
-        (λ text. IsOutcome (text_printed_by text) (status_of result) (O.contents output.old)
-        (O.contents output.new)) }
+        (λ text. IsOutcome (text_printed_by (limits_value limits) text) (status_of result)
+        (O.contents output.old) (O.contents output.new)) }
 {
     let text = read_all(alloc, input)?;
-    let lines = replayed(alloc, &text)?;
+    let lines = replayed(alloc, limits, &text)?;
     match output.write_all(&lines) {
         Ok(()) => Ok(()),
         Err(_) => Err(Status::Failed),
     }
 }
 
-/// Reads a script of events, runs it on a server of its own, and writes what each instance sent on
-/// its connections, ordered of whoever runs jobs, and refused, and which events were no instance's.
-/// A fault is told in one line on `errors`. Where a line is bad, nothing is carried out.
+/// Reads a script of events, runs it on a server of its own, for whose instances these limits were
+/// chosen, and writes what each instance sent on its connections, ordered of whoever runs jobs, and
+/// refused, and which events were no instance's. A fault is told in one line on `errors`. Where a
+/// line is bad, nothing is carried out.
 pub fn replay<I: Read, O: Write, E: Write>(
     alloc: Global,
+    limits: Limits,
     input: &mut I,
     output: &mut O,
     errors: &mut E,
 ) -> Status
     ensures outcome { IfSome (I.remaining input.old)
-        (λ text. IsOutcome (text_printed_by text) result (O.contents output.old)
-        (O.contents output.new)) }
+        (λ text. IsOutcome (text_printed_by (limits_value limits) text) result
+        (O.contents output.old) (O.contents output.new)) }
     // Where the line could not be written, the status is `Failed`.
     ensures told { result ≢ Failed →
         Appends (E.contents errors.old) (E.contents errors.new) (fault_line result) }
 {
-    told(perform(alloc, input, output), errors)
+    told(perform(alloc, limits, input, output), errors)
 }

@@ -8,6 +8,7 @@ use Rattle.std.proofs.lemmas.Option.{slice_get_within, get_or_from_slice_get}
 use Rattle.server_events.specs.Configs.{ConfigValue, config_fault, parent_of}
 use Rattle.server_events.specs.Events.{EventValue}
 use Rattle.server_events.specs.Faults.{IsConfig}
+use Rattle.server_events.specs.Limits.{IsLimits}
 use Rattle.server_events.proofs.FaultLemmas.{none_is_good}
 use Rattle.served_instance.specs.Narrow.{IsNarrow}
 use Rattle.server_core.specs.Families.{Family, FamilyEvent, IsLimited, AreLimited, own_event, parent_event, event_in, family_in, family_event, family_events}
@@ -20,24 +21,29 @@ use Rattle.run_reading.proofs.ReadRuns.{blobs_read}
 
 -- ---- configurations
 
-limited : (config : ConfigValue) → IsConfig config → IsLimited config
-limited config good = record { quota = good.quota; slots = good.slots }
+-- what each of a server's configurations is
+abbrev AreGiven : List ConfigValue → Type 0
+AreGiven configs = All IsConfig configs × All (λ config. IsLimits config.limits) configs
 
-limited_at : (configs : List ConfigValue) (i : ℕ) (config : ConfigValue) → All IsConfig configs → slice_get configs i ≡ Some config → IsLimited config
+limited : (config : ConfigValue) → IsConfig config → IsLimits config.limits → IsLimited config
+limited config good chosen = record { quota = good.quota; slots = good.slots; limits = chosen }
+
+limited_at : (configs : List ConfigValue) (i : ℕ) (config : ConfigValue) → AreGiven configs → slice_get configs i ≡ Some config → IsLimited config
 limited_at configs i config each is =
-    let good : IsConfig (get_or configs i config) = each i config (slice_get_within configs i config is) in
-    limited config (subst IsConfig (get_or_from_slice_get configs i config config is) good)
+    let lt = slice_get_within configs i config is in
+    let same = get_or_from_slice_get configs i config config is in
+    limited config (subst IsConfig same (each.0 i config lt)) (subst (λ (c : ConfigValue). IsLimits c.limits) same (each.1 i config lt))
 
-some_limited : (configs : List ConfigValue) (parent : Option ℕ) → All IsConfig configs → IfSome (option_and_then (slice_get configs) parent) IsLimited
+some_limited : (configs : List ConfigValue) (parent : Option ℕ) → AreGiven configs → IfSome (option_and_then (slice_get configs) parent) IsLimited
 some_limited configs None each = tt
 some_limited configs (Some p) each = go (slice_get configs p) refl where
   go : (o : Option ConfigValue) → slice_get configs p ≡ o → IfSome o IsLimited
   go None is = tt
   go (Some config) is = limited_at configs p config each is
 
-pub family_limited : (configs : List ConfigValue) (i : ℕ) (config : ConfigValue) → config_fault configs ≡ None → slice_get configs i ≡ Some config → AreLimited (family_in configs config)
-family_limited configs i config none is =
-    let each : All IsConfig configs = ((none_is_good configs).0 none).good.each in
+pub family_limited : (configs : List ConfigValue) (i : ℕ) (config : ConfigValue) → config_fault configs ≡ None → All (λ (c : ConfigValue). IsLimits c.limits) configs → slice_get configs i ≡ Some config → AreLimited (family_in configs config)
+family_limited configs i config none chosen is =
+    let each : AreGiven configs = (((none_is_good configs).0 none).good.each, chosen) in
     record { own = limited_at configs i config each is; parent = some_limited configs (parent_of configs config) each }
 
 -- ---- events
@@ -73,7 +79,7 @@ gives_well family events limits narrow = record {
   within = run_within family events limits narrow;
 }
 
-pub all_give_well : (configs : List ConfigValue) (events : List EventValue) (i : ℕ) (config : ConfigValue) → config_fault configs ≡ None → AllByRecursion IsNarrow events → slice_get configs i ≡ Some config
+pub all_give_well : (configs : List ConfigValue) (events : List EventValue) (i : ℕ) (config : ConfigValue) → config_fault configs ≡ None → All (λ (c : ConfigValue). IsLimits c.limits) configs → AllByRecursion IsNarrow events → slice_get configs i ≡ Some config
     → GivesWell (family_in configs config) (family_events i (parent_of configs config) events)
-all_give_well configs events i config none narrow is =
-    gives_well (family_in configs config) (family_events i (parent_of configs config) events) (family_limited configs i config none is) (events_narrow i (parent_of configs config) events narrow)
+all_give_well configs events i config none chosen narrow is =
+    gives_well (family_in configs config) (family_events i (parent_of configs config) events) (family_limited configs i config none chosen is) (events_narrow i (parent_of configs config) events narrow)

@@ -24,7 +24,7 @@ use Rattle.conn_core.specs.declared.event.CallEvent.TheVariants as Seen
 use Rattle.conn_core.specs.Calls.{is_call, cancels, answer_to_head, items_at_once}
 use Rattle.conn_core.specs.Received.{received_raw_frames, outcome}
 use Rattle.conn_core.specs.Past.{Past, new_past, owed_with_items, with_frame, with_fault, with_taken, with_pumped, with_bytes}
-use Rattle.instance_core.specs.State.{InstanceState}
+use Rattle.instance_core.specs.State.{InstanceState, LimitsValue}
 use Rattle.instance_core.specs.Visible.{Blob}
 use Rattle.served_instance.proofs.LimitsKept.{AreNamed}
 use Rattle.instance_core.specs.Calls.{CallEventValue, IsShortEvent, tick as time_passes, start_jobs, end_late_jobs, end_job}
@@ -49,6 +49,7 @@ use Rattle.served_instance.proofs.Brought.{IsShortCall, short_on, frame_short}
 use Rattle.run_reading.proofs.Connections.{HasPast, ArePasts}
 use Rattle.run_reading.specs.Happenings.{Happening, MomentCame, EventOver, TimePassed, connection_place, call_happenings, due_happenings, answer_happenings, request_happenings, frame_happenings, happenings_of_frames, fault_happenings, end_happenings, reading_happenings, happenings_of_bytes, close_happenings, happenings_by, happenings_unless, step_happenings, family_happenings, happenings, place_of_call, turn_happenings}
 use Rattle.run_reading.specs.Replies.{GivenItems, given_items_at, state_after_happening, given_items_from}
+use Rattle.run_reading.proofs.Chosen.{limits_after}
 use Rattle.run_reading.proofs.Lifts.{frame_made, fault_made, happened_made, acted_made, pumped_made, bytes_made, all_drop}
 use Rattle.run_reading.proofs.Owes.{OwedFrom, Gift, give, gifts_on, Gives, AreBelow, all_owed, closed_owed, opened_owed, below_more, all_length, closed_length, open_step, none_open, open_has}
 use Rattle.run_reading.proofs.Named.{IsShortHappening}
@@ -105,10 +106,10 @@ pub record Moves (N : Type 0) (l : LoneInstance) (hs : List Happening) (m : Lone
   pub short : N → (gs : List GivenItems) → Holds gs l → AllByRecursion IsShortHappening hs
 
 -- the same connections are owed the same
-holds_at : (gs : List GivenItems) (l m : LoneInstance) → m.connections ≡ l.connections → Holds gs l → Holds gs m
-holds_at gs l m same h = record {
+holds_at : (gs : List GivenItems) (l m : LoneInstance) → m.state.limits ≡ l.state.limits → m.connections ≡ l.connections → Holds gs l → Holds gs m
+holds_at gs l m chosen same h = record {
   owes = record { owed = subst (λ (ks : List LoneConnection). OwedFrom 0 gs ks) (sym same) h.owes.owed; below = subst (λ (ks : List LoneConnection). AreBelow (length ks) gs) (sym same) h.owes.below };
-  pasts = subst (λ (ks : List LoneConnection). AllByRecursion HasPast ks) (sym same) h.pasts;
+  pasts = subst (λ (ks : List LoneConnection). AllByRecursion (HasPast m.state.limits.window) ks) (sym same) (subst (λ (limits : LimitsValue). AllByRecursion (HasPast limits.window) l.connections) (sym chosen) h.pasts);
   due = subst AreNoneDue (sym same) h.due;
 }
 
@@ -183,16 +184,16 @@ all_owe d os s (x ∷ xs) h =
 requests_are : (c : ℕ) (f : RawFrame) (l : LoneInstance) (p : Past) → open_at c l.connections ≡ Some p → request_happenings c f l ≡ answer_happenings (connection_place c l.connections) (items_at_once (outcome p.history f).event)
 requests_are c f l p is = ap (λ (o : Option Past). option_map_or (λ (q : Past). answer_happenings (connection_place c l.connections) (items_at_once (outcome q.history f).event)) o []) is
 
-frame_owes : (c : ℕ) (f : RawFrame) (l : LoneInstance) (p : Past) (gs : List GivenItems) → open_at c l.connections ≡ Some p → IsPast p → CanGoOn p → Owes gs l → Owes (gs ++ given_items_from l.state (frame_happenings c f l)) (after_frame_on c f l)
+frame_owes : (c : ℕ) (f : RawFrame) (l : LoneInstance) (p : Past) (gs : List GivenItems) → open_at c l.connections ≡ Some p → IsPast l.state.limits.window p → CanGoOn p → Owes gs l → Owes (gs ++ given_items_from l.state (frame_happenings c f l)) (after_frame_on c f l)
 frame_owes c f l p gs is made on h =
     let n : ℕ = connection_place c l.connections in
     let xs : List (ℕ × Item) = items_at_once (outcome p.history f).event in
     let q : Past = with_frame p f in
     let step : Past → Past = λ r. with_frame r f in
     let m : LoneInstance = record l { connections = at_open c step l.connections } in
-    let gives : Gives step p (gifts xs) = λ s. all_owe q.history p.owed s xs (requests_answerable p f made on) in
+    let gives : Gives step p (gifts xs) = λ s. all_owe q.history p.owed s xs (requests_answerable l.state.limits.window p f made on) in
     let first : Owes (gs ++ map (give n) (gifts xs)) m = owes_step c step gs (gifts xs) l p is gives h in
-    let later = due_owes c m q (gs ++ map (give n) (gifts xs)) (open_step c step l.connections p is) (calls_answerable p f made on) first in
+    let later = due_owes c m q (gs ++ map (give n) (gifts xs)) (open_step c step l.connections p is) (calls_answerable l.state.limits.window p f made on) first in
     let requests : given_items_from l.state (request_happenings c f l) ≡ map (give n) (gifts xs) = ap (given_items_from l.state) (requests_are c f l p is) ∙ requests_given l.state n xs in
     let unmoved : fold state_after_happening l.state (request_happenings c f l) ≡ l.state = ap (fold state_after_happening l.state) (requests_are c f l p is) ∙ requests_state l.state n xs in
     let given : (gs ++ map (give n) (gifts xs)) ++ given_items_from l.state (due_happenings c m) ≡ gs ++ given_items_from l.state (frame_happenings c f l) =
@@ -225,7 +226,7 @@ pub frame_moves : {N : Type 0} (c : ℕ) (f : RawFrame) (l : LoneInstance) (p : 
 frame_moves c f l p is fine framed = record {
   state = frame_state c f l p is;
   holds = λ gs h. record {
-    owes = frame_owes c f l p gs is (open_has IsPast c l.connections p is h.pasts) (fine, open_has (λ (q : Past). q.due ≡ []) c l.connections p is h.due) h.owes;
+    owes = frame_owes c f l p gs is (open_has (IsPast l.state.limits.window) c l.connections p is h.pasts) (fine, open_has (λ (q : Past). q.due ≡ []) c l.connections p is h.due) h.owes;
     pasts = frame_made c f l framed h.pasts;
     due = calls_due c (due_at c (record l { connections = at_open c (λ r. with_frame r f) l.connections })) (record l { connections = at_open c without_due (at_open c (λ r. with_frame r f) l.connections) }) (taken_due c (λ r. with_frame r f) l.connections h.due);
   };
@@ -317,7 +318,7 @@ came_moves c bytes l =
 
 opened_moves : {N : Type 0} (c : ℕ) (l : LoneInstance) → Moves N l [] (after_opening c l)
 opened_moves c l =
-    let k : LoneConnection = record { number = c; past = new_past; is_open = true } in
+    let k : LoneConnection = record { number = c; past = new_past l.state.limits.window; is_open = true } in
     quietly l (after_opening c l) refl (λ gs h. record {
       owes = record {
         owed = opened_owed 0 gs l.connections k refl (subst (λ (n : ℕ). AreBelow n gs) (omega arith) h.owes.below) h.owes.owed;
@@ -357,19 +358,19 @@ closed_moves c l =
     }
 
 -- what answers nothing gives nothing
-unanswered : {N : Type 0} (l m : LoneInstance) (h : Happening) → m.state ≡ state_after_happening l.state h → given_items_at l.state h ≡ [] → IsShortHappening h → m.connections ≡ l.connections → Moves N l (h ∷ []) m
-unanswered l m h state none short same = record {
+unanswered : {N : Type 0} (l m : LoneInstance) (h : Happening) → m.state ≡ state_after_happening l.state h → given_items_at l.state h ≡ [] → IsShortHappening h → m.state.limits ≡ l.state.limits → m.connections ≡ l.connections → Moves N l (h ∷ []) m
+unanswered l m h state none short chosen same = record {
   state = state;
   holds = λ gs holds.
       let given : gs ++ given_items_from l.state (h ∷ []) ≡ gs = ap (λ (xs : List GivenItems). gs ++ (xs ++ [])) none ∙ append-nil gs in
-      subst (λ (xs : List GivenItems). Holds xs m) (sym given) (holds_at gs l m same holds);
+      subst (λ (xs : List GivenItems). Holds xs m) (sym given) (holds_at gs l m chosen same holds);
   short = λ narrow gs holds. (short, tt);
 }
 
 came_moves_at : {N : Type 0} (parent : List Blob) (moment : ℕ) (l : LoneInstance) → (N → AreNamed parent) → Moves N l (MomentCame parent moment ∷ []) (lone_at_moment moment parent l)
 came_moves_at parent moment l named = record {
   state = refl;
-  holds = λ gs h. subst (λ (xs : List GivenItems). Holds xs (lone_at_moment moment parent l)) (sym (append-nil gs)) (holds_at gs l (lone_at_moment moment parent l) refl h);
+  holds = λ gs h. subst (λ (xs : List GivenItems). Holds xs (lone_at_moment moment parent l)) (sym (append-nil gs)) (holds_at gs l (lone_at_moment moment parent l) refl refl h);
   short = λ n gs h. (named n, tt);
 }
 
@@ -402,7 +403,7 @@ what_moves (took c n) l = took_moves c n l
 what_moves (closed c) l = closed_moves c l
 what_moves tick l =
     let m : LoneInstance = after_call_event time_passes l in
-    then_moves l m (after_call_event end_late_jobs m) (TimePassed ∷ []) (turn_happenings end_late_jobs m) (unanswered l m TimePassed refl refl tt refl) (turn_moves end_late_jobs m (λ narrow. tt))
+    then_moves l m (after_call_event end_late_jobs m) (TimePassed ∷ []) (turn_happenings end_late_jobs m) (unanswered l m TimePassed refl refl tt (limits_after l.state time_passes) refl) (turn_moves end_late_jobs m (λ narrow. tt))
 what_moves (ended job outcome) l = turn_moves (end_job job outcome) l (λ narrow. narrow)
 
 pumped_moves : {N : Type 0} (l : LoneInstance) → Moves N l [] (after_pump l)
@@ -414,7 +415,7 @@ pumped_moves l = quietly l (after_pump l) refl (λ gs h. record {
 
 -- behind the event the instance is at rest
 rest_moves : {N : Type 0} (l : LoneInstance) → Moves N l (EventOver ∷ []) (lone_at_rest l)
-rest_moves l = unanswered l (lone_at_rest l) EventOver refl refl tt refl
+rest_moves l = unanswered l (lone_at_rest l) EventOver refl refl tt refl refl
 
 -- an event that comes while the parent has these texts
 abbrev pub Comes : List Blob → EventValue → Type 0
@@ -462,5 +463,5 @@ run_moves f (e ∷ es) =
     (where_so f.own.lone next.own.lone (family_happenings f e) (λ n. (n.0, n.1.0)) (family_moves f e))
     (where_so next.own.lone last (happenings next es) (λ n. (step_keeps f e n.1.0 n.0, n.1.1)) (run_moves next es))
 
-pub first_holds : (name : List ℕ) (quota slots : ℕ) → Holds [] (new_lone name quota slots)
-first_holds name quota slots = record { owes = record { owed = tt; below = tt }; pasts = tt; due = tt }
+pub first_holds : (name : List ℕ) (quota slots : ℕ) (limits : LimitsValue) → Holds [] (new_lone name quota slots limits)
+first_holds name quota slots limits = record { owes = record { owed = tt; below = tt }; pasts = tt; due = tt }

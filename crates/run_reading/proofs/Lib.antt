@@ -1,4 +1,5 @@
 mod Connections
+mod Chosen
 pub mod Lifts
 pub mod Owes
 pub mod Answers

@@ -1,5 +1,5 @@
 -- Each step of an instance makes changes of its connections.
-use Rattle.std.proofs.Common.{◌≡◌, ℕ, List, [], ◌∷◌, refl}
+use Rattle.std.proofs.Common.{◌≡◌, ℕ, List, [], ◌∷◌, refl, sym, ap, subst}
 use Rattle.std.specs.Prelude.{true, false, drop, length, zero, suc, Option, Some, None, Result, Ok, Err}
 use Rattle.std.specs.List.{AllByRecursion}
 use Rattle.std.specs.Option.{option_map_or}
@@ -15,6 +15,7 @@ use Rattle.conn_core.specs.Received.{received_raw_frames}
 use Rattle.conn_core.specs.Calls.{cancels}
 use Rattle.conn_core.specs.Past.{Past, new_past, with_frame, with_fault, with_item, with_taken, with_pumped, with_bytes}
 use Rattle.instance_core.specs.Calls.{CallEventValue, start_jobs, end_late_jobs, end_job, tick as time_passes}
+use Rattle.instance_core.specs.State.{LimitsValue}
 use Rattle.instance_core.specs.Replies.{ReplyValue}
 use Rattle.instance_core.specs.Answer.{answer, state_after}
 use Rattle.server_events.specs.Events.{WhatValue, opened, received, took, closed, tick, ended}
@@ -25,54 +26,57 @@ use Rattle.client_reading.specs.Changes.{IsReceivable, IsPast, BytesReceived, Fr
 use Rattle.client_reading.proofs.Choices.{choose, all_append}
 use Rattle.client_reading.proofs.Pasts.{first_past, next_past, frames_received}
 use Rattle.run_reading.proofs.Connections.{ArePasts}
+use Rattle.run_reading.proofs.Chosen.{limits_after}
 
-abbrev Keeps : (Past → Past) → Type 0
-Keeps step = (p : Past) → IsPast p → IsPast (step p)
+abbrev MadeStays : ℕ → (Past → Past) → Type 0
+MadeStays window step = (p : Past) → IsPast window p → IsPast window (step p)
 
-abbrev pub AreMade : List LoneConnection → Type 0
-AreMade ks = AllByRecursion (λ k. IsPast k.past) ks
+abbrev pub AreMade : ℕ → List LoneConnection → Type 0
+AreMade window ks = AllByRecursion (λ k. IsPast window k.past) ks
 
-pub at_open_made : (c : ℕ) (step : Past → Past) (ks : List LoneConnection) → Keeps step → AreMade ks → AreMade (at_open c step ks)
-at_open_made c step [] f h = tt
-at_open_made c step (k ∷ ks) f h = choose AreMade (is_open_at c k) (record k { past = step k.past } ∷ ks) (k ∷ at_open c step ks) (λ _. (f k.past h.0, h.1)) (λ _. (h.0, at_open_made c step ks f h.1))
+pub at_open_made : (window : ℕ) (c : ℕ) (step : Past → Past) (ks : List LoneConnection) → MadeStays window step → AreMade window ks → AreMade window (at_open c step ks)
+at_open_made window c step [] f h = tt
+at_open_made window c step (k ∷ ks) f h = choose (AreMade window) (is_open_at c k) (record k { past = step k.past } ∷ ks) (k ∷ at_open c step ks) (λ _. (f k.past h.0, h.1)) (λ _. (h.0, at_open_made window c step ks f h.1))
 
-closed_made : (c : ℕ) (ks : List LoneConnection) → AreMade ks → AreMade (with_closed c ks)
-closed_made c [] h = tt
-closed_made c (k ∷ ks) h = choose AreMade (is_open_at c k) (record k { is_open = false } ∷ ks) (k ∷ with_closed c ks) (λ _. h) (λ _. (h.0, closed_made c ks h.1))
+closed_made : (window : ℕ) (c : ℕ) (ks : List LoneConnection) → AreMade window ks → AreMade window (with_closed c ks)
+closed_made window c [] h = tt
+closed_made window c (k ∷ ks) h = choose (AreMade window) (is_open_at c k) (record k { is_open = false } ∷ ks) (k ∷ with_closed c ks) (λ _. h) (λ _. (h.0, closed_made window c ks h.1))
 
-one_made : (k : LoneConnection) (step : Past → Past) → Keeps step → IsPast k.past → IsPast (step_if_open step k).past
-one_made k step f h = choose (λ (x : LoneConnection). IsPast x.past) k.is_open (record k { past = step k.past }) k (λ _. f k.past h) (λ _. h)
+one_made : (window : ℕ) (k : LoneConnection) (step : Past → Past) → MadeStays window step → IsPast window k.past → IsPast window (step_if_open step k).past
+one_made window k step f h = choose (λ (x : LoneConnection). IsPast window x.past) k.is_open (record k { past = step k.past }) k (λ _. f k.past h) (λ _. h)
 
-all_open_made : (step : Past → Past) (ks : List LoneConnection) → Keeps step → AreMade ks → AreMade (at_all_open step ks)
-all_open_made step [] f h = tt
-all_open_made step (k ∷ ks) f h = (one_made k step f h.0, all_open_made step ks f h.1)
+all_open_made : (window : ℕ) (step : Past → Past) (ks : List LoneConnection) → MadeStays window step → AreMade window ks → AreMade window (at_all_open step ks)
+all_open_made window step [] f h = tt
+all_open_made window step (k ∷ ks) f h = (one_made window k step f h.0, all_open_made window step ks f h.1)
 
 -- ---- calls
 
-pub items_made : (s : ℕ) (items : List Item) → Keeps (with_items s items)
-items_made s [] p h = h
-items_made s (item ∷ items) p h = items_made s items (with_item p s item) (next_past p (ItemGiven s item) tt h)
+pub items_made : (window s : ℕ) (items : List Item) → MadeStays window (with_items s items)
+items_made window s [] p h = h
+items_made window s (item ∷ items) p h = items_made window s items (with_item p s item) (next_past window p (ItemGiven s item) tt h)
 
 replied_made : (rs : List ReplyValue) (l : LoneInstance) → ArePasts l → ArePasts (after_replies rs l)
 replied_made [] l h = h
 replied_made (r ∷ rs) l h =
     replied_made rs (record l { connections = at_open r.call.connection (with_items r.call.stream (owed_items r.items)) l.connections })
-    (at_open_made r.call.connection (with_items r.call.stream (owed_items r.items)) l.connections (items_made r.call.stream (owed_items r.items)) h)
+    (at_open_made l.state.limits.window r.call.connection (with_items r.call.stream (owed_items r.items)) l.connections (items_made l.state.limits.window r.call.stream (owed_items r.items)) h)
 
 pub happened_made : (event : CallEventValue) (l : LoneInstance) → ArePasts l → ArePasts (after_call_event event l)
-happened_made event l h = replied_made (answer l.state event).replies (record l { state = state_after l.state event }) h
+happened_made event l h =
+    replied_made (answer l.state event).replies (record l { state = state_after l.state event })
+    (subst (λ (window : ℕ). AreMade window l.connections) (sym (ap (λ (limits : LimitsValue). limits.window) (limits_after l.state event))) h)
 
 all_happened_made : (c : ℕ) (es : List CallEvent) (l : LoneInstance) → ArePasts l → ArePasts (after_call_events c es l)
 all_happened_made c [] l h = h
 all_happened_made c (e ∷ es) l h = all_happened_made c es (after_call_event (call_event_on c e) l) (happened_made (call_event_on c e) l h)
 
 due_made : (c : ℕ) (l : LoneInstance) → ArePasts l → ArePasts (after_due_on c l)
-due_made c l h = all_happened_made c (due_at c l) (record l { connections = at_open c without_due l.connections }) (at_open_made c without_due l.connections (λ p is. next_past p (EventsGiven []) tt is) h)
+due_made c l h = all_happened_made c (due_at c l) (record l { connections = at_open c without_due l.connections }) (at_open_made l.state.limits.window c without_due l.connections (λ p is. next_past l.state.limits.window p (EventsGiven []) tt is) h)
 
 -- ---- received bytes
 
 pub frame_made : (c : ℕ) (f : RawFrame) (l : LoneInstance) → IsReceivable f → ArePasts l → ArePasts (after_frame_on c f l)
-frame_made c f l is h = due_made c (record l { connections = at_open c (λ p. with_frame p f) l.connections }) (at_open_made c (λ p. with_frame p f) l.connections (λ p k. next_past p (FrameRead f) is k) h)
+frame_made c f l is h = due_made c (record l { connections = at_open c (λ p. with_frame p f) l.connections }) (at_open_made l.state.limits.window c (λ p. with_frame p f) l.connections (λ p k. next_past l.state.limits.window p (FrameRead f) is k) h)
 
 frames_made : (c : ℕ) (fs : List RawFrame) (l : LoneInstance) → AllByRecursion IsReceivable fs → ArePasts l → ArePasts (after_frames_on c fs l)
 frames_made c [] l all h = h
@@ -80,7 +84,7 @@ frames_made c (f ∷ fs) l all h = choose ArePasts (is_over c l) l (after_frames
 
 pub fault_made : (c : ℕ) (e : FrameError) (l : LoneInstance) (o : Option ErrorCode) → reading_fault e ≡ o → ArePasts l → ArePasts (after_fault_on c e l o)
 fault_made c e l None is h = h
-fault_made c e l (Some code) is h = due_made c (record l { connections = at_open c (λ p. with_fault p e code) l.connections }) (at_open_made c (λ p. with_fault p e code) l.connections (λ p k. next_past p (FaultMet e code) is k) h)
+fault_made c e l (Some code) is h = due_made c (record l { connections = at_open c (λ p. with_fault p e code) l.connections }) (at_open_made l.state.limits.window c (λ p. with_fault p e code) l.connections (λ p k. next_past l.state.limits.window p (FaultMet e code) is k) h)
 
 end_made : (c : ℕ) (r : Result (List ℕ) FrameError) (l : LoneInstance) → ArePasts l → ArePasts (after_end_on c r l)
 end_made c (Ok rest) l h = h
@@ -100,20 +104,20 @@ read_made c l (Some p) h =
 came_made : (c : ℕ) (bytes : List ℕ) (l : LoneInstance) → ArePasts l → ArePasts (after_bytes_on c bytes l)
 came_made c bytes l h =
     read_made c (record l { connections = at_open c (with_bytes bytes) l.connections }) (open_at c (at_open c (with_bytes bytes) l.connections))
-    (at_open_made c (with_bytes bytes) l.connections (λ p k. next_past p (BytesReceived bytes) tt k) h)
+    (at_open_made l.state.limits.window c (with_bytes bytes) l.connections (λ p k. next_past l.state.limits.window p (BytesReceived bytes) tt k) h)
 
 -- ---- events
 
 pub acted_made : (w : WhatValue) (l : LoneInstance) → ArePasts l → ArePasts (effect_of w l)
-acted_made (opened c) l h = all_append (λ (k : LoneConnection). IsPast k.past) l.connections (record { number = c; past = new_past; is_open = true } ∷ []) h (first_past, tt)
+acted_made (opened c) l h = all_append (λ (k : LoneConnection). IsPast l.state.limits.window k.past) l.connections (record { number = c; past = new_past l.state.limits.window; is_open = true } ∷ []) h (first_past l.state.limits.window, tt)
 acted_made (received c bytes) l h = happened_made start_jobs (after_bytes_on c bytes l) (came_made c bytes l h)
-acted_made (took c n) l h = at_open_made c (λ p. with_taken p n) l.connections (λ p k. next_past p (BytesTaken n) tt k) h
-acted_made (closed c) l h = all_happened_made c (option_map_or (λ (p : Past). cancels p.history) (open_at c l.connections) []) (record l { connections = with_closed c l.connections }) (closed_made c l.connections h)
-acted_made tick l h = happened_made end_late_jobs (after_call_event time_passes l) h
+acted_made (took c n) l h = at_open_made l.state.limits.window c (λ p. with_taken p n) l.connections (λ p k. next_past l.state.limits.window p (BytesTaken n) tt k) h
+acted_made (closed c) l h = all_happened_made c (option_map_or (λ (p : Past). cancels p.history) (open_at c l.connections) []) (record l { connections = with_closed c l.connections }) (closed_made l.state.limits.window c l.connections h)
+acted_made tick l h = happened_made end_late_jobs (after_call_event time_passes l) (happened_made time_passes l h)
 acted_made (ended job outcome) l h = happened_made (end_job job outcome) l h
 
 pub pumped_made : (l : LoneInstance) → ArePasts l → ArePasts (after_pump l)
-pumped_made l h = all_open_made with_pumped l.connections (λ p k. next_past p FramesPut tt k) h
+pumped_made l h = all_open_made l.state.limits.window with_pumped l.connections (λ p k. next_past l.state.limits.window p FramesPut tt k) h
 
-pub bytes_made : (c : ℕ) (bytes : List ℕ) (l : LoneInstance) → ArePasts l → AreMade (at_open c (with_bytes bytes) l.connections)
-bytes_made c bytes l h = at_open_made c (with_bytes bytes) l.connections (λ p k. next_past p (BytesReceived bytes) tt k) h
+pub bytes_made : (c : ℕ) (bytes : List ℕ) (l : LoneInstance) → ArePasts l → AreMade l.state.limits.window (at_open c (with_bytes bytes) l.connections)
+bytes_made c bytes l h = at_open_made l.state.limits.window c (with_bytes bytes) l.connections (λ p k. next_past l.state.limits.window p (BytesReceived bytes) tt k) h

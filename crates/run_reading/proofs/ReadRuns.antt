@@ -17,6 +17,7 @@ use Rattle.conn_core.specs.Rules.{reading_fault}
 use Rattle.conn_core.specs.declared.event.CallEvent.{CallEvent}
 use Rattle.conn_core.specs.Calls.{events, cancels, call_events_of, items_at_once}
 use Rattle.conn_core.specs.Received.{outcome, frame_entries, fault_frames, received_raw_frames}
+use Rattle.conn_core.proofs.Greeting.{greeted}
 use Rattle.conn_core.specs.Past.{Past, new_past, greeting, with_frame, with_fault, with_taken, with_pumped, with_bytes}
 use Rattle.conn_core.proofs.Events.{events_frame}
 use Rattle.conn_core.proofs.Opened.{opened_still, idle}
@@ -136,7 +137,7 @@ frame_tracks name c s n f l q at whole sound h = elim (cases_Bool (n == c)) [
       let p = past_of c s l.connections (opened d items) refl is in
       let e : List Entry = (with_frame p.past f).history in
       let v : Event = (outcome p.past.history f).event in
-      let made : IsPast p.past = open_has IsPast c l.connections p.past p.lives sound.holds.pasts in
+      let made : IsPast l.state.limits.window p.past = open_has (IsPast l.state.limits.window) c l.connections p.past p.lives sound.holds.pasts in
       let none_due : p.past.due ≡ [] = open_has (λ (r : Past). r.due ≡ []) c l.connections p.past p.lives sound.holds.due in
       let same : q ≡ p.past = cc in
       let whole' : has_failed p.past.history ≡ false = subst (λ (r : Past). has_failed r.history ≡ false) same whole in
@@ -150,12 +151,12 @@ frame_tracks name c s n f l q at whole sound h = elim (cases_Bool (n == c)) [
       subst (λ (is : List Item). Live name s (kept c s l) p.past.history is) (sym p.items)
       (subst (λ (x : List Entry). Live name s (kept c s l) x items) (sym p.history) (by_tracks name c s l (Some (opened d items)) is h)) in
       let heard : Heard name c s k p.past.history e p.past.owed v es = record { fine = fine; short = short; brings = events_frame p.past.history f; look = look; live = live } in
-      let calls : AllByRecursion (IsAnswerable e) es = subst (λ (xs : List CallEvent). AllByRecursion (IsAnswerable e) (xs ++ es)) none_due (calls_answerable p.past f made (whole', none_due)) in
+      let calls : AllByRecursion (IsAnswerable e) es = subst (λ (xs : List CallEvent). AllByRecursion (IsAnswerable e) (xs ++ es)) none_due (calls_answerable l.state.limits.window p.past f made (whole', none_due)) in
       let brought : Brought name c s k e es = record {
         lives = record { items = items'; look = look };
         idle = λ un.
             let i = live.idle (λ o. un (opened_still p.past.history (frame_entries p.past.history f) s o)) in
-            (i.0, aside_at_once e p.past.owed s (items_at_once v) (all_unopened e s (items_at_once v) un (requests_answerable p.past f made (whole', none_due))) ∙ i.1, no_heads_in e s es un calls);
+            (i.0, aside_at_once e p.past.owed s (items_at_once v) (all_unopened e s (items_at_once v) un (requests_answerable l.state.limits.window p.past f made (whole', none_due))) ∙ i.1, no_heads_in e s es un calls);
         read = λ read. frame_read name c s k p.past.history e p.past.owed f heard read;
       } in
       subst (λ (xs : List CallEvent). Tracks name c s (after_call_events c xs k)) (sym due) (brought_tracks name c s es k e brought)
@@ -261,19 +262,20 @@ came_keeps name c s n bytes l h =
 
 -- ---- events
 
-start_live : (name : List ℕ) (s : ℕ) → Live name s [] (greeting ∷ []) []
-start_live name s = record { idle = λ none. (refl, refl); read = λ is. absurd (let z : ⊥ = cc in z) }
+start_live : (name : List ℕ) (s window : ℕ) → Live name s [] (greeting window) []
+start_live name s window =
+    greeted (λ (d : List Entry). Live name s [] d []) window (record { idle = λ none. (refl, refl); read = λ is. absurd (let z : ⊥ = cc in z) }) (record { idle = λ none. (refl, refl); read = λ is. absurd (let z : ⊥ = cc in z) })
 
 opening_tracks : (name : List ℕ) (c s n : ℕ) (l : LoneInstance) → Tracks name c s l → Tracks name c s (after_opening n l)
 opening_tracks name c s n l h = go (look_at c s l.connections) refl where
   k : LoneConnection
-  k = record { number = n; past = new_past; is_open = true }
+  k = record { number = n; past = new_past l.state.limits.window; is_open = true }
 
   new : (b : Bool) → (n == c) ≡ b → look_at c s l.connections ≡ None → Tracks name c s (after_opening n l)
   new true at is =
-      let look : look_at c s (l.connections ++ k ∷ []) ≡ Some (opened (greeting ∷ []) []) = new_look c s l.connections (k ∷ []) is ∙ ap (λ b. cond b (Some (look_of s k)) None) at in
+      let look : look_at c s (l.connections ++ k ∷ []) ≡ Some (opened (greeting l.state.limits.window) []) = new_look c s l.connections (k ∷ []) is ∙ ap (λ b. cond b (Some (look_of s k)) None) at in
       let none : kept c s l ≡ [] = by_tracks name c s l None is h in
-      tracks_by name c s (after_opening n l) (Some (opened (greeting ∷ []) [])) look (subst (λ (vs : List CallValue). Live name s vs (greeting ∷ []) []) (sym none) (start_live name s))
+      tracks_by name c s (after_opening n l) (Some (opened (greeting l.state.limits.window) [])) look (subst (λ (vs : List CallValue). Live name s vs (greeting l.state.limits.window) []) (sym none) (start_live name s l.state.limits.window))
   new false at is =
       let look : look_at c s (l.connections ++ k ∷ []) ≡ None = new_look c s l.connections (k ∷ []) is ∙ ap (λ b. cond b (Some (look_of s k)) None) at in
       tracks_by name c s (after_opening n l) None look (by_tracks name c s l None is h)
@@ -414,9 +416,9 @@ run_tracks name c s f (own_event e ∷ es) gs keeps narrow own holds h =
 
 -- ---- what a client reads
 
-read_of : (place : ℕ) (gs : List GivenItems) (before after : List LoneConnection) (k : LoneConnection) → AreConnectionsRead place gs (before ++ k ∷ after) → (n : ℕ) × IsConnectionRead n gs k
-read_of place gs [] after k h = (place, h.0)
-read_of place gs (j ∷ before) after k h = read_of (suc place) gs before after k h.1
+read_of : (window place : ℕ) (gs : List GivenItems) (before after : List LoneConnection) (k : LoneConnection) → AreConnectionsRead window place gs (before ++ k ∷ after) → (n : ℕ) × IsConnectionRead window n gs k
+read_of window place gs [] after k h = (place, h.0)
+read_of window place gs (j ∷ before) after k h = read_of window (suc place) gs before after k h.1
 
 none_between : (given : SourceValue) → nat_lt given.from given.until ≡ false → take (given.until - given.from) (drop given.from given.text) ≡ []
 none_between given past =
@@ -451,12 +453,12 @@ blobs_read family events limited narrow before after k s message is none asks =
     let name : List ℕ = family.own.name in
     let f : FamilyRun = new_family_run family in
     let run : LoneInstance = (run_of_family family events).own.lone in
-    let tracks : Tracks name k.number s run = run_tracks name k.number s f events [] (new_family_keeps family limited) narrow refl (first_holds family.own.name family.own.quota family.own.slots) refl in
+    let tracks : Tracks name k.number s run = run_tracks name k.number s f events [] (new_family_keeps family limited) narrow refl (first_holds family.own.name family.own.quota family.own.slots family.own.limits) refl in
     let look : look_at k.number s run.connections ≡ Some (look_of s k) = ap (look_at k.number s) is ∙ first_look s before after k none in
     let by : TracksBy name s (kept k.number s run) k.is_open (look_of s k) = by_tracks name k.number s run (Some (look_of s k)) look tracks in
     let so : IsAnswered name (messages_to k.past.history s) (items_owed_on s k.past.owed) = tracked name s (kept k.number s run) k.is_open (look_of s k) by asks.method in
     let gs : List GivenItems = run_given_items family events in
-    let read = read_of 0 gs before after k (subst (λ (ks : List LoneConnection). AreConnectionsRead 0 gs ks) is (replies_read family events limited narrow)) in
+    let read = read_of family.own.limits.window 0 gs before after k (subst (λ (ks : List LoneConnection). AreConnectionsRead family.own.limits.window 0 gs ks) is (replies_read family events limited narrow)) in
     record {
       response = response_of (items_owed_on s k.past.owed);
       right = is_response name message (messages_to k.past.history s) asks.later (items_owed_on s k.past.owed) asks.first so;

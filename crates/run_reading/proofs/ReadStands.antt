@@ -151,7 +151,7 @@ settle id steps results (c ∷ cs) s h = settle id steps results cs (state_after
 
 ending_kept : (id : CallId) (outcome : OutcomeValue) (steps : List StepValue) (o : Option JobValue) (s : InstanceState) → AllWatchNone (kept_at id s.calls) → kept_at id (state_after_changes (ending_changes s outcome o ++ Settles steps ∷ []) s).calls ≡ kept_at id s.calls
 ending_kept id outcome steps None s h = steps_kept steps id s.calls h
-ending_kept id outcome steps (Some job) s h = settle id steps (results_with job.action (ending_at s outcome job).stored s.results) (admissions (ending_at s outcome job).blobs) s h
+ending_kept id outcome steps (Some job) s h = settle id steps (results_with s.limits job.action (ending_at s outcome job).stored s.results) (admissions (ending_at s outcome job).blobs) s h
 
 pub end_turn : (n : ℕ) (outcome : OutcomeValue) → IsTurn (end_job n outcome)
 end_turn n outcome l c s h = turn_aside (end_job n outcome) l c s

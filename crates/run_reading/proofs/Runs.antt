@@ -1,5 +1,5 @@
 -- What holds of a run holds of what it gives.
-use Rattle.std.proofs.Common.{◌≡◌, ℕ, ◌+◌, List, [], ◌∷◌, sym, subst}
+use Rattle.std.proofs.Common.{◌≡◌, ℕ, ◌+◌, ◌<◌, ◌^◌, List, [], ◌∷◌, sym, ap, ◌∙◌, subst}
 use Rattle.std.specs.Prelude.{suc, fold, map, Option, Some, None}
 use Rattle.std.specs.List.{AllByRecursion}
 use Rattle.instance_core.specs.Visible.{Blob}
@@ -7,7 +7,7 @@ use Rattle.server_events.specs.Events.{EventValue, WhatValue, opened, received, 
 use Rattle.execution.specs.Orders.{OrderValue}
 use Rattle.instance_core.specs.Calls.{tick as time_passes, start_jobs, end_late_jobs, end_job}
 use Rattle.instance_core.specs.Jobs.{IsWholeOrder}
-use Rattle.instance_core.specs.State.{at_moment}
+use Rattle.instance_core.specs.State.{InstanceState, LimitsValue, at_moment}
 use Rattle.instance_core.proofs.OrderTexts.{orders_whole}
 use Rattle.served_instance.specs.declared.refusal.EventRefusal.{EventRefusal}
 use Rattle.served_instance.specs.Connections.{LoneConnection}
@@ -24,6 +24,7 @@ use Rattle.client_reading.specs.Responses.{IsItemWithin, IsTakable, IsBeginning,
 use Rattle.client_reading.specs.Reads.{IsReadByClient}
 use Rattle.client_reading.proofs.Pasts.{past_read}
 use Rattle.run_reading.proofs.Connections.{HasPast}
+use Rattle.run_reading.proofs.Chosen.{limits_fold}
 use Rattle.run_reading.specs.Replies.{GivenItems, state_after_happening, items_on, longest_message, ReadsText, AreConnectionsRead, new_instance_of, run_happenings, run_given_items}
 use Rattle.instance_core.specs.NamedReplies.{ServesNamed}
 use Rattle.run_reading.specs.Named.{run_answered_events, GivesNamed}
@@ -33,35 +34,39 @@ use Rattle.run_reading.proofs.Lengths.{AreWithin, given_within, items_within, al
 use Rattle.run_reading.proofs.Texts.{run_reads}
 use Rattle.run_reading.proofs.Happens.{Holds, run_moves, first_holds}
 
-all_read : (place : ℕ) (gs : List GivenItems) (ks : List LoneConnection) → AreWithin gs → OwedFrom place gs ks → AllByRecursion HasPast ks → AllByRecursion (λ (k : LoneConnection). ReadsText k.past) ks → AreConnectionsRead place gs ks
-all_read place gs [] short owed made text = tt
-all_read place gs (k ∷ ks) short owed made text =
-    let reads : IsReadByClient k.past = past_read k.past made.0 in
+all_read : (window place : ℕ) (gs : List GivenItems) (ks : List LoneConnection) → window < 2 ^ 31 → AreWithin gs → OwedFrom place gs ks → AllByRecursion (HasPast window) ks → AllByRecursion (λ (k : LoneConnection). ReadsText k.past) ks → AreConnectionsRead window place gs ks
+all_read window place gs [] most short owed made text = tt
+all_read window place gs (k ∷ ks) most short owed made text =
+    let reads : IsReadByClient window k.past = past_read window k.past most made.0 in
     let takable : IsTakable longest_message k.past.owed = all_takable k.past.owed (λ s. subst (AllByRecursion (IsItemWithin longest_message)) (sym (owed.0 s)) (items_within place s gs short)) in
     let responses : (s : ℕ) → IsBeginning longest_message (stream_parts k.past.history s) (response_of (items_on place s gs)) = λ s.
     subst (λ (is : List Item). IsBeginning longest_message (stream_parts k.past.history s) (response_of is)) (owed.0 s) (reads.responses longest_message longest_fits takable s)
     in (
       record { made = made.0; text = text.0; reads = reads; owed = owed.0; responses = responses },
-      all_read (suc place) gs ks short owed.1 made.1 text.1,
+      all_read window (suc place) gs ks most short owed.1 made.1 text.1,
     )
 
 run_holds : (family : Family) (events : List FamilyEvent) → Holds (run_given_items family events) (run_of_family family events).own.lone
-run_holds family events = (run_moves (new_family_run family) events).holds [] (first_holds family.own.name family.own.quota family.own.slots)
+run_holds family events = (run_moves (new_family_run family) events).holds [] (first_holds family.own.name family.own.quota family.own.slots family.own.limits)
 
 run_short : (family : Family) (events : List FamilyEvent) → AreLimited family → AllByRecursion IsNarrow (map event_in events) → AllByRecursion IsShortHappening (run_happenings family events)
 run_short family events limited narrow =
-    (run_moves (new_family_run family) events).short (new_family_keeps family limited, narrow) [] (first_holds family.own.name family.own.quota family.own.slots)
+    (run_moves (new_family_run family) events).short (new_family_keeps family limited, narrow) [] (first_holds family.own.name family.own.quota family.own.slots family.own.limits)
+
+pub state_is : (family : Family) (events : List FamilyEvent) → (run_of_family family events).own.lone.state ≡ fold state_after_happening (new_instance_of family.own) (run_happenings family events)
+state_is family events = (run_moves (new_family_run family) events).state
 
 pub replies_read : (family : Family) (events : List FamilyEvent) → AreLimited family → AllByRecursion IsNarrow (map event_in events)
-    → AreConnectionsRead 0 (run_given_items family events) (run_of_family family events).own.lone.connections
+    → AreConnectionsRead family.own.limits.window 0 (run_given_items family events) (run_of_family family events).own.lone.connections
 replies_read family events limited narrow =
     let h = run_holds family events in
     let short : AreWithin (run_given_items family events) =
     given_within (new_instance_of family.own) (run_happenings family events) (run_short family events limited narrow) (new_family_keeps family limited).own.within in
-    all_read 0 (run_given_items family events) (run_of_family family events).own.lone.connections short h.owes.owed h.pasts (run_reads (new_family_run family) events tt)
-
-pub state_is : (family : Family) (events : List FamilyEvent) → (run_of_family family events).own.lone.state ≡ fold state_after_happening (new_instance_of family.own) (run_happenings family events)
-state_is family events = (run_moves (new_family_run family) events).state
+    let window : ℕ = family.own.limits.window in
+    let same : (run_of_family family events).own.lone.state.limits.window ≡ window =
+    ap (λ (s : InstanceState). s.limits.window) (state_is family events) ∙ ap (λ (limits : LimitsValue). limits.window) (limits_fold (run_happenings family events) (new_instance_of family.own)) in
+    let pasts : AllByRecursion (HasPast window) (run_of_family family events).own.lone.connections = subst (λ (n : ℕ). AllByRecursion (HasPast n) (run_of_family family events).own.lone.connections) same h.pasts in
+    all_read window 0 (run_given_items family events) (run_of_family family events).own.lone.connections limited.own.limits.most short h.owes.owed pasts (run_reads (new_family_run family) events tt)
 
 pub run_named : (family : Family) (events : List FamilyEvent) → AreLimited family → AllByRecursion IsNarrow (map event_in events)
     → AllByRecursion ServesNamed (run_answered_events family events)

@@ -24,6 +24,7 @@ use Rattle.grpc_sending.proofs.Settles.{pump_settles as the_pump_settles}
 use Rattle.conn_core.specs.declared.event.CallEvent.{CallEvent}
 use Rattle.conn_core.specs.Calls.{cancels}
 use Rattle.conn_core.specs.Received.{outcome, fault_frames}
+use Rattle.conn_core.proofs.Greeting.{nothing_taken}
 use Rattle.conn_core.specs.Past.{Past, new_past, greeting, with_frame, with_fault, with_item, with_taken, with_pumped, with_bytes}
 use Rattle.instance_core.specs.Calls.{CallEventValue, tick as time_passes, start_jobs, end_late_jobs, end_job}
 use Rattle.instance_core.specs.Replies.{ReplyValue}
@@ -174,17 +175,15 @@ took_rest c n (k ∷ ks) is h = go (is_open_at c k) is (λ later. took_rest c n 
 
 -- ---- events
 
--- an entry that takes nothing, alone
-alone : (e : Entry) → count_taken_by e ≡ 0 → IsWithin (e ∷ [])
-alone e none =
-    let one : sum_by count_taken_by (e ∷ []) ≡ 0 = ap (λ n. 0 + n) none in
-    omega (arith, one, none)
+-- of entries nothing is taken
+untouched : (d : List Entry) → count_taken d ≡ 0 → IsWithin d
+untouched d none = omega (arith, none)
 
-start_rest : HasRest new_past
-start_rest = alone greeting refl
+start_rest : (window : ℕ) → HasRest (new_past window)
+start_rest window = untouched (greeting window) (nothing_taken window)
 
 acted_rest : (w : WhatValue) (l : LoneInstance) → refusal_of_what w l ≡ None → HaveRest l.connections → HaveRest (effect_of w l).connections
-acted_rest (opened c) l is h = all_append (λ (k : LoneConnection). HasRest k.past) l.connections (record { number = c; past = new_past; is_open = true } ∷ []) h (start_rest, tt)
+acted_rest (opened c) l is h = all_append (λ (k : LoneConnection). HasRest k.past) l.connections (record { number = c; past = new_past l.state.limits.window; is_open = true } ∷ []) h (start_rest l.state.limits.window, tt)
 acted_rest (received c bytes) l is h = happened_rest start_jobs (after_bytes_on c bytes l) (came_rest c bytes l h)
 acted_rest (took c n) l is h = took_rest c n l.connections is h
 acted_rest (closed c) l is h = all_happened_rest c (option_map_or (λ (p : Past). cancels p.history) (open_at c l.connections) []) (record l { connections = with_closed c l.connections }) (closed_rest c l.connections h)

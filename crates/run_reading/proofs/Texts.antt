@@ -19,6 +19,7 @@ use Rattle.grpc_sending.proofs.Histories.{append-nil}
 use Rattle.conn_core.specs.Frame.{Frame}
 use Rattle.conn_core.specs.declared.event.CallEvent.{CallEvent}
 use Rattle.conn_core.specs.Calls.{cancels}
+use Rattle.conn_core.proofs.Greeting.{nothing_received}
 use Rattle.conn_core.specs.Past.{Past, new_past, with_item, with_frame, with_fault, with_taken, with_pumped, with_bytes}
 use Rattle.conn_core.specs.Received.{received_raw_frames, raw_in, outcome, fault_frames}
 use Rattle.conn_core.proofs.Answered.{raw_after}
@@ -216,11 +217,11 @@ came_reads c bytes l h =
 
 -- ---- the other events
 
-first_read : ReadsText new_past
-first_read = ((split CLIENT_PREFACE.now []).items, refl)
+first_read : (window : ℕ) → ReadsText (new_past window)
+first_read window = ((split CLIENT_PREFACE.now []).items, ap (λ (fs : List RawFrame). fs ++ (split CLIENT_PREFACE.now []).items) (sym (nothing_received window)))
 
 acted_reads : (w : WhatValue) (l : LoneInstance) → AllRead l.connections → AllRead (effect_of w l).connections
-acted_reads (opened c) l h = all_append (λ (k : LoneConnection). ReadsText k.past) l.connections (record { number = c; past = new_past; is_open = true } ∷ []) h (first_read, tt)
+acted_reads (opened c) l h = all_append (λ (k : LoneConnection). ReadsText k.past) l.connections (record { number = c; past = new_past l.state.limits.window; is_open = true } ∷ []) h (first_read l.state.limits.window, tt)
 acted_reads (received c bytes) l h = happened_read start_jobs (after_bytes_on c bytes l) (came_reads c bytes l h)
 acted_reads (took c n) l h = step_read c (λ p. with_taken p n) l.connections (λ p is reads. same_frames p.history (with_taken p n).history p.text (raw_took p.history n) reads) h
 acted_reads (closed c) l h = calls_read c (option_map_or (λ (p : Past). cancels p.history) (open_at c l.connections) []) (record l { connections = with_closed c l.connections }) (closed_read c l.connections h)

@@ -28,7 +28,8 @@ pub record GivesWell (family : Family) (events : List FamilyEvent) : Type 0 wher
   -- the bytes that it gives are those that were put on these connections
   pub sent : (lone_output family events).sent ≡ map sent_bytes_on (run_connections family events)
   -- on each of which the client reads what was given to its streams
-  pub read : AreConnectionsRead 0 (run_given_items family events) (run_connections family events)
+  pub read : AreConnectionsRead family.own.limits.window 0 (run_given_items family events)
+      (run_connections family events)
   -- that is what the instance answers, from the state in which it was opened
   pub state : (run_of_family family events).own.lone.state ≡ run_state family events
   -- each blob is named by the digest that was asked for

@@ -74,7 +74,8 @@ items_on place stream gs = flat_map (items_given place stream) gs
 -- ---- runs
 
 abbrev pub new_instance_of : ConfigValue → InstanceState
-new_instance_of config = new_instance config.name config.quota config.slots
+new_instance_of config =
+    new_instance config.name config.quota config.slots config.limits
 
 abbrev pub run_happenings : Family → List FamilyEvent → List Happening
 run_happenings family events = happenings (new_family_run family) events
@@ -104,18 +105,20 @@ ReadsText p =
     (later : List RawFrame)
     × ((split CLIENT_PREFACE.now p.text).items ≡ received_raw_frames p.history ++ later)
 
--- on each stream of the connection at this place the client reads a beginning of what was given
-pub record IsConnectionRead (place : ℕ) (gs : List GivenItems) (k : LoneConnection) : Type 0 where
-  pub made : IsPast k.past
-  pub text : ReadsText k.past
-  pub reads : IsReadByClient k.past
-  pub owed : (s : ℕ) → items_owed_on s k.past.owed ≡ items_on place s gs
-  pub responses : (s : ℕ) →
-      IsBeginning longest_message (stream_parts k.past.history s)
-      (response_of (items_on place s gs))
+-- on each stream of the connection at this place, whose windows are of so many bytes, the client
+-- reads a beginning of what was given
+pub record IsConnectionRead (window place : ℕ) (gs : List GivenItems) (k : LoneConnection) : Type 0
+  where
+    pub made : IsPast window k.past
+    pub text : ReadsText k.past
+    pub reads : IsReadByClient window k.past
+    pub owed : (s : ℕ) → items_owed_on s k.past.owed ≡ items_on place s gs
+    pub responses : (s : ℕ) →
+        IsBeginning longest_message (stream_parts k.past.history s)
+        (response_of (items_on place s gs))
 
 -- of the connections from this place on
-abbrev pub AreConnectionsRead : ℕ → List GivenItems → List LoneConnection → Type 0
-AreConnectionsRead place gs [] = Unit {0}
-AreConnectionsRead place gs (k ∷ ks) =
-    IsConnectionRead place gs k × AreConnectionsRead (suc place) gs ks
+abbrev pub AreConnectionsRead : ℕ → ℕ → List GivenItems → List LoneConnection → Type 0
+AreConnectionsRead window place gs [] = Unit {0}
+AreConnectionsRead window place gs (k ∷ ks) =
+    IsConnectionRead window place gs k × AreConnectionsRead window (suc place) gs ks

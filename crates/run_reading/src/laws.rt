@@ -62,7 +62,8 @@ pub fn replies_are_read()
         → (lone_output family events).sent ≡ map sent_bytes_on (run_connections family events) }
     ensures read { (family : Family) (events : List FamilyEvent) → AreLimited family
         → AllByRecursion IsNarrow (map event_in events)
-        → AreConnectionsRead 0 (run_given_items family events) (run_connections family events) }
+        → AreConnectionsRead family.own.limits.window 0 (run_given_items family events)
+        (run_connections family events) }
 {}
 
 /// Each accepted event of a run leaves the instance's open connections settled: an error of the

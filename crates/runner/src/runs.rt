@@ -1,7 +1,8 @@
 //! Runs, from their start to their end.
 
-ghost use Rattle.std.specs.Prelude.{◌≡◌, ◌<◌, ◌≤◌, ◌++◌, ◌∷◌, ◌⊎◌, [], None, Ok, List, IfOk, IfErr, IfSome, IfNone, OnOk, OnErr, length, vec_len, vec_capacity, take, drop, insert, option_map, slice_get};
+ghost use Rattle.std.specs.Prelude.{◌≡◌, ◌<◌, ◌≤◌, ◌++◌, ◌∷◌, ◌⊎◌, [], false, not, None, Ok, List, IfOk, IfErr, IfSome, IfNone, OnOk, OnErr, length, vec_len, vec_capacity, take, drop, insert, option_map, slice_get};
 ghost use Rattle.std.specs.List.{list_any};
+ghost use Rattle.std.specs.Option.{option_map_or};
 ghost use Rattle.runner.specs.Faults.{Counted, FaultFailed};
 ghost use Rattle.runner.specs.Sizes.{IsCounted};
 ghost use Rattle.runner.specs.Runs.{EndsBy, HasGone, KillsBy, HasNone, can_go_on, ending_of, IsAt, IsAsked, IsKilled, IsOver, IsStarted, is_run_of, run_left};
@@ -278,6 +279,17 @@ impl<F: Folder + Drop, P: Programs + Drop> Runner<F, P> {
     {
         let run = self.runs.get(at)?;
         Some(run.place.run)
+    }
+
+    /// Whether the run of this number waits, for a folder or a program.
+    pub fn waits(&self, at: usize) -> bool
+        ensures { result ≡ option_map_or (λ (run : Run). not (can_go_on run.state))
+            (slice_get self.now.runs.items at) false }
+    {
+        match self.runs.get(at) {
+            Some(run) => !can_go_on(&run.state),
+            None => false,
+        }
     }
 
     /// Whether there is a run of a job, if only to be ended.

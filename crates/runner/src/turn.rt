@@ -1,4 +1,4 @@
-//! What is done for a run in one call: steps, until they took some milliseconds.
+//! What is done for a run in one call: steps, until they took some tenths of a millisecond.
 
 ghost use Rattle.std.specs.Prelude.{◌≡◌, IfErr, IfOk};
 ghost use Rattle.run_calls.specs.Values.{place_shown};
@@ -16,8 +16,8 @@ use crate::stage::{Making, Stage, Step, Stopped};
 use run_calls::{Folder, Place, Programs, Texts};
 use std::alloc::Global;
 
-/// What steps may cost in one call: so much takes 256 small calls, or a megabyte that is hashed.
-const MOST_COST: u32 = 256;
+/// What steps may cost in one call: so much takes eight small calls, or 32 kilobytes that are hashed.
+const MOST_COST: u32 = 8;
 
 /// The next step of a run.
 fn step<F: Folder, P: Programs, T: Texts>(

@@ -15,6 +15,7 @@ use Rattle.server_events.proofs.ListLemmas.{passes_none}
 use Rattle.server_events.specs.declared.fault.ConfigFault.{ConfigFault}
 use Rattle.server_events.specs.declared.fault.ConfigFault.TheVariants.{BadParent, TooMany}
 use Rattle.server_events.specs.Configs.{ConfigValue, config_fault, first_own_fault, first_parent_fault, has_bad_parent, instance_limit, names_a_root, own_fault}
+use Rattle.server_events.specs.Limits.{LimitsValue}
 use Rattle.script.specs.declared.replay.instance.InstanceForm.{InstanceForm}
 use Rattle.script.specs.ReplayEvents.{event_of}
 use Rattle.script.specs.FirstBadLine.{Leads}
@@ -80,11 +81,11 @@ own_faults-push configs last h may =
     rw (few, first_own_fault-push [] configs last, before) own
 
 -- an instance that is added is good
-pub added : (all : List ConfigValue) (before : List ConfigValue) (words : List (List ℕ)) (made : ConfigValue)
-    → option_and_then (config_if_good all before) (config_of words) ≡ Some made
-    → (config_of words ≡ Some made) × (may_follow before made ≡ true) × (may_build all made ≡ true)
-added all before words made h =
-    let read = chained (config_if_good all before) (config_of words) made h in
+pub added : (limits : LimitsValue) → (all : List ConfigValue) (before : List ConfigValue) (words : List (List ℕ)) (made : ConfigValue)
+    → option_and_then (config_if_good all before) (config_of limits words) ≡ Some made
+    → (config_of limits words ≡ Some made) × (may_follow before made ≡ true) × (may_build all made ≡ true)
+added limits all before words made h =
+    let read = chained (config_if_good all before) (config_of limits words) made h in
     let found = chosen (may_follow before read.0 && may_build all read.0) read.0 made read.2 in
     let parts = and_parts (may_follow before read.0) (may_build all read.0) found.0 in
     (read.1 ∙ ap Some found.1, ap (may_follow before) (sym found.1) ∙ parts.0, ap (may_build all) (sym found.1) ∙ parts.1)
@@ -114,84 +115,84 @@ first_is_root-found forms name found e = ap (λ f. option_map_or (λ form. is_no
 -- ---- whole scripts
 
 -- what an instance or an event adds
-answer_of : (configures early : Bool) → List ConfigValue → ReplayScriptValue → List ℕ → List (List ℕ) → Option ReplayScriptValue
-answer_of configures early all script kind arguments =
-    cond configures (cond early (option_map (with_config script) (option_and_then (config_if_good all script.configs) (config_of arguments))) None)
+answer_of : (limits : LimitsValue) → (configures early : Bool) → List ConfigValue → ReplayScriptValue → List ℕ → List (List ℕ) → Option ReplayScriptValue
+answer_of limits configures early all script kind arguments =
+    cond configures (cond early (option_map (with_config script) (option_and_then (config_if_good all script.configs) (config_of limits arguments))) None)
     (option_map (with_event script) (event_of kind arguments))
 
 -- what is so of the instances of a script, and stays so where one is added
 record StaysWith (all : List ConfigValue) (P : List ConfigValue → Type 0) : Type 0 where
   more : (configs : List ConfigValue) (last : ConfigValue) → P configs → may_follow configs last ≡ true → may_build all last ≡ true → P (configs ++ last ∷ [])
 
-kept_answer : (all : List ConfigValue) (P : List ConfigValue → Type 0) → StaysWith all P → (configures early : Bool) (script next : ReplayScriptValue) (kind : List ℕ) (arguments : List (List ℕ))
-    → P script.configs → answer_of configures early all script kind arguments ≡ Some next → P next.configs
+kept_answer : (limits : LimitsValue) → (all : List ConfigValue) (P : List ConfigValue → Type 0) → StaysWith all P → (configures early : Bool) (script next : ReplayScriptValue) (kind : List ℕ) (arguments : List (List ℕ))
+    → P script.configs → answer_of limits configures early all script kind arguments ≡ Some next → P next.configs
 unfolding answer_of
-kept_answer all P stays true true script next kind arguments h e =
-    let made = mapped (with_config script) (option_and_then (config_if_good all script.configs) (config_of arguments)) next e in
-    let good = added all script.configs arguments made.0 made.1 in
+kept_answer limits all P stays true true script next kind arguments h e =
+    let made = mapped (with_config script) (option_and_then (config_if_good all script.configs) (config_of limits arguments)) next e in
+    let good = added limits all script.configs arguments made.0 made.1 in
     subst (λ (s : ReplayScriptValue). P s.configs) made.2 (stays.more script.configs made.0 h good.1 good.2)
-kept_answer all P stays true false script next kind arguments h e = cc
-kept_answer all P stays false early script next kind arguments h e =
+kept_answer limits all P stays true false script next kind arguments h e = cc
+kept_answer limits all P stays false early script next kind arguments h e =
     let made = mapped (with_event script) (event_of kind arguments) next e in
     subst (λ (s : ReplayScriptValue). P s.configs) made.2 h
 
-kept_words : (all : List ConfigValue) (P : List ConfigValue → Type 0) → StaysWith all P → (script next : ReplayScriptValue) (words : List (List ℕ))
-    → P script.configs → after_replay_words all script words ≡ Some next → P next.configs
+kept_words : (limits : LimitsValue) → (all : List ConfigValue) (P : List ConfigValue → Type 0) → StaysWith all P → (script next : ReplayScriptValue) (words : List (List ℕ))
+    → P script.configs → after_replay_words limits all script words ≡ Some next → P next.configs
 unfolding answer_of
-kept_words all P stays script next [] h e = cc
-kept_words all P stays script next (kind ∷ arguments) h e =
-    kept_answer all P stays (bytes_eq kind (codes "instance")) (length script.events == 0) script next kind arguments h e
+kept_words limits all P stays script next [] h e = cc
+kept_words limits all P stays script next (kind ∷ arguments) h e =
+    kept_answer limits all P stays (bytes_eq kind (codes "instance")) (length script.events == 0) script next kind arguments h e
 
-kept_line : (all : List ConfigValue) (P : List ConfigValue → Type 0) → StaysWith all P → (script next : ReplayScriptValue) (line : List ℕ)
-    → P script.configs → after_replay_line all script line ≡ Some next → P next.configs
-kept_line all P stays script next [] h e = let same : script ≡ next = cc in subst (λ (s : ReplayScriptValue). P s.configs) same h
-kept_line all P stays script next (byte ∷ line) h e = kept_words all P stays script next (words_of (byte ∷ line)) h e
+kept_line : (limits : LimitsValue) → (all : List ConfigValue) (P : List ConfigValue → Type 0) → StaysWith all P → (script next : ReplayScriptValue) (line : List ℕ)
+    → P script.configs → after_replay_line limits all script line ≡ Some next → P next.configs
+kept_line limits all P stays script next [] h e = let same : script ≡ next = cc in subst (λ (s : ReplayScriptValue). P s.configs) same h
+kept_line limits all P stays script next (byte ∷ line) h e = kept_words limits all P stays script next (words_of (byte ∷ line)) h e
 
-kept_lines : (all : List ConfigValue) (P : List ConfigValue → Type 0) → StaysWith all P → (from to : ReplayScriptValue) (lines : List (List ℕ))
-    → P from.configs → Leads (after_replay_line all) from lines to → P to.configs
-kept_lines all P stays from to [] h leads = subst (λ (s : ReplayScriptValue). P s.configs) leads h
-kept_lines all P stays from to (line ∷ lines) h leads =
-    kept_lines all P stays leads.0 to lines (kept_line all P stays from leads.0 line h leads.1) leads.2
+kept_lines : (limits : LimitsValue) → (all : List ConfigValue) (P : List ConfigValue → Type 0) → StaysWith all P → (from to : ReplayScriptValue) (lines : List (List ℕ))
+    → P from.configs → Leads (after_replay_line limits all) from lines to → P to.configs
+kept_lines limits all P stays from to [] h leads = subst (λ (s : ReplayScriptValue). P s.configs) leads h
+kept_lines limits all P stays from to (line ∷ lines) h leads =
+    kept_lines limits all P stays leads.0 to lines (kept_line limits all P stays from leads.0 line h leads.1) leads.2
 
 -- ---- parents
 
 -- a line adds the instance that it configures
-configs_answer : (configures early : Bool) (all : List ConfigValue) (script next : ReplayScriptValue) (kind : List ℕ) (arguments : List (List ℕ))
-    → answer_of configures early all script kind arguments ≡ Some next
-    → next.configs ≡ script.configs ++ option_to_list (cond configures (config_of arguments) None)
+configs_answer : (limits : LimitsValue) → (configures early : Bool) (all : List ConfigValue) (script next : ReplayScriptValue) (kind : List ℕ) (arguments : List (List ℕ))
+    → answer_of limits configures early all script kind arguments ≡ Some next
+    → next.configs ≡ script.configs ++ option_to_list (cond configures (config_of limits arguments) None)
 unfolding answer_of
-configs_answer true true all script next kind arguments e =
-    let made = mapped (with_config script) (option_and_then (config_if_good all script.configs) (config_of arguments)) next e in
-    let good = added all script.configs arguments made.0 made.1 in
+configs_answer limits true true all script next kind arguments e =
+    let made = mapped (with_config script) (option_and_then (config_if_good all script.configs) (config_of limits arguments)) next e in
+    let good = added limits all script.configs arguments made.0 made.1 in
     ap (λ (s : ReplayScriptValue). s.configs) (sym made.2)
     ∙ ap (λ (o : Option ConfigValue). script.configs ++ option_to_list o) (sym good.0)
-configs_answer true false all script next kind arguments e = cc
-configs_answer false early all script next kind arguments e =
+configs_answer limits true false all script next kind arguments e = cc
+configs_answer limits false early all script next kind arguments e =
     let made = mapped (with_event script) (event_of kind arguments) next e in
     ap (λ (s : ReplayScriptValue). s.configs) (sym made.2) ∙ sym (append-nil script.configs)
 
-configs_words : (all : List ConfigValue) (script next : ReplayScriptValue) (words : List (List ℕ)) → after_replay_words all script words ≡ Some next
-    → next.configs ≡ script.configs ++ option_to_list (config_of_words words)
+configs_words : (limits : LimitsValue) → (all : List ConfigValue) (script next : ReplayScriptValue) (words : List (List ℕ)) → after_replay_words limits all script words ≡ Some next
+    → next.configs ≡ script.configs ++ option_to_list (config_of_words limits words)
 unfolding answer_of
-configs_words all script next [] e = cc
-configs_words all script next (kind ∷ arguments) e =
-    configs_answer (bytes_eq kind (codes "instance")) (length script.events == 0) all script next kind arguments e
+configs_words limits all script next [] e = cc
+configs_words limits all script next (kind ∷ arguments) e =
+    configs_answer limits (bytes_eq kind (codes "instance")) (length script.events == 0) all script next kind arguments e
 
-configs_line : (all : List ConfigValue) (script next : ReplayScriptValue) (line : List ℕ) → after_replay_line all script line ≡ Some next
-    → next.configs ≡ script.configs ++ option_to_list (config_of_words (words_of line))
-configs_line all script next [] e =
+configs_line : (limits : LimitsValue) → (all : List ConfigValue) (script next : ReplayScriptValue) (line : List ℕ) → after_replay_line limits all script line ≡ Some next
+    → next.configs ≡ script.configs ++ option_to_list (config_of_words limits (words_of line))
+configs_line limits all script next [] e =
     let same : script ≡ next = cc in
     ap (λ (s : ReplayScriptValue). s.configs) (sym same) ∙ sym (append-nil script.configs)
-configs_line all script next (byte ∷ line) e = configs_words all script next (words_of (byte ∷ line)) e
+configs_line limits all script next (byte ∷ line) e = configs_words limits all script next (words_of (byte ∷ line)) e
 
 -- good lines leave the instances of all lines
-configs_lines : (all : List ConfigValue) (from to : ReplayScriptValue) (lines : List (List ℕ)) → Leads (after_replay_line all) from lines to
-    → to.configs ≡ from.configs ++ configs_of_lines lines
-configs_lines all from to [] leads = ap (λ (s : ReplayScriptValue). s.configs) (sym leads) ∙ sym (append-nil from.configs)
-configs_lines all from to (line ∷ lines) leads =
-    configs_lines all leads.0 to lines leads.2
-    ∙ ap (λ (configs : List ConfigValue). configs ++ configs_of_lines lines) (configs_line all from leads.0 line leads.1)
-    ∙ append_assoc from.configs (option_to_list (config_of_words (words_of line))) (configs_of_lines lines)
+configs_lines : (limits : LimitsValue) → (all : List ConfigValue) (from to : ReplayScriptValue) (lines : List (List ℕ)) → Leads (after_replay_line limits all) from lines to
+    → to.configs ≡ from.configs ++ configs_of_lines limits lines
+configs_lines limits all from to [] leads = ap (λ (s : ReplayScriptValue). s.configs) (sym leads) ∙ sym (append-nil from.configs)
+configs_lines limits all from to (line ∷ lines) leads =
+    configs_lines limits all leads.0 to lines leads.2
+    ∙ ap (λ (configs : List ConfigValue). configs ++ configs_of_lines limits lines) (configs_line limits all from leads.0 line leads.1)
+    ∙ append_assoc from.configs (option_to_list (config_of_words limits (words_of line))) (configs_of_lines limits lines)
 
 -- the first of a name is one of the name
 names_first : (configs : List ConfigValue) (name : List ℕ) → first_is_root configs name ≡ true → names_a_root configs name ≡ true
@@ -213,21 +214,21 @@ not_bad configs config h = go config.parent h
     go (Some name) h = ap not (names_first configs name (and_parts (not (bytes_eq name config.name)) (first_is_root configs name) h).1)
 
 -- all of a script's instances may be a server's
-pub config_fault-Leads : (from to : ReplayScriptValue) (lines : List (List ℕ)) → from.configs ≡ []
-    → Leads (after_replay_line (configs_of_lines lines)) from lines to → config_fault to.configs ≡ None
+pub config_fault-Leads : (limits : LimitsValue) → (from to : ReplayScriptValue) (lines : List (List ℕ)) → from.configs ≡ []
+    → Leads (after_replay_line limits (configs_of_lines limits lines)) from lines to → config_fault to.configs ≡ None
 unfolding own_faults
-config_fault-Leads from to lines empty leads =
-    let all = configs_of_lines lines in
+config_fault-Leads limits from to lines empty leads =
+    let all = configs_of_lines limits lines in
     let own : own_faults to.configs ≡ None =
-    kept_lines all (λ configs. own_faults configs ≡ None) (record { more = λ configs last h follows builds. own_faults-push configs last h follows }) from to lines (rw empty refl) leads in
+    kept_lines limits all (λ configs. own_faults configs ≡ None) (record { more = λ configs last h follows builds. own_faults-push configs last h follows }) from to lines (rw empty refl) leads in
     let few = is_within (nat_lt instance_limit (length to.configs)) (first_own_fault [] to.configs) TooMany own in
     let build : All (λ config. may_build all config ≡ true) to.configs =
-    kept_lines all (All (λ config. may_build all config ≡ true)) (record { more = λ configs last h follows builds. All-push (λ config. may_build all config ≡ true) configs last h builds }) from to lines (rw empty (All-nil (λ config. may_build all config ≡ true))) leads in
-    let are : all ≡ to.configs = sym (configs_lines all from to lines leads ∙ ap (λ (configs : List ConfigValue). configs ++ all) empty) in
+    kept_lines limits all (All (λ config. may_build all config ≡ true)) (record { more = λ configs last h follows builds. All-push (λ config. may_build all config ≡ true) configs last h builds }) from to lines (rw empty (All-nil (λ config. may_build all config ≡ true))) leads in
+    let are : all ≡ to.configs = sym (configs_lines limits all from to lines leads ∙ ap (λ (configs : List ConfigValue). configs ++ all) empty) in
     let parents : first_parent_fault to.configs ≡ None =
     ap (option_map BadParent) (passes_none (has_bad_parent to.configs) to.configs (λ k d lt. let config = get_or to.configs k d in not_bad to.configs config (subst (λ (configs : List ConfigValue). may_build configs config ≡ true) are (build k d lt)))) in
     rw (few.0, few.1) parents
 
-pub config_fault-replay_script_of : (text : List ℕ) (script : ReplayScriptValue) → replay_script_of text ≡ Ok script → config_fault script.configs ≡ None
-config_fault-replay_script_of text script read =
-    config_fault-Leads empty_replay_script script (lines_of text) refl (Leads-from_Ok (after_replay_line (configs_of_lines (lines_of text))) 1 empty_replay_script script (lines_of text) read)
+pub config_fault-replay_script_of : (limits : LimitsValue) → (text : List ℕ) (script : ReplayScriptValue) → replay_script_of limits text ≡ Ok script → config_fault script.configs ≡ None
+config_fault-replay_script_of limits text script read =
+    config_fault-Leads limits empty_replay_script script (lines_of text) refl (Leads-from_Ok (after_replay_line limits (configs_of_lines limits (lines_of text))) 1 empty_replay_script script (lines_of text) read)

@@ -15,6 +15,7 @@ use Rattle.decimals.specs.Number.{decimal_of}
 use Rattle.script.specs.Parts.{words_of}
 use Rattle.script.proofs.SplitLemmas.{Lacks-parts_of, parts_of-join}
 use Rattle.server_events.specs.Configs.{ConfigValue, instance_limit, own_fault}
+use Rattle.server_events.specs.Limits.{LimitsValue}
 use Rattle.run_outcomes.specs.Outcomes.{exited, failed}
 use Rattle.server_events.specs.Events.{WhatValue, opened, received, took, closed, tick, ended}
 use Rattle.server_events.proofs.OwnLemmas.{None-from_good, own_fault-None}
@@ -36,13 +37,13 @@ all_ascii word text h =
     let found = chosen (list_all is_ascii word) word text h in
     (found.1, subst (AllPass is_ascii) found.1 (AllPass-from_list_all is_ascii word found.0))
 
-config_words : (words : List (List ℕ)) (made : ConfigValue) → config_of words ≡ Some made → AreConfigWords words made
-config_words [] made h = cc
-config_words (a ∷ []) made h = cc
-config_words (a ∷ b ∷ []) made h = cc
-config_words (name ∷ quota ∷ slots ∷ []) made h =
-    let read = chained (λ bytes. option_map (λ count. config name bytes count None) (number_of slots)) (decimal_of quota) made h in
-    let counted = mapped (λ count. config name read.0 count None) (number_of slots) made read.2 in
+config_words : (limits : LimitsValue) → (words : List (List ℕ)) (made : ConfigValue) → config_of limits words ≡ Some made → AreConfigWords words made
+config_words limits [] made h = cc
+config_words limits (a ∷ []) made h = cc
+config_words limits (a ∷ b ∷ []) made h = cc
+config_words limits (name ∷ quota ∷ slots ∷ []) made h =
+    let read = chained (λ bytes. option_map (λ count. config limits name bytes count None) (number_of slots)) (decimal_of quota) made h in
+    let counted = mapped (λ count. config limits name read.0 count None) (number_of slots) made read.2 in
     subst (AreConfigWords (name ∷ quota ∷ slots ∷ [])) counted.2 (record {
       quota = quota;
       slots = slots;
@@ -51,10 +52,10 @@ config_words (name ∷ quota ∷ slots ∷ []) made h =
       count_number = IsNumber-decimal_below (2 ^ 32) slots counted.0 counted.1;
       ascii = tt;
     })
-config_words (name ∷ quota ∷ slots ∷ parent ∷ []) made h =
-    let read = chained (λ bytes. option_and_then (λ count. option_map (λ text. config name bytes count (Some text)) (ascii_of parent)) (number_of slots)) (decimal_of quota) made h in
-    let counted = chained (λ count. option_map (λ text. config name read.0 count (Some text)) (ascii_of parent)) (number_of slots) made read.2 in
-    let named = mapped (λ text. config name read.0 counted.0 (Some text)) (ascii_of parent) made counted.2 in
+config_words limits (name ∷ quota ∷ slots ∷ parent ∷ []) made h =
+    let read = chained (λ bytes. option_and_then (λ count. option_map (λ text. config limits name bytes count (Some text)) (ascii_of parent)) (number_of slots)) (decimal_of quota) made h in
+    let counted = chained (λ count. option_map (λ text. config limits name read.0 count (Some text)) (ascii_of parent)) (number_of slots) made read.2 in
+    let named = mapped (λ text. config limits name read.0 counted.0 (Some text)) (ascii_of parent) made counted.2 in
     let text = all_ascii parent named.0 named.1 in
     subst (AreConfigWords (name ∷ quota ∷ slots ∷ parent ∷ [])) named.2 (record {
       quota = quota;
@@ -64,19 +65,35 @@ config_words (name ∷ quota ∷ slots ∷ parent ∷ []) made h =
       count_number = IsNumber-decimal_below (2 ^ 32) slots counted.0 counted.1;
       ascii = text.1;
     })
-config_words (a ∷ b ∷ c ∷ d ∷ e ∷ more) made h = cc
+config_words limits (a ∷ b ∷ c ∷ d ∷ e ∷ more) made h = cc
 
-words_config : (words : List (List ℕ)) (name : List ℕ) (quota slots : ℕ) (parent : Option (List ℕ)) → AreConfigWords words (config name quota slots parent)
-    → config_of words ≡ Some (config name quota slots parent)
-words_config words name quota slots None h =
-    ap config_of h.form
-    ∙ ap (option_and_then (λ bytes. option_map (λ count. config name bytes count None) (number_of h.slots))) h.bytes_number
-    ∙ ap (option_map (λ count. config name quota count None)) (decimal_below-IsNumber (2 ^ 32) h.slots slots h.count_number)
-words_config words name quota slots (Some parent) h =
-    ap config_of h.form
-    ∙ ap (option_and_then (λ bytes. option_and_then (λ count. option_map (λ text. config name bytes count (Some text)) (ascii_of parent)) (number_of h.slots))) h.bytes_number
-    ∙ ap (option_and_then (λ count. option_map (λ text. config name quota count (Some text)) (ascii_of parent))) (decimal_below-IsNumber (2 ^ 32) h.slots slots h.count_number)
-    ∙ ap (λ b. option_map (λ text. config name quota slots (Some text)) (cond b (Some parent) None)) (list_all-from_AllPass is_ascii parent h.ascii)
+-- the limits are those that were chosen for all
+chosen_limits : (limits : LimitsValue) → (words : List (List ℕ)) (made : ConfigValue) → config_of limits words ≡ Some made → made.limits ≡ limits
+chosen_limits limits [] made h = cc
+chosen_limits limits (a ∷ []) made h = cc
+chosen_limits limits (a ∷ b ∷ []) made h = cc
+chosen_limits limits (name ∷ quota ∷ slots ∷ []) made h =
+    let read = chained (λ bytes. option_map (λ count. config limits name bytes count None) (number_of slots)) (decimal_of quota) made h in
+    let counted = mapped (λ count. config limits name read.0 count None) (number_of slots) made read.2 in
+    ap (λ (c : ConfigValue). c.limits) (sym counted.2)
+chosen_limits limits (name ∷ quota ∷ slots ∷ parent ∷ []) made h =
+    let read = chained (λ bytes. option_and_then (λ count. option_map (λ text. config limits name bytes count (Some text)) (ascii_of parent)) (number_of slots)) (decimal_of quota) made h in
+    let counted = chained (λ count. option_map (λ text. config limits name read.0 count (Some text)) (ascii_of parent)) (number_of slots) made read.2 in
+    let named = mapped (λ text. config limits name read.0 counted.0 (Some text)) (ascii_of parent) made counted.2 in
+    ap (λ (c : ConfigValue). c.limits) (sym named.2)
+chosen_limits limits (a ∷ b ∷ c ∷ d ∷ e ∷ more) made h = cc
+
+words_config : (limits : LimitsValue) → (words : List (List ℕ)) (name : List ℕ) (quota slots : ℕ) (parent : Option (List ℕ)) → AreConfigWords words (config limits name quota slots parent)
+    → config_of limits words ≡ Some (config limits name quota slots parent)
+words_config limits words name quota slots None h =
+    ap (config_of limits) h.form
+    ∙ ap (option_and_then (λ bytes. option_map (λ count. config limits name bytes count None) (number_of h.slots))) h.bytes_number
+    ∙ ap (option_map (λ count. config limits name quota count None)) (decimal_below-IsNumber (2 ^ 32) h.slots slots h.count_number)
+words_config limits words name quota slots (Some parent) h =
+    ap (config_of limits) h.form
+    ∙ ap (option_and_then (λ bytes. option_and_then (λ count. option_map (λ text. config limits name bytes count (Some text)) (ascii_of parent)) (number_of h.slots))) h.bytes_number
+    ∙ ap (option_and_then (λ count. option_map (λ text. config limits name quota count (Some text)) (ascii_of parent))) (decimal_below-IsNumber (2 ^ 32) h.slots slots h.count_number)
+    ∙ ap (λ b. option_map (λ text. config limits name quota slots (Some text)) (cond b (Some parent) None)) (list_all-from_AllPass is_ascii parent h.ascii)
 
 -- what stands around the first instance of a name
 record IsFirstNamed (all : List ConfigValue) (name : List ℕ) (named : ConfigValue) : Type 0 where
@@ -151,11 +168,11 @@ builds_on all made h = go made.parent h
         ∙ ap (λ o. option_map_or (λ c. is_none c.parent) o false) (found_first h.front h.back name h.root h.other_names h.named)
         ∙ ap is_none h.alone
 
-instance_form : (all : List ConfigValue) (before after : ReplayScriptValue) (kind : List ℕ) (arguments : List (List ℕ)) (made : ConfigValue)
-    → kind ≡ codes "instance" → before.events ≡ [] → option_and_then (config_if_good all before.configs) (config_of arguments) ≡ Some made → with_config before made ≡ after
-    → IsReplayInstanceLine all before (kind ∷ arguments) after
-instance_form all before after kind arguments made k first h adds =
-    let found = added all before.configs arguments made h in
+instance_form : (limits : LimitsValue) → (all : List ConfigValue) (before after : ReplayScriptValue) (kind : List ℕ) (arguments : List (List ℕ)) (made : ConfigValue)
+    → kind ≡ codes "instance" → before.events ≡ [] → option_and_then (config_if_good all before.configs) (config_of limits arguments) ≡ Some made → with_config before made ≡ after
+    → IsReplayInstanceLine limits all before (kind ∷ arguments) after
+instance_form limits all before after kind arguments made k first h adds =
+    let found = added limits all before.configs arguments made h in
     let may = and_parts (nat_lt (length before.configs) instance_limit) (is_none (own_fault before.configs made)) found.1 in
     let free = may.0 in
     let good = own_fault-None before.configs made (none_is _ may.1) in
@@ -163,7 +180,8 @@ instance_form all before after kind arguments made k first h adds =
       arguments = arguments;
       made = made;
       form = ap (λ w. w ∷ arguments) k;
-      config_words = config_words arguments made found.0;
+      config_words = config_words limits arguments made found.0;
+      chosen = chosen_limits limits arguments made found.0;
       first = first;
       room = grind (arith, nat_tests);
       good = good.0;
@@ -196,37 +214,37 @@ event_form before after kind (moment ∷ instance ∷ arguments) h =
       adds = sym added.2 ∙ ap (with_event before) (sym what.2);
     }
 
-words_form : (all : List ConfigValue) (before after : ReplayScriptValue) (words : List (List ℕ)) → after_replay_words all before words ≡ Some after
-    → IsReplayInstanceLine all before words after ⊎ IsEventLine before words after
-words_form all before after [] h = cc
-words_form all before after (kind ∷ arguments) h = go (bytes_eq kind (codes "instance")) refl h
+words_form : (limits : LimitsValue) → (all : List ConfigValue) (before after : ReplayScriptValue) (words : List (List ℕ)) → after_replay_words limits all before words ≡ Some after
+    → IsReplayInstanceLine limits all before words after ⊎ IsEventLine before words after
+words_form limits all before after [] h = cc
+words_form limits all before after (kind ∷ arguments) h = go (bytes_eq kind (codes "instance")) refl h
   where
     go : (configures : Bool) → bytes_eq kind (codes "instance") ≡ configures
-        → cond configures (cond (length before.events == 0) (option_map (with_config before) (option_and_then (config_if_good all before.configs) (config_of arguments))) None)
+        → cond configures (cond (length before.events == 0) (option_map (with_config before) (option_and_then (config_if_good all before.configs) (config_of limits arguments))) None)
         (option_map (with_event before) (event_of kind arguments)) ≡ Some after
-        → IsReplayInstanceLine all before (kind ∷ arguments) after ⊎ IsEventLine before (kind ∷ arguments) after
+        → IsReplayInstanceLine limits all before (kind ∷ arguments) after ⊎ IsEventLine before (kind ∷ arguments) after
     go true i h =
-        let early = if_some (length before.events == 0) (option_map (with_config before) (option_and_then (config_if_good all before.configs) (config_of arguments))) after h in
-        let more = mapped (with_config before) (option_and_then (config_if_good all before.configs) (config_of arguments)) after early.1 in
-        inl (instance_form all before after kind arguments more.0 ((bytes_eq-Decides kind (codes "instance")).0 i) (nothing_left before.events early.0) more.1 more.2)
+        let early = if_some (length before.events == 0) (option_map (with_config before) (option_and_then (config_if_good all before.configs) (config_of limits arguments))) after h in
+        let more = mapped (with_config before) (option_and_then (config_if_good all before.configs) (config_of limits arguments)) after early.1 in
+        inl (instance_form limits all before after kind arguments more.0 ((bytes_eq-Decides kind (codes "instance")).0 i) (nothing_left before.events early.0) more.1 more.2)
     go false i h = inr (event_form before after kind arguments h)
 
 -- ---- from a form to a good line
 
-Some-from_instance : (all : List ConfigValue) (before after : ReplayScriptValue) (words : List (List ℕ)) → IsReplayInstanceLine all before words after
-    → after_replay_words all before words ≡ Some after
-Some-from_instance all before after words h =
+Some-from_instance : (limits : LimitsValue) → (all : List ConfigValue) (before after : ReplayScriptValue) (words : List (List ℕ)) → IsReplayInstanceLine limits all before words after
+    → after_replay_words limits all before words ≡ Some after
+Some-from_instance limits all before after words h =
     let made = h.made in
     let own = None-from_good before.configs made h.good h.new_name in
     let free = h.room in
     let room : nat_lt (length before.configs) instance_limit ≡ true = grind (arith, nat_tests) in
-    let read : option_and_then (config_if_good all before.configs) (config_of h.arguments) ≡ Some made =
-    ap (option_and_then (config_if_good all before.configs)) (words_config h.arguments made.name made.quota made.slots made.parent h.config_words)
+    let read : option_and_then (config_if_good all before.configs) (config_of limits h.arguments) ≡ Some made =
+    ap (option_and_then (config_if_good all before.configs)) (subst (λ (l : LimitsValue). config_of l h.arguments ≡ Some made) h.chosen (words_config made.limits h.arguments made.name made.quota made.slots made.parent h.config_words))
     ∙ ap (λ b. cond ((b && is_none (own_fault before.configs made)) && may_build all made) (Some made) None) room
     ∙ ap (λ r. cond (is_none r && may_build all made) (Some made) None) own
     ∙ ap (λ b. cond b (Some made) None) (builds_on all made h.parent) in
-    ap (after_replay_words all before) h.form
-    ∙ ap (λ events. cond (length events == 0) (option_map (with_config before) (option_and_then (config_if_good all before.configs) (config_of h.arguments))) None) h.first
+    ap (after_replay_words limits all before) h.form
+    ∙ ap (λ events. cond (length events == 0) (option_map (with_config before) (option_and_then (config_if_good all before.configs) (config_of limits h.arguments))) None) h.first
     ∙ ap (option_map (with_config before)) read ∙ ap Some (sym h.adds)
 
 -- no line of an event begins as an instance's does
@@ -239,48 +257,48 @@ other_kind kind arguments tick h = rw (h.0) refl
 other_kind kind arguments (ended job failed) h = rw (h.0) refl
 other_kind kind arguments (ended job (exited run)) h = rw (h.0) refl
 
-Some-from_event : (all : List ConfigValue) (before after : ReplayScriptValue) (words : List (List ℕ)) → IsEventLine before words after
-    → after_replay_words all before words ≡ Some after
-Some-from_event all before after words h =
+Some-from_event : (limits : LimitsValue) → (all : List ConfigValue) (before after : ReplayScriptValue) (words : List (List ℕ)) → IsEventLine before words after
+    → after_replay_words limits all before words ≡ Some after
+Some-from_event limits all before after words h =
     let read : event_of h.kind (h.moment ∷ h.instance ∷ h.arguments) ≡ Some (event_at h.at h.number h.what) =
     ap (option_and_then (λ at. option_and_then (λ number. option_map (event_at at number) (what_of h.kind h.arguments)) (number_of h.instance))) h.moment_number
     ∙ ap (option_and_then (λ number. option_map (event_at h.at number) (what_of h.kind h.arguments))) (decimal_below-IsNumber (2 ^ 32) h.instance h.number h.instance_number)
     ∙ ap (option_map (event_at h.at h.number)) (Some-from_Tells h.kind h.arguments h.what h.tells) in
-    ap (after_replay_words all before) h.form
-    ∙ ap (λ b. cond b (cond (length before.events == 0) (option_map (with_config before) (option_and_then (config_if_good all before.configs) (config_of (h.moment ∷ h.instance ∷ h.arguments)))) None) (option_map (with_event before) (event_of h.kind (h.moment ∷ h.instance ∷ h.arguments)))) (other_kind h.kind h.arguments h.what h.tells)
+    ap (after_replay_words limits all before) h.form
+    ∙ ap (λ b. cond b (cond (length before.events == 0) (option_map (with_config before) (option_and_then (config_if_good all before.configs) (config_of limits (h.moment ∷ h.instance ∷ h.arguments)))) None) (option_map (with_event before) (event_of h.kind (h.moment ∷ h.instance ∷ h.arguments)))) (other_kind h.kind h.arguments h.what h.tells)
     ∙ ap (option_map (with_event before)) read ∙ ap Some (sym h.adds)
 
-Some-from_words : (all : List ConfigValue) (before after : ReplayScriptValue) (words : List (List ℕ)) → IsReplayInstanceLine all before words after ⊎ IsEventLine before words after
-    → after_replay_words all before words ≡ Some after
-Some-from_words all before after words (inl h) = Some-from_instance all before after words h
-Some-from_words all before after words (inr h) = Some-from_event all before after words h
+Some-from_words : (limits : LimitsValue) → (all : List ConfigValue) (before after : ReplayScriptValue) (words : List (List ℕ)) → IsReplayInstanceLine limits all before words after ⊎ IsEventLine before words after
+    → after_replay_words limits all before words ≡ Some after
+Some-from_words limits all before after words (inl h) = Some-from_instance limits all before after words h
+Some-from_words limits all before after words (inr h) = Some-from_event limits all before after words h
 
 -- ---- whole lines
 
 -- an empty line has one empty word, which begins no line
-words_alone : (all : List ConfigValue) (before after : ReplayScriptValue) (line : List ℕ) → after_replay_words all before (words_of line) ≡ Some after
-    → after_replay_line all before line ≡ Some after
-words_alone all before after [] h = cc
-words_alone all before after (byte ∷ line) h = h
+words_alone : (limits : LimitsValue) → (all : List ConfigValue) (before after : ReplayScriptValue) (line : List ℕ) → after_replay_words limits all before (words_of line) ≡ Some after
+    → after_replay_line limits all before line ≡ Some after
+words_alone limits all before after [] h = cc
+words_alone limits all before after (byte ∷ line) h = h
 
 words_of-spelled : (line : List ℕ) (words : List (List ℕ)) → IsSpelled line words → (words ≡ [] → ⊥) → words_of line ≡ words
 words_of-spelled line [] h some = absurd (some refl)
 words_of-spelled line (word ∷ words) h some = ap words_of h.form ∙ parts_of-join 32 word words h.apart
 
-some_words : (all : List ConfigValue) (before after : ReplayScriptValue) (words : List (List ℕ)) → after_replay_words all before words ≡ Some after → words ≡ [] → ⊥
-some_words all before after words h e = let none : None ≡ Some after = sym (ap (after_replay_words all before) e) ∙ h in cc
+some_words : (limits : LimitsValue) → (all : List ConfigValue) (before after : ReplayScriptValue) (words : List (List ℕ)) → after_replay_words limits all before words ≡ Some after → words ≡ [] → ⊥
+some_words limits all before after words h e = let none : None ≡ Some after = sym (ap (after_replay_words limits all before) e) ∙ h in cc
 
-pub good_line_has_form : (all : List ConfigValue) (before after : ReplayScriptValue) (line : List ℕ)
-    → (after_replay_line all before line ≡ Some after) ↔ IsGoodReplayLine all before line after
-good_line_has_form all before after line = (there line, back)
+pub good_line_has_form : (limits : LimitsValue) → (all : List ConfigValue) (before after : ReplayScriptValue) (line : List ℕ)
+    → (after_replay_line limits all before line ≡ Some after) ↔ IsGoodReplayLine limits all before line after
+good_line_has_form limits all before after line = (there line, back)
   where
-    there : (line : List ℕ) → after_replay_line all before line ≡ Some after → IsGoodReplayLine all before line after
+    there : (line : List ℕ) → after_replay_line limits all before line ≡ Some after → IsGoodReplayLine limits all before line after
     there [] h = inl (refl, cc)
     there (byte ∷ line) h =
-        inr (words_of (byte ∷ line), record { form = sym (join_with_byte-slice_split 32 (byte ∷ line)); apart = Lacks-parts_of 32 (byte ∷ line) }, words_form all before after (words_of (byte ∷ line)) h)
+        inr (words_of (byte ∷ line), record { form = sym (join_with_byte-slice_split 32 (byte ∷ line)); apart = Lacks-parts_of 32 (byte ∷ line) }, words_form limits all before after (words_of (byte ∷ line)) h)
 
-    back : IsGoodReplayLine all before line after → after_replay_line all before line ≡ Some after
-    back (inl empty) = ap (after_replay_line all before) empty.0 ∙ ap Some (sym empty.1)
+    back : IsGoodReplayLine limits all before line after → after_replay_line limits all before line ≡ Some after
+    back (inl empty) = ap (after_replay_line limits all before) empty.0 ∙ ap Some (sym empty.1)
     back (inr form) =
-        let read = Some-from_words all before after form.0 form.2 in
-        words_alone all before after line (ap (after_replay_words all before) (words_of-spelled line form.0 form.1 (some_words all before after form.0 read)) ∙ read)
+        let read = Some-from_words limits all before after form.0 form.2 in
+        words_alone limits all before after line (ap (after_replay_words limits all before) (words_of-spelled line form.0 form.1 (some_words limits all before after form.0 read)) ∙ read)

@@ -16,3 +16,5 @@ pub mod UnaryLinesRead
 pub mod UnaryScript
 pub mod UnaryShown
 pub use Rattle.server_events.specs.Instance
+pub use Rattle.server_events.specs.Limits
+pub use Rattle.server_events.specs.LimitsShown

@@ -11,6 +11,7 @@ use Rattle.server_events.specs.Configs.{ConfigValue, instance_limit}
 use Rattle.run_outcomes.specs.Outcomes.{ExitedValue, OutputValue, exited, failed}
 use Rattle.server_events.specs.Events.{WhatValue, opened, received, took, closed, tick, ended}
 use Rattle.server_events.specs.Faults.{IsConfig}
+use Rattle.server_events.specs.Limits.{LimitsValue}
 use Rattle.script.specs.ReplayEvents.{content_limit, event_at, plain_file}
 use Rattle.script.specs.ReplayScript.{ReplayScriptValue, with_config, with_event}
 
@@ -115,12 +116,13 @@ pub record MayBuildOn (all : List ConfigValue) (made : ConfigValue) (name : List
 
 -- `instance NAME QUOTA SLOTS [PARENT]`, before any event: one more instance, which may follow those
 -- before it, and builds on none or may build on its parent among all of these
-pub record IsReplayInstanceLine (all : List ConfigValue) (before : ReplayScriptValue)
-    (words : List (List ℕ)) (after : ReplayScriptValue) : Type 0 where
+pub record IsReplayInstanceLine (limits : LimitsValue) (all : List ConfigValue)
+    (before : ReplayScriptValue) (words : List (List ℕ)) (after : ReplayScriptValue) : Type 0 where
   pub arguments : List (List ℕ)
   pub made : ConfigValue
   pub form : words ≡ codes "instance" ∷ arguments
   pub config_words : AreConfigWords arguments made
+  pub chosen : made.limits ≡ limits
   pub first : before.events ≡ []
   pub room : length before.configs < instance_limit
   pub good : IsConfig made
@@ -145,9 +147,9 @@ pub record IsEventLine (before : ReplayScriptValue) (words : List (List ℕ))
   pub adds : after ≡ with_event before (event_at at number what)
 
 -- a line that leads from one script to the next: an empty one, which adds nothing, or one of these
-abbrev pub IsGoodReplayLine : List ConfigValue → ReplayScriptValue → List ℕ → ReplayScriptValue →
-    Type 0
-IsGoodReplayLine all before line after =
+abbrev pub IsGoodReplayLine : LimitsValue → List ConfigValue → ReplayScriptValue → List ℕ →
+    ReplayScriptValue → Type 0
+IsGoodReplayLine limits all before line after =
     ((line ≡ []) × (after ≡ before))
     ⊎ ((words : List (List ℕ)) × IsSpelled line words
-    × (IsReplayInstanceLine all before words after ⊎ IsEventLine before words after))
+    × (IsReplayInstanceLine limits all before words after ⊎ IsEventLine before words after))

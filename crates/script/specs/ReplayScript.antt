@@ -8,6 +8,7 @@ use Rattle.decimals.specs.Number.{decimal_of}
 use Rattle.script.specs.Parts.{lines_of, words_of}
 use Rattle.server_events.specs.Configs.{ConfigValue, instance_limit, own_fault}
 use Rattle.server_events.specs.Events.{EventValue}
+use Rattle.server_events.specs.Limits.{LimitsValue}
 use Rattle.script.specs.Arguments.{ascii_of, number_of}
 use Rattle.script.specs.ReplayEvents.{event_of}
 
@@ -17,20 +18,21 @@ pub record ReplayScriptValue : Type 0 where
 
 -- ---- instances
 
-abbrev pub config : List ℕ → ℕ → ℕ → Option (List ℕ) → ConfigValue
-config name quota slots parent =
-    record { name = name; quota = quota; slots = slots; parent = parent }
+abbrev pub config : LimitsValue → List ℕ → ℕ → ℕ → Option (List ℕ) → ConfigValue
+config limits name quota slots parent =
+    record { name = name; quota = quota; slots = slots; limits = limits; parent = parent }
 
--- NAME QUOTA SLOTS, and behind it PARENT, in ASCII, where the instance builds on one
-abbrev pub config_of : List (List ℕ) → Option ConfigValue
-config_of (name ∷ quota ∷ slots ∷ []) =
-    option_and_then (λ bytes. option_map (λ count. config name bytes count None)
+-- NAME QUOTA SLOTS, and behind it PARENT, in ASCII, where the instance builds on one; these limits
+-- were chosen for all
+abbrev pub config_of : LimitsValue → List (List ℕ) → Option ConfigValue
+config_of limits (name ∷ quota ∷ slots ∷ []) =
+    option_and_then (λ bytes. option_map (λ count. config limits name bytes count None)
     (number_of slots)) (decimal_of quota)
-config_of (name ∷ quota ∷ slots ∷ parent ∷ []) =
+config_of limits (name ∷ quota ∷ slots ∷ parent ∷ []) =
     option_and_then (λ bytes. option_and_then (λ count.
-    option_map (λ text. config name bytes count (Some text)) (ascii_of parent)) (number_of slots))
-    (decimal_of quota)
-config_of _ = None
+    option_map (λ text. config limits name bytes count (Some text)) (ascii_of parent))
+    (number_of slots)) (decimal_of quota)
+config_of limits _ = None
 
 -- an instance may follow these others: they leave room for it, and it has no fault
 abbrev pub may_follow : List ConfigValue → ConfigValue → Bool
@@ -57,16 +59,16 @@ config_if_good all before config =
 -- ---- the instances on which others may build
 
 -- the instance that a line of these words configures
-abbrev pub config_of_words : List (List ℕ) → Option ConfigValue
-config_of_words [] = None
-config_of_words (kind ∷ arguments) =
-    if bytes_eq kind (codes "instance") then config_of arguments else None
+abbrev pub config_of_words : LimitsValue → List (List ℕ) → Option ConfigValue
+config_of_words limits [] = None
+config_of_words limits (kind ∷ arguments) =
+    if bytes_eq kind (codes "instance") then config_of limits arguments else None
 
 -- those of all lines, wherever they stand
-abbrev pub configs_of_lines : List (List ℕ) → List ConfigValue
-configs_of_lines [] = []
-configs_of_lines (line ∷ lines) =
-    option_to_list (config_of_words (words_of line)) ++ configs_of_lines lines
+abbrev pub configs_of_lines : LimitsValue → List (List ℕ) → List ConfigValue
+configs_of_lines limits [] = []
+configs_of_lines limits (line ∷ lines) =
+    option_to_list (config_of_words limits (words_of line)) ++ configs_of_lines limits lines
 
 -- ---- one line after others
 
@@ -79,32 +81,35 @@ with_event script event = record script { events = script.events ++ event ∷ []
 -- the script with one more line of these words; none where they have no form, or where they
 -- configure an instance after an event, one that may not follow those before it, or one that may
 -- not build on its parent among all of these
-abbrev pub after_replay_words : List ConfigValue → ReplayScriptValue → List (List ℕ) →
-    Option ReplayScriptValue
-after_replay_words all script [] = None
-after_replay_words all script (kind ∷ arguments) =
+abbrev pub after_replay_words : LimitsValue → List ConfigValue → ReplayScriptValue →
+    List (List ℕ) → Option ReplayScriptValue
+after_replay_words limits all script [] = None
+after_replay_words limits all script (kind ∷ arguments) =
     if bytes_eq kind (codes "instance")
     then (if length script.events == 0
     then option_map (with_config script)
-    (option_and_then (config_if_good all script.configs) (config_of arguments)) else None)
+    (option_and_then (config_if_good all script.configs) (config_of limits arguments)) else None)
     else option_map (with_event script) (event_of kind arguments)
 
 -- the script with one more line; an empty line adds nothing
-abbrev pub after_replay_line : List ConfigValue → ReplayScriptValue → List ℕ →
+abbrev pub after_replay_line : LimitsValue → List ConfigValue → ReplayScriptValue → List ℕ →
     Option ReplayScriptValue
-after_replay_line all script [] = Some script
-after_replay_line all script (byte ∷ line) = after_replay_words all script (words_of (byte ∷ line))
+after_replay_line limits all script [] = Some script
+after_replay_line limits all script (byte ∷ line) =
+    after_replay_words limits all script (words_of (byte ∷ line))
 
 -- ---- whole texts
 
 abbrev pub empty_replay_script : ReplayScriptValue
 empty_replay_script = record { configs = []; events = [] }
 
--- the script that these lines write, where an instance may build on one of any line
-abbrev pub replay_script_of_lines : List (List ℕ) → Result ReplayScriptValue ℕ
-replay_script_of_lines lines =
-    after_lines (after_replay_line (configs_of_lines lines)) 1 empty_replay_script lines
+-- the script that these lines write, where an instance may build on one of any line, and these
+-- limits were chosen for all
+abbrev pub replay_script_of_lines : LimitsValue → List (List ℕ) → Result ReplayScriptValue ℕ
+replay_script_of_lines limits lines =
+    after_lines (after_replay_line limits (configs_of_lines limits lines)) 1 empty_replay_script
+    lines
 
 -- the script that a text writes, or the number of its first bad line, counted from 1
-abbrev pub replay_script_of : List ℕ → Result ReplayScriptValue ℕ
-replay_script_of text = replay_script_of_lines (lines_of text)
+abbrev pub replay_script_of : LimitsValue → List ℕ → Result ReplayScriptValue ℕ
+replay_script_of limits text = replay_script_of_lines limits (lines_of text)

@@ -19,3 +19,4 @@ pub mod unary;
 pub use crate::fault::ScriptFault;
 pub use crate::hexadecimal::{hex_bytes, write_hex};
 pub use crate::parts::{Parts, lines, words};
+pub use server_events::Limits;

@@ -14,7 +14,7 @@ use Rattle.serve.specs.Served.{begun}
 use Rattle.serve.specs.KeepsServing.{StandsServing, AllServing}
 
 abbrev Starts : List ConfigValue → List ServedState → Type 0
-Starts configs vs = (i : ℕ) (config : ConfigValue) → config_at i configs ≡ Some config → StandsAt i vs (new_lone config.name config.quota config.slots)
+Starts configs vs = (i : ℕ) (config : ConfigValue) → config_at i configs ≡ Some config → StandsAt i vs (new_lone config.name config.quota config.slots config.limits)
 
 pub at_first : (configs : List ConfigValue) (vs : List ServedState) → Starts configs vs → AllServing configs [] vs
 at_first configs vs starts = record {

@@ -458,12 +458,12 @@ written_here (shut c) ws = ws
 abbrev FitsIn : List Written → LoneInstance → Type 0
 FitsIn ws l = Fits ws l.connections
 
-stepped_fits : (parent : List Blob) (e : EventValue) (l : LoneInstance) (refusal : Option EventRefusal) (ws : List Written) → (refusal ≡ None → Fits ws (connections_after e.what l.connections)) → ((x : EventRefusal) → refusal ≡ Some x → FitsIn ws l) → FitsIn ws (after_event_unless parent e l refusal)
-stepped_fits parent e l None ws done kept = fits_grown ws (connections_after e.what l.connections) (after_event parent e l).connections (accepted_more parent e l) (done refl)
+stepped_fits : (parent : List Blob) (e : EventValue) (l : LoneInstance) (refusal : Option EventRefusal) (ws : List Written) → (refusal ≡ None → Fits ws (connections_after l.state.limits.window e.what l.connections)) → ((x : EventRefusal) → refusal ≡ Some x → FitsIn ws l) → FitsIn ws (after_event_unless parent e l refusal)
+stepped_fits parent e l None ws done kept = fits_grown ws (connections_after l.state.limits.window e.what l.connections) (after_event parent e l).connections (accepted_more parent e l) (done refl)
 stepped_fits parent e l (Some x) ws done kept = kept x refl
 
 -- an event that is not cut short
-alone_fits : (parent : List Blob) (e : EventValue) (l v : LoneInstance) (ws : List Written) → Makes parent e false l v → (refusal_of e l ≡ None → Fits ws (connections_after e.what l.connections)) → ((x : EventRefusal) → refusal_of e l ≡ Some x → FitsIn ws l) → FitsIn ws v
+alone_fits : (parent : List Blob) (e : EventValue) (l v : LoneInstance) (ws : List Written) → Makes parent e false l v → (refusal_of e l ≡ None → Fits ws (connections_after l.state.limits.window e.what l.connections)) → ((x : EventRefusal) → refusal_of e l ≡ Some x → FitsIn ws l) → FitsIn ws v
 alone_fits parent e l v ws alone done kept =
     subst (FitsIn ws) (sym alone) (stepped_fits parent e l (refusal_of e l) ws done kept)
 
@@ -486,7 +486,7 @@ open_with (Some p) P is = record { past = p; there = refl; has = is }
 port_fits : (parent : List Blob) (m j i : ℕ) (b : Bool) (p : PortEvent) (l v : LoneInstance) (ws : List Written) → Makes parent (event_told m j (what_of p)) b l v → IsFaithful i m l (at_sockets (port j p)) → j ≡ i → FitsIn ws l → FitsIn (written_here p ws) v
 port_fits parent m j i false (accepted c) l v ws may faithful same f =
     alone_fits parent (event_told m j (opened c)) l v (ws ++ (c, []) ∷ []) may
-    (λ is. fits_opened c ws l.connections (faithful same) f) (λ x is. fits_refused c ws l.connections (faithful same) f)
+    (λ is. fits_opened l.state.limits.window c ws l.connections (faithful same) f) (λ x is. fits_refused c ws l.connections (faithful same) f)
 port_fits parent m j i true (accepted c) l v ws may faithful same f =
     left_fits (ws ++ (c, []) ∷ []) v l.connections (ap connections_of may) (fits_refused c ws l.connections (faithful same) f)
 port_fits parent m j i false (read c bytes) l v ws may faithful same f =

@@ -1,6 +1,7 @@
 -- What is written of faults, one after another.
-use Rattle.std.proofs.Common.{◌≡◌, List, ℕ, [], ◌∷◌, ◌++◌, map, refl, ap, sym, ◌∙◌, append_assoc, append-nil, subst, inl, inr}
-use Rattle.std.specs.Prelude.{Bool, true, false, Option, Some, None, Result, Ok, Err}
+use Rattle.std.proofs.Common.{◌≡◌, List, ℕ, [], ◌∷◌, ◌++◌, length, map, refl, ap, sym, ◌∙◌, append_assoc, append-nil, subst, inl, inr}
+use Rattle.std.specs.Prelude.{◌==◌, Bool, true, false, Option, Some, None, Result, Ok, Err, codes}
+use Rattle.std.specs.Fmt.{decimal}
 use Rattle.std.specs.Io.KnownBytes.{Appends}
 use Rattle.std.specs.List.{AllByRecursion, concat}
 use Rattle.std.proofs.lemmas.List.{map-append}
@@ -12,7 +13,7 @@ use Rattle.run_calls.specs.declared.task.RunKey.{RunKey}
 use Rattle.server_events.specs.Configs.{ConfigValue}
 use Rattle.serve.specs.declared.error_lines.Backlog.{Backlog}
 use Rattle.serve.specs.RunEvents.{FaultValue, faults_of}
-use Rattle.serve.specs.FaultLines.{ToldFault, fault_told, IsFaultLine, PutsLine, TellsAnswer, TellsFaults, WritesFront, WritesLines, WritesLinesAt, WritesWholeLines, dropped_line}
+use Rattle.serve.specs.FaultLines.{ToldFault, fault_told, IsFaultLine, PutsLine, TellsAnswer, TellsFaults, WritesFront, WritesLines, WritesLinesAt, WritesWholeLines, dropped_line, escaped, reason_line}
 
 appends_none : (a : Option (List ℕ)) → Appends a a []
 appends_none None = tt
@@ -36,13 +37,22 @@ front_then a b c bytes left more rest first then = (
 pub front_behind : (b c : Option (List ℕ)) (left more text rest : List ℕ) → left ≡ [] → text ≡ more → WritesFront b text c rest → WritesFront b (left ++ more) c rest
 front_behind b c left more text rest none is wrote = (wrote.0, wrote.1, ap (λ (us : List ℕ). us ++ more) none ∙ sym is ∙ wrote.2)
 
--- six texts, one behind another
-pub six : (s t u v w x : List ℕ) → s ++ t ++ u ++ v ++ w ++ x ≡ s ++ (t ++ (u ++ (v ++ (w ++ x))))
-six s t u v w x =
-    append_assoc (s ++ t ++ u ++ v) w x
-    ∙ append_assoc (s ++ t ++ u) v (w ++ x)
-    ∙ append_assoc (s ++ t) u (v ++ (w ++ x))
-    ∙ append_assoc s t (u ++ (v ++ (w ++ x)))
+-- five texts, one behind another, and seven
+pub five : (s t u v w : List ℕ) → s ++ t ++ u ++ v ++ w ≡ s ++ (t ++ (u ++ (v ++ w)))
+five s t u v w =
+    append_assoc (s ++ t ++ u) v w
+    ∙ append_assoc (s ++ t) u (v ++ w)
+    ∙ append_assoc s t (u ++ (v ++ w))
+
+pub seven : (s t u v w x y : List ℕ) → s ++ t ++ u ++ v ++ w ++ x ++ y ≡ s ++ (t ++ (u ++ (v ++ (w ++ (x ++ y)))))
+seven s t u v w x y =
+    append_assoc (s ++ t ++ u ++ v ++ w) x y
+    ∙ append_assoc (s ++ t ++ u ++ v) w (x ++ y)
+    ∙ five s t u v (w ++ (x ++ y))
+
+-- a reason that is there is a line
+pub reason_written : (name reason : List ℕ) (job : ℕ) → (length reason == 0) ≡ false → reason_line name job reason ≡ codes "remoted: run " ++ name ++ codes " " ++ decimal job ++ codes ": " ++ escaped reason ++ codes "\n"
+reason_written name reason job is = rw is refl
 
 -- ---- all faults
 

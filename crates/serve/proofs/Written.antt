@@ -15,6 +15,7 @@ use Rattle.served_instance.specs.Writing.{text_of}
 use Rattle.served_instance.specs.History.{Entry, Took, sent_frames, frame_out}
 use Rattle.served_instance.specs.Bytes.{bytes_put, count_taken, count_taken_by, pending_bytes}
 use Rattle.served_instance.specs.Past.{Past, new_past, with_taken}
+use Rattle.served_instance.proofs.Greeting.{nothing_taken}
 use Rattle.served_instance.specs.Connections.{LoneConnection, is_open_at, open_at, at_open, with_closed, all_closed}
 use Rattle.served_instance.specs.Lone.{sent_bytes_on}
 use Rattle.served_instance.proofs.Growth.{HasGrown, AreGrown, at_is_open}
@@ -186,19 +187,19 @@ fits_refused c (w ∷ ws) (k ∷ ks) none f = elim f [
   | inr is ↦ inr (more_after c w ws k (none_at c k ks none).here is.0, fits_refused c ws ks (none_at c k ks none).later is.1)
 ]
 
-abbrev new_at : ℕ → LoneConnection
-new_at c = record { number = c; past = new_past; is_open = true }
+abbrev new_at : ℕ → ℕ → LoneConnection
+new_at window c = record { number = c; past = new_past window; is_open = true }
 
-first_at : (c : ℕ) → IsWrittenOn (c, []) [] (new_at c)
-first_at c = record { number = refl; more = bytes_put new_past.history; bytes = refl; taken = omega arith; last = λ is. refl }
+first_at : (window c : ℕ) → IsWrittenOn (c, []) [] (new_at window c)
+first_at window c = let none = nothing_taken window in record { number = refl; more = bytes_put (new_past window).history; bytes = refl; taken = omega (arith, none); last = λ is. refl }
 
-pub fits_opened : (c : ℕ) (ws : List Written) (ks : List LoneConnection) → open_at c ks ≡ None → Fits ws ks → Fits (ws ++ (c, []) ∷ []) (ks ++ new_at c ∷ [])
-fits_opened c [] [] none f = inr (first_at c, tt)
-fits_opened c [] (k ∷ ks) none f = absurd f
-fits_opened c (w ∷ ws) [] none f = inl (f.0, fits_opened c ws [] none f.1)
-fits_opened c (w ∷ ws) (k ∷ ks) none f = elim f [
-  | inl skip ↦ inl (skip.0, fits_opened c ws (k ∷ ks) none skip.1)
-  | inr is ↦ inr (more_after c w ws k (none_at c k ks none).here is.0, fits_opened c ws ks (none_at c k ks none).later is.1)
+pub fits_opened : (window c : ℕ) (ws : List Written) (ks : List LoneConnection) → open_at c ks ≡ None → Fits ws ks → Fits (ws ++ (c, []) ∷ []) (ks ++ new_at window c ∷ [])
+fits_opened window c [] [] none f = inr (first_at window c, tt)
+fits_opened window c [] (k ∷ ks) none f = absurd f
+fits_opened window c (w ∷ ws) [] none f = inl (f.0, fits_opened window c ws [] none f.1)
+fits_opened window c (w ∷ ws) (k ∷ ks) none f = elim f [
+  | inl skip ↦ inl (skip.0, fits_opened window c ws (k ∷ ks) none skip.1)
+  | inr is ↦ inr (more_after c w ws k (none_at c k ks none).here is.0, fits_opened window c ws ks (none_at c k ks none).later is.1)
 ]
 
 -- ---- bytes are written

@@ -52,7 +52,7 @@ client_in past c = fold (client_on c) nobody past
 
 -- ---- who makes room
 
--- the connection is open, and no call on it is in course
+-- the connection is open, and no call on it is in course that its client sent whole
 abbrev pub IsIdle : ℕ → LoneInstance → Type 0
 IsIdle c l = option_map (λ p. has_calls p.history) (open_at c l.connections) ≡ Some false
 

@@ -35,19 +35,21 @@ word_of Left = codes "left"
 abbrev pub escaped : List ℕ → List ℕ
 escaped bytes = flat_map escape_ascii bytes
 
--- what was said last, behind the word for a fault; nothing where nothing was
-abbrev pub words_said : List ℕ → List ℕ
-words_said said = if length said == 0 then [] else codes ": " ++ escaped said
+-- a reason has 400 bytes at most
+abbrev pub IsReason : List ℕ → Type 0
+IsReason reason = length reason ≤ 400
 
--- of no other fault than that of a launcher more is said: 200 bytes at most
-abbrev pub IsSaid : RunFault → List ℕ → Type 0
-IsSaid fault said = (length said ≤ 200) × ((said ≡ []) ⊎ (fault ≡ Launcher))
+-- the line that says why the run of a job failed; none where nothing is known
+abbrev pub reason_line : List ℕ → ℕ → List ℕ → List ℕ
+reason_line name job reason =
+    if length reason == 0 then [] else codes "remoted: run " ++ name ++ codes " " ++ decimal job
+    ++ codes ": " ++ escaped reason ++ codes "\n"
 
--- the line that says that the run of a job failed, why, and what was said last
-abbrev pub run_line : List ℕ → ℕ → RunFault → List ℕ → List ℕ
-run_line name job fault said =
+-- the line that says that it failed, and how: it stands alone, and the other behind it
+abbrev pub run_lines : List ℕ → ℕ → RunFault → List ℕ → List ℕ
+run_lines name job fault reason =
     codes "remoted: run " ++ name ++ codes " " ++ decimal job ++ codes " failed: "
-    ++ word_of fault ++ words_said said ++ codes "\n"
+    ++ word_of fault ++ codes "\n" ++ reason_line name job reason
 
 -- the name of the instance of a number
 abbrev pub name_at : ℕ → List ConfigValue → List ℕ
@@ -109,12 +111,12 @@ pub record TellsRun (moment instance : ℕ) (line : List ℕ) (before : Option (
   pub put : PutsLine told line before old after new
   pub within : told ≡ true → may ≡ true
 
--- a fault of a run is a line, with what was said last
+-- a fault of a run is a line, and perhaps its reason one more: both are put, or dropped
 abbrev pub TellsFault : List ConfigValue → ℕ → RunKey → RunFault → Option (List ℕ) → Backlog →
     Option (List ℕ) → Backlog → Type 0
 TellsFault configs moment run fault before old after new =
-    (said : List ℕ) × IsSaid fault said
-    × TellsRun moment run.instance (run_line (name_at run.instance configs) run.job fault said)
+    (reason : List ℕ) × IsReason reason
+    × TellsRun moment run.instance (run_lines (name_at run.instance configs) run.job fault reason)
     before old after new
 
 -- where a run answers a fault, that is a line
@@ -164,8 +166,8 @@ WritesLinesAt moment configs were are before old after new =
 -- it says that the run of one of these faults failed, and why, or how many lines were dropped
 abbrev pub IsFaultLine : List ConfigValue → List ToldFault → List ℕ → Type 0
 IsFaultLine configs told line =
-    ((t : ToldFault) × (said : List ℕ) × Contains told t × IsSaid t.fault said
-    × (line ≡ run_line (name_at t.run.instance configs) t.run.job t.fault said))
+    ((t : ToldFault) × (reason : List ℕ) × Contains told t × IsReason reason
+    × (line ≡ run_lines (name_at t.run.instance configs) t.run.job t.fault reason))
     ⊎ ((n : ℕ) × (line ≡ dropped_line n))
 
 -- such lines are put, each whole, one behind another and behind what is left of one; the end of the

@@ -7,6 +7,7 @@ pub mod Closed
 pub mod KeepsServing
 pub mod Did
 pub mod Numbers
+pub mod Pace
 pub mod KeepsOpen
 pub mod Silence
 pub mod Logged

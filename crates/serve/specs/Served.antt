@@ -119,7 +119,7 @@ MayServe parents before m w (x ∷ h) v =
 
 -- .. from nothing on, and all orders are carried out
 abbrev pub begun : ConfigValue → LoneInstance
-begun config = new_lone config.name config.quota config.slots
+begun config = new_lone config.name config.quota config.slots config.limits
 
 abbrev pub ServesAll : List ConfigValue → List MarkedHappening → List LoneInstance → Type 0
 ServesAll configs h ls =

@@ -1,27 +1,26 @@
 //! Going on with the runs of jobs, and what the server is told of them.
 
-ghost use Rattle.std.specs.Prelude.{◌≡◌, ℕ, List, Option, IfSome, false, min, true};
+ghost use Rattle.std.specs.Prelude.{◌≡◌, ℕ, List, Option, false, min, true};
 ghost use Rattle.run_calls.specs.declared.task.RunKey.{RunKey};
-ghost use Rattle.serve.specs.FaultLines.{IsSaid, TellsAnswer, TellsFault, WritesLinesAt};
+ghost use Rattle.serve.specs.FaultLines.{TellsAnswer, TellsFault, WritesLinesAt};
 ghost use Rattle.serve.specs.RunEvents.{fault_events, gave_events, outcome_events};
 ghost use Rattle.serve.specs.KeepsServing.{KeepsServing, KeepsServingBegun};
 ghost use Rattle.serve.specs.SocketEvents.{SocketEvent};
 
 use crate::carrying::{Counting, tell};
 use crate::error_lines::ErrorLines;
+use crate::pace::{MOST_WAITING, Pace};
 use crate::runs::Runs;
 use crate::sockets::Sockets;
 use run_calls::RunKey;
 use run_outcomes::Outcome;
 use runner::RunFault;
+use server_core::LentTask;
 use server_events::{Configs, What};
 use std::io::Write;
 
-/// How many runs are asked at most in a millisecond where all wait.
-const MOST_WAITING: usize = 64;
-
-/// How much is told at most of what was said last.
-const MOST_SAID: u32 = 200;
+/// How much is told at most of why a run failed.
+const MOST_TOLD: u32 = 400;
 
 /// The outcome of a job whose run has this fault. Where its folder is left it has ended before.
 fn outcome_of(fault: RunFault) -> Option<Outcome>
@@ -37,32 +36,23 @@ fn outcome_of(fault: RunFault) -> Option<Outcome>
     }
 }
 
-/// What a launcher that was lost said last, where that is known.
-fn words_of<R: Runs>(runs: &R, run: RunKey, fault: RunFault) -> Option<Vec<u8>>
-    ensures { IfSome result (λ words. IsSaid fault words.items) }
-{
-    match fault {
-        RunFault::Launcher => runs.last_words(run, MOST_SAID).ok(),
-        _ => None,
-    }
-}
-
-/// Tells the fault of a run, and what a launcher that was lost said last.
+/// Tells the fault of a run, and why it came to that, where that is known.
 fn tell_fault<R: Runs, E: Write>(
     errors: &mut ErrorLines<E>,
     configs: &Configs,
     moment: u64,
     runs: &R,
     run: RunKey,
+    task: Option<LentTask<'_>>,
     fault: RunFault,
 )
     ensures { TellsFault configs.now moment run fault
         (E.contents errors.old.output) errors.old.backlog
         (E.contents errors.new.output) errors.new.backlog }
 {
-    match words_of(runs, run, fault) {
-        Some(words) => errors.tell_fault(configs, moment, run, fault, &words),
-        None => errors.tell_fault(configs, moment, run, fault, &[]),
+    match runs.reason(run, task, fault, MOST_TOLD) {
+        Ok(reason) => errors.tell_fault(configs, moment, run, fault, &reason),
+        Err(_) => errors.tell_fault(configs, moment, run, fault, &[]),
     }
 }
 
@@ -74,6 +64,7 @@ fn told<R: Runs, E: Write>(
     moment: u64,
     runs: &R,
     run: RunKey,
+    task: Option<LentTask<'_>>,
     answer: Result<Option<Outcome>, RunFault>,
 ) -> Option<Outcome>
     ensures gave { gave_events run result ≡ outcome_events run answer }
@@ -84,7 +75,7 @@ fn told<R: Runs, E: Write>(
     match answer {
         Ok(outcome) => outcome,
         Err(fault) => {
-            tell_fault(errors, configs, moment, runs, run, fault);
+            tell_fault(errors, configs, moment, runs, run, task, fault);
             outcome_of(fault)
         }
     }
@@ -108,7 +99,7 @@ fn ask<R: Runs, E: Write>(
 {
     let task = counting.server.lend(run.instance, run.job);
     let answer = runs.ask(run, task);
-    if let Some(outcome) = told(errors, configs, moment, runs, run, answer) {
+    if let Some(outcome) = told(errors, configs, moment, runs, run, task, answer) {
         let ended = What::Outcome(run.job, outcome);
         let _ = tell(counting, runs, moment, run.instance, ended);
     }
@@ -130,17 +121,40 @@ fn most_asked(count: usize, is_busy: bool, is_due: bool) -> usize
     }
 }
 
-/// Goes on with each run, or with as many as it takes until the clock goes on: the next turn begins
-/// with the others. Where all wait for programs or folders, a share of them is asked once a
-/// millisecond, which is when they are due. It says whether a run can go on at once.
+/// The same where it is asked now.
+fn ask_if<R: Runs, E: Write>(
+    counting: &mut Counting,
+    configs: &Configs,
+    runs: &mut R,
+    errors: &mut ErrorLines<E>,
+    moment: u64,
+    run: RunKey,
+    is_asked: bool,
+)
+    ensures serving { (sockets : Option (List SocketEvent)) → KeepsServingBegun run
+        sockets (R.happened runs.old) counting.old moment
+        sockets (R.happened runs.new) counting.new moment }
+    ensures lines { WritesLinesAt moment configs.now (R.faulted runs.old) (R.faulted runs.new)
+        (E.contents errors.old.output) errors.old.backlog
+        (E.contents errors.new.output) errors.new.backlog }
+{
+    if is_asked {
+        ask(counting, configs, runs, errors, moment, run);
+    }
+}
+
+/// Goes on with the runs of those instances whose turn it is, or with as many as it takes until
+/// they had their time of this turn: the next one begins with the others. Of those that wait for
+/// programs or folders a share is asked once a millisecond, which is when they are due. It says
+/// whether a run can go on at once.
 pub(crate) fn ask_all<S: Sockets, R: Runs, E: Write>(
     counting: &mut Counting,
+    pace: &mut Pace,
     configs: &Configs,
     sockets: &S,
     runs: &mut R,
     errors: &mut ErrorLines<E>,
     moment: u64,
-    is_due: bool,
 ) -> bool
     ensures serving { (count : ℕ) (known : Option (List SocketEvent)) → KeepsServing count
         known (R.happened runs.old) counting.old moment
@@ -149,13 +163,15 @@ pub(crate) fn ask_all<S: Sockets, R: Runs, E: Write>(
         (E.contents errors.old.output) errors.old.backlog
         (E.contents errors.new.output) errors.new.backlog }
 {
-    let most = most_asked(runs.count(), runs.is_busy(), is_due);
+    let most = most_asked(runs.count(), runs.is_busy(), pace.is_due());
     for _ in 0..most {
+        let waits = runs.next_waits();
         let Some(run) = runs.next() else {
             break;
         };
-        ask(counting, configs, runs, errors, moment, run);
-        if sockets.passed() > moment {
+        let is_asked = pace.takes(run.instance, waits);
+        ask_if(counting, configs, runs, errors, moment, run, is_asked);
+        if is_asked && pace.note_asked(sockets.passed(), run.instance) {
             break;
         }
     }

@@ -1,8 +1,8 @@
 //! Lines about runs that failed, none of which is waited for.
 
-ghost use Rattle.std.specs.Prelude.{◌≡◌, ◌++◌, ◌/◌, [], IfOk, OnOk};
+ghost use Rattle.std.specs.Prelude.{◌≡◌, ◌++◌, ◌/◌, ℕ, List, [], IfOk, OnOk};
 ghost use Rattle.std.specs.Char.Escape.{escape_ascii};
-ghost use Rattle.serve.specs.FaultLines.{Counts, MayTell, PutsLine, TellsLine, TellsRun, WritesFront, dropped_line, escaped, name_at, run_line, with_dropped_line, word_of, words_said};
+ghost use Rattle.serve.specs.FaultLines.{Counts, MayTell, PutsLine, TellsLine, TellsRun, WritesFront, dropped_line, escaped, name_at, reason_line, run_lines, with_dropped_line, word_of};
 
 use run_calls::RunKey;
 use runner::RunFault;
@@ -57,36 +57,39 @@ fn extend_escaped(line: &mut Vec<u8>, bytes: &[u8]) -> Result<(), AllocError>
     Ok(())
 }
 
-/// Adds what was said last, if anything was.
-fn extend_said(line: &mut Vec<u8>, said: &[u8]) -> Result<(), AllocError>
-    ensures { OnOk result (line.new.items ≡ line.old.items ++ words_said said.now) }
+/// The line that says why the run of a job failed, if anything is known of that.
+fn reason_line(alloc: Global, name: &str, job: u64, reason: &[u8]) -> Result<Vec<u8>, AllocError>
+    ensures { IfOk result (λ line. line.items ≡ reason_line name.now job reason.now) }
 {
-    if said.is_empty() {
-        return Ok(());
+    if reason.is_empty() {
+        return Ok(Vec::new(alloc));
     }
-    line.extend_from_slice(b": ")?;
-    extend_escaped(line, said)
-}
-
-/// The line that says that the run of a job failed, why, and what was said last.
-fn run_line(
-    alloc: Global,
-    name: &str,
-    job: u64,
-    fault: RunFault,
-    said: &[u8],
-) -> Result<Vec<u8>, AllocError>
-    ensures { IfOk result (λ line. line.items ≡ run_line name.now job fault said.now) }
-{
-    let word = word(fault);
-    let head = format!(in alloc; "remoted: run {name} {job} failed: {word}")?;
+    let head = format!(in alloc; "remoted: run {name} {job}: ")?;
     let mut line = head.into_bytes();
-    extend_said(&mut line, said)?;
+    extend_escaped(&mut line, reason)?;
     line.push(b'\n')?;
     Ok(line)
 }
 
-/// How many lines of an instance are written in a second.
+/// The line that says that the run of a job failed, and how; and behind it the one that says why.
+fn run_lines(
+    alloc: Global,
+    name: &str,
+    job: u64,
+    fault: RunFault,
+    reason: &[u8],
+) -> Result<Vec<u8>, AllocError>
+    ensures { IfOk result (λ lines. lines.items ≡ run_lines name.now job fault reason.now) }
+{
+    let word = word(fault);
+    let head = format!(in alloc; "remoted: run {name} {job} failed: {word}\n")?;
+    let why = reason_line(alloc, name, job, reason)?;
+    let mut lines = head.into_bytes();
+    lines.extend_from_slice(&why)?;
+    Ok(lines)
+}
+
+/// How many failed runs of an instance are told in a second.
 const LINE_LIMIT: u32 = 10;
 
 /// What is still to be written to an output that is not waited for.
@@ -196,7 +199,8 @@ fn may_tell(counts: &mut [LineCount], instance: u32, second: u64) -> bool
 /// that says how many were: `remoted: N lines were dropped`. So no line stands in the middle of
 /// another.
 ///
-/// Of the runs of an instance ten lines at most are written in a second of the server's clock.
+/// Of the runs of an instance ten at most are told in a second of the server's clock, each by one
+/// line or by two that are written or dropped together.
 #[derive(Drop)]
 pub struct ErrorLines<E> {
     alloc: Global,
@@ -265,29 +269,48 @@ impl<E: Write> ErrorLines<E> {
         let _told = put_line(self.alloc, &mut self.output, &mut self.backlog, line);
     }
 
-    /// Writes that a run failed, why, and what its launcher said last, at a moment in milliseconds;
-    /// or drops that, where the output does not begin to take it, or where ten lines of its
-    /// instance came in that second.
+    /// Writes that a run failed, and behind that line one that says why, where a reason is given,
+    /// at a moment in milliseconds; or drops both, where the output does not begin to take them, or
+    /// where ten failed runs of its instance were told in that second. Of the reason each byte that
+    /// does not print is escaped.
     pub fn tell_fault(
         &mut self,
         configs: &Configs,
         moment: u64,
         run: RunKey,
         fault: RunFault,
-        said: &[u8],
+        reason: &[u8],
     )
         ensures { TellsRun moment run.instance
-            (run_line (name_at run.instance configs.now) run.job fault said.now)
+            (run_lines (name_at run.instance configs.now) run.job fault reason.now)
             (E.contents self.old.output) self.old.backlog
             (E.contents self.new.output) self.new.backlog }
     {
-        if may_tell(&mut self.backlog.counts, run.instance, moment / 1000) {
-            let name = name_of(configs, run.instance);
-            if let Ok(line) = run_line(self.alloc, name, run.job, fault, said) {
-                self.write_bytes(&line);
-                return;
-            }
+        let name = name_of(configs, run.instance);
+        match run_lines(self.alloc, name, run.job, fault, reason) {
+            Ok(lines) => self.tell_run(moment, run.instance, &lines),
+            Err(_) => self.drop_run(moment, run.instance),
         }
+    }
+
+    /// Writes lines on a run of an instance, or drops them where it may have none.
+    fn tell_run(&mut self, moment: u64, instance: u32, lines: &[u8])
+        ensures { TellsRun moment instance lines.now (E.contents self.old.output) self.old.backlog
+            (E.contents self.new.output) self.new.backlog }
+    {
+        if may_tell(&mut self.backlog.counts, instance, moment / 1000) {
+            self.write_bytes(lines);
+        } else {
+            drop_line(&mut self.backlog);
+        }
+    }
+
+    /// Drops lines on a run of an instance, whatever they are, and counts them.
+    fn drop_run(&mut self, moment: u64, instance: u32)
+        ensures { (lines : List ℕ) → TellsRun moment instance lines (E.contents self.old.output)
+            self.old.backlog (E.contents self.new.output) self.new.backlog }
+    {
+        let _may = may_tell(&mut self.backlog.counts, instance, moment / 1000);
         drop_line(&mut self.backlog);
     }
 }

@@ -1,6 +1,6 @@
 //! What is moved between one connection's socket and the server.
 
-ghost use Rattle.std.specs.Prelude.{◌≡◌, ◌≤◌, ◌∷◌, [], length, take, true, None, IfSome, IfOk};
+ghost use Rattle.std.specs.Prelude.{◌≡◌, ◌<◌, ◌≤◌, ◌∷◌, [], length, take, true, None, IfSome, IfOk};
 ghost use Rattle.served_instance.specs.Connections.{open_at};
 ghost use Rattle.served_instance.specs.Lone.{LoneInstance};
 ghost use Rattle.server_core.specs.StandsFor.{StandsAt};
@@ -23,8 +23,8 @@ use std::mem::replace;
 /// How many pieces are read of a connection in a turn at most.
 const MOST_PIECES: usize = 32;
 
-/// How many milliseconds after the time was told no further piece is read.
-const QUICK: u64 = 5;
+/// How many bytes are read of a connection in a turn, before no further piece is.
+const MOST_READ: u64 = 65_536;
 
 /// What a try to move bytes came to.
 #[derive(Clone, Copy, PartialEq, Eq)]
@@ -46,8 +46,9 @@ fn with_room(alloc: Global, bytes: &[u8], more: usize) -> Result<Vec<u8>, AllocE
     Ok(piece)
 }
 
-/// The piece that was read into the room, behind which so many bytes are awaited. Where memory is refused for a new one the room itself is
-/// handed over, and is empty then: what was read is never lost.
+/// The piece that was read into the room, behind which so many bytes are awaited. Where memory is
+/// refused for a new one the room itself is handed over, and is empty then: what was read is never
+/// lost.
 fn piece_of(alloc: Global, room: &mut Vec<u8>, count: usize, more: usize) -> Vec<u8>
     requires { count ≤ length room.old.items }
     ensures { result.items ≡ take count room.old.items }
@@ -62,13 +63,18 @@ fn piece_of(alloc: Global, room: &mut Vec<u8>, count: usize, more: usize) -> Vec
     }
 }
 
-/// Where bytes are read to: two rooms, as one would be made longer and shorter with each frame.
+/// Where bytes are read to, and how: two rooms, as one would be made longer and shorter with each
+/// frame.
 #[derive(Drop)]
 pub(crate) struct Rooms {
     /// For a piece that begins with a frame.
     front: Vec<u8>,
     /// For the rest of a payload.
     payload: Vec<u8>,
+    /// When the clock shows so many microseconds no further piece is read.
+    pub(crate) until: u64,
+    /// Whether no piece has more than one frame.
+    pub(crate) is_by_frames: bool,
 }
 
 impl Rooms {
@@ -76,6 +82,8 @@ impl Rooms {
         Ok(Rooms {
             front: Vec::with_capacity(alloc, FRONT_LIMIT)?,
             payload: Vec::with_capacity(alloc, READ_LIMIT)?,
+            until: 0,
+            is_by_frames: false,
         })
     }
 }
@@ -92,8 +100,7 @@ fn has_room(room: &mut Vec<u8>, size: usize) -> bool
     room.extend_from_slice(&BLANK[room.len()..size]).is_ok()
 }
 
-/// Tells the server the bytes that came, as many as there is room for. The room is made before
-/// anything is read: where memory is refused for it, the bytes wait at the socket.
+/// Tells the server the bytes that came, as many as there is room for.
 fn receive<S: Sockets, R: Runs>(
     alloc: Global,
     counting: &mut Counting,
@@ -103,6 +110,7 @@ fn receive<S: Sockets, R: Runs>(
     opened: &mut OpenSocket,
     room: &mut Vec<u8>,
 ) -> Tried
+    requires room { 0 < length room.old.items }
     ensures serving { KeepsServingAt opened.old.socket.instance
         (S.happened sockets.old) (R.happened runs.old) counting.old moment
         (S.happened sockets.new) (R.happened runs.new) counting.new moment }
@@ -112,14 +120,11 @@ fn receive<S: Sockets, R: Runs>(
     ensures over { result ≡ Tried.Over → IsGoneAt opened.old.socket (S.happened sockets.new) }
     ensures socket { opened.new.socket ≡ opened.old.socket }
 {
-    if !has_room(room, opened.read_limit()) {
-        return Tried::NotReady;
-    }
     let socket = opened.socket;
     match sockets.read(socket, room) {
         Ok(count) => {
             opened.hear(moment, &room[..count]);
-            let bytes = piece_of(alloc, room, count, opened.read_limit());
+            let bytes = piece_of(alloc, room, count, opened.read_limit(false));
             let came = What::Bytes(socket.connection, bytes);
             let _ = tell(counting, runs, moment, socket.instance, came);
             if count == 0 {
@@ -134,7 +139,8 @@ fn receive<S: Sockets, R: Runs>(
 }
 
 /// The same piece by piece, as long as they take little time: some frames are short, and each piece
-/// that is told has few.
+/// that is told has few. The room is made before anything is read: where memory is refused for it,
+/// the bytes wait at the socket.
 fn receive_all<S: Sockets, R: Runs>(
     alloc: Global,
     counting: &mut Counting,
@@ -154,21 +160,25 @@ fn receive_all<S: Sockets, R: Runs>(
     ensures socket { opened.new.socket ≡ opened.old.socket }
 {
     let mut tried = Tried::NotReady;
-    let end = opened.received().saturating_add(READ_LIMIT as u64);
+    let end = opened.received().saturating_add(MOST_READ);
     for _ in 0..MOST_PIECES {
         let before = opened.received();
+        let limit = opened.read_limit(rooms.is_by_frames);
         let room = if opened.is_in_frame() {
             &mut rooms.payload
         } else {
             &mut rooms.front
         };
+        if !has_room(room, limit) {
+            break;
+        }
         match receive(alloc, counting, sockets, runs, moment, opened, room) {
             Tried::Moved => tried = Tried::Moved,
             Tried::NotReady => break,
             Tried::Over => return Tried::Over,
         }
         let is_all = opened.received().saturating_sub(before) < room.len() as u64;
-        if is_all || opened.received() >= end || sockets.passed() > moment.saturating_add(QUICK) {
+        if is_all || opened.received() >= end || sockets.passed() >= rooms.until {
             break;
         }
     }

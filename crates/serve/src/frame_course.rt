@@ -45,13 +45,16 @@ impl FrameCourse {
         self.left > 0
     }
 
-    /// How many bytes are read now at most: the rest of a payload, or a short piece.
-    pub(crate) fn read_limit(&self) -> usize
+    /// How many bytes are read now at most: the rest of a payload, or a short piece; or no more than
+    /// the head of a frame, so that no two calls are in one piece.
+    pub(crate) fn read_limit(&self, is_by_frames: bool) -> usize
         ensures some { 0 < result }
         ensures bound { result ≤ 16384 }
     {
         if self.left > 0 {
             READ_LIMIT.min(self.left as usize)
+        } else if is_by_frames {
+            HEAD_BYTES.saturating_sub(self.head).max(1) as usize
         } else {
             FRONT_LIMIT
         }

@@ -11,6 +11,7 @@ mod frame_course;
 mod laws;
 mod logged;
 mod logged_runs;
+mod numbering;
 mod open_socket;
 mod pace;
 mod runs;
@@ -25,6 +26,6 @@ pub use laws::{faults_are_told_by_whole_lines, what_serve_did, why_connections_a
 pub use logged::{LoggedSockets, SocketRecord};
 pub use logged_runs::{LoggedRuns, RunRecord};
 pub use runs::Runs;
-pub use serving::{Tally, serve};
+pub use serving::serve;
 pub use sockets::{Socket, Sockets};
-pub use watch::{Nobody, Sight, Watch};
+pub use watch::{Nobody, Sight, Tally, Watch};

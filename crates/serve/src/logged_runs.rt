@@ -245,8 +245,18 @@ impl<R: Runs> Runs for LoggedRuns<R> {
         answer
     }
 
-    fn last_words(&self, run: RunKey, most: u32) -> io::Result<Vec<u8>> {
-        self.runs.last_words(run, most)
+    fn next_waits(&self) -> bool {
+        self.runs.next_waits()
+    }
+
+    fn reason(
+        &self,
+        run: RunKey,
+        task: Option<LentTask<'_>>,
+        fault: RunFault,
+        most: u32,
+    ) -> io::Result<Vec<u8>> {
+        self.runs.reason(run, task, fault, most)
     }
 
     fn is_busy(&self) -> bool {

@@ -72,11 +72,11 @@ impl OpenSocket {
     }
 
     /// How many bytes are read from it now at most.
-    pub(crate) fn read_limit(&self) -> usize
+    pub(crate) fn read_limit(&self, is_by_frames: bool) -> usize
         ensures some { 0 < result }
         ensures bound { result ≤ 16384 }
     {
-        self.course.read_limit()
+        self.course.read_limit(is_by_frames)
     }
 
     /// These bytes came.
@@ -111,7 +111,7 @@ impl OpenSocket {
 }
 
 /// Whether a connection may make room for another one of an instance: it is one of it, was silent
-/// for long, and no call on it is in course.
+/// for long, and no call on it is in course that its client sent whole.
 fn may_make_room(server: &Server, candidate: &OpenSocket, instance: u32, moment: u64) -> bool
     ensures { (l : LoneInstance) → StandsAt instance server.now.instances l
         → (IsTrue result ↔ MayMakeRoom instance moment l candidate.now) }

@@ -51,6 +51,9 @@ pub trait Runs {
         ensures carries { CarriesRuns (carries self.old) (carries self.new) [] }
         ensures no_fault { faulted self.new ≡ faulted self.old };
 
+    /// Whether the run that comes next only waits, for a program or a folder.
+    fn next_waits(&self) -> bool;
+
     /// Goes on with a run by a bounded piece of work. What came of it, or `None` while it goes on.
     /// Its task is lent as long as its job runs. With an outcome or a fault the run is over.
     fn ask(&mut self, run: RunKey, task: Option<LentTask<'_>>) -> Result<Option<Outcome>, RunFault>
@@ -60,9 +63,15 @@ pub trait Runs {
             (asked_events run task.entry result) }
         ensures fault { Adds (faulted self.old) (faulted self.new) (faults_of run result) };
 
-    /// The last bytes of what the launcher of a run says that has just come to a fault, at most so
-    /// many.
-    fn last_words(&self, run: RunKey, most: u32) -> io::Result<Vec<u8>>
+    /// Why a run that has just come to a fault did so, in at most so many bytes; none where nothing
+    /// is known. Its task is lent as it was when the run was asked.
+    fn reason(
+        &self,
+        run: RunKey,
+        task: Option<LentTask<'_>>,
+        fault: RunFault,
+        most: u32,
+    ) -> io::Result<Vec<u8>>
         ensures within { IfOk result (λ bytes. length bytes.items ≤ most) };
 
     /// Whether a run can go on at once, without waiting for a program.

@@ -1,10 +1,9 @@
 //! The turns.
 
-ghost use Rattle.std.specs.Prelude.{◌≡◌, ◌<◌, ◌≤◌, ◌==◌, ℕ, [], length, true, Some, IfSome, IfOk, IfErr};
-ghost use Rattle.std.specs.List.{list_any};
+ghost use Rattle.std.specs.Prelude.{◌≡◌, ◌<◌, ◌≤◌, ℕ, [], length, true, Some, IfSome, IfOk, IfErr};
 ghost use Rattle.serve.specs.Numbers.{NumbersAreApart};
 ghost use Rattle.serve.specs.FaultLines.{WritesLines, WritesLinesAt};
-ghost use Rattle.serve.specs.KeepsOpen.{HasAllOpen, IsNext, LacksRoom, sockets_of};
+ghost use Rattle.serve.specs.KeepsOpen.{HasAllOpen, LacksRoom};
 ghost use Rattle.serve.specs.SocketEvents.{Adds};
 ghost use Rattle.serve.specs.Served.{WasServed};
 ghost use Rattle.serve.specs.KeepsServing.{IsServing, KeepsServing};
@@ -14,11 +13,12 @@ use crate::carrying::{Counting, tell};
 use crate::counts::{Occurrence, ServeCounts};
 use crate::error_lines::ErrorLines;
 use crate::exchange::{Rooms, Tried, close, exchange};
+use crate::numbering::number_after;
 use crate::open_socket::{OpenSocket, longest_silent};
 use crate::pace::Pace;
 use crate::runs::Runs;
 use crate::sockets::{Socket, Sockets};
-use crate::watch::{Sight, Watch};
+use crate::watch::{Sight, Tally, Watch};
 use keyed_maps::MapKey;
 use served_instance::EventRefusal;
 use server_core::Server;
@@ -26,36 +26,11 @@ use server_events::{Configs, What};
 use std::alloc::{AllocError, Global};
 use std::io::Write;
 
+/// How many microseconds a millisecond has.
+const MILLISECOND: u64 = 1_000;
+
 /// For how many milliseconds at most nothing is told where nothing comes and nothing runs.
 const QUIET_TIME: u64 = 50;
-
-/// Whether an open socket has this number, of whichever instance. The server may have let go of its
-/// connection.
-fn is_taken(connections: &[OpenSocket], number: u32) -> bool
-    ensures { result ≡ list_any (λ c. c.socket.connection == number) connections.now }
-{
-    connections
-        .iter()
-        .any(|open| open.socket.connection == number)
-}
-
-/// The next number that no open socket has, in a circle. There is none only where all others are
-/// taken.
-fn number_after(connections: &[OpenSocket], number: u32) -> Option<u32>
-    ensures { IsNext number (sockets_of connections.now) result }
-{
-    for before in number..u32::MAX {
-        if !is_taken(connections, before + 1) {
-            return Some(before + 1);
-        }
-    }
-    for next in 0..number {
-        if !is_taken(connections, next) {
-            return Some(next);
-        }
-    }
-    None
-}
 
 /// A server, and its open connections.
 #[derive(Drop)]
@@ -166,18 +141,13 @@ impl Serving {
             self.tried = Some(self.moment);
             moved = self.open_all(sockets, runs);
         }
-        let exchanged = self.exchange_all(sockets, runs);
-        let counting = &mut self.counting;
-        let is_busy = ask_all(
-            counting,
-            configs,
-            sockets,
-            runs,
-            errors,
-            self.moment,
-            is_due,
-        );
-        moved || exchanged || is_busy
+        let exchanged = self.exchange_quick(sockets, runs, is_due);
+        let runs_first = self.pace.runs_first();
+        let before = self.exchange_heavy(sockets, runs, !runs_first);
+        let (counting, pace) = (&mut self.counting, &mut self.pace);
+        let is_busy = ask_all(counting, pace, configs, sockets, runs, errors, self.moment);
+        let behind = self.exchange_heavy(sockets, runs, runs_first);
+        moved || exchanged || before || behind || is_busy
     }
 
     /// Reads the clock where it went on. While it shows the same nothing is to be told, of which
@@ -193,7 +163,7 @@ impl Serving {
         ensures instances { self.new.instances ≡ self.old.instances }
         ensures opened { HasAllOpen self.new (S.happened sockets.new) }
     {
-        if sockets.passed() > self.moment {
+        if sockets.passed() / MILLISECOND > self.moment {
             self.tick(sockets, runs);
         }
     }
@@ -324,9 +294,15 @@ impl Serving {
         );
     }
 
-    /// Receives and sends on each connection that is due, and lets go of those that are over. It
-    /// says whether anything moved.
-    fn exchange_all<S: Sockets, R: Runs>(&mut self, sockets: &mut S, runs: &mut R) -> bool
+    /// Receives and sends on each connection of the quick instances that is due, and lets go of
+    /// those that are over. Then it is chosen whose turn it is of the others. It says whether
+    /// anything moved.
+    fn exchange_quick<S: Sockets, R: Runs>(
+        &mut self,
+        sockets: &mut S,
+        runs: &mut R,
+        is_due: bool,
+    ) -> bool
         requires opened { HasAllOpen self.old (S.happened sockets.old) }
         ensures serving { KeepsServing self.old.instances
             (S.happened sockets.old) (R.happened runs.old)
@@ -337,8 +313,38 @@ impl Serving {
         ensures instances { self.new.instances ≡ self.old.instances }
         ensures opened { HasAllOpen self.new (S.happened sockets.new) }
     {
-        self.pace.begin(sockets.passed());
-        let (from, end) = (self.pace.from, self.connections.len());
+        self.pace.begin(sockets.passed(), is_due);
+        let end = self.connections.len();
+        let moved = self.exchange_part(sockets, runs, 0, end);
+        self.pace.choose();
+        moved
+    }
+
+    /// The same for the instance whose turn it is, where that is now.
+    fn exchange_heavy<S: Sockets, R: Runs>(
+        &mut self,
+        sockets: &mut S,
+        runs: &mut R,
+        is_now: bool,
+    ) -> bool
+        requires opened { HasAllOpen self.old (S.happened sockets.old) }
+        ensures serving { KeepsServing self.old.instances
+            (S.happened sockets.old) (R.happened runs.old)
+            self.old.counting self.old.moment
+            (S.happened sockets.new) (R.happened runs.new)
+            self.new.counting self.new.moment }
+        ensures no_fault { R.faulted runs.new ≡ R.faulted runs.old }
+        ensures instances { self.new.instances ≡ self.old.instances }
+        ensures opened { HasAllOpen self.new (S.happened sockets.new) }
+        ensures moment { self.new.moment ≡ self.old.moment }
+    {
+        if !is_now {
+            return false;
+        }
+        let Some(from) = self.pace.begin_heavy() else {
+            return false;
+        };
+        let end = self.connections.len();
         let behind = self.exchange_part(sockets, runs, from, end);
         let before = self.exchange_part(sockets, runs, 0, from);
         behind || before
@@ -347,7 +353,7 @@ impl Serving {
     /// Whether the connection at this place is tried now.
     fn is_tried(&self, at: usize) -> bool {
         match self.connections.get(at) {
-            Some(open) => open.is_due(self.moment) && !self.pace.rests(open.socket.instance),
+            Some(open) => open.is_due(self.moment) && self.pace.goes(open.socket.instance),
             None => false,
         }
     }
@@ -369,6 +375,7 @@ impl Serving {
         ensures no_fault { R.faulted runs.new ≡ R.faulted runs.old }
         ensures instances { self.new.instances ≡ self.old.instances }
         ensures opened { HasAllOpen self.new (S.happened sockets.new) }
+        ensures moment { self.new.moment ≡ self.old.moment }
     {
         let alloc = *self.connections.allocator();
         let mut moved = false;
@@ -379,6 +386,9 @@ impl Serving {
                 continue;
             }
             let mut open = self.connections[at];
+            let instance = open.socket.instance;
+            self.rooms.until = self.pace.until();
+            self.rooms.is_by_frames = self.pace.is_long(instance);
             let (counting, rooms) = (&mut self.counting, &mut self.rooms);
             let tried = exchange(
                 alloc,
@@ -389,7 +399,6 @@ impl Serving {
                 &mut open,
                 rooms,
             );
-            let instance = open.socket.instance;
             self.pace.note(sockets, instance, at, tried);
             match tried {
                 Tried::Over => {
@@ -413,33 +422,29 @@ impl Serving {
     }
 }
 
-/// What came of turns.
-#[derive(Clone, Copy, Debug, PartialEq, Eq)]
-pub struct Tally {
-    /// How many events were cut short: carried out in part, for want of memory. Where it were more
-    /// than 64 bits can say, 2^64 - 1.
-    pub cut: u64,
-}
-
 /// Serves instances with these configurations for so many turns, or until whoever watches says
 /// that there is to be none any more, over sockets at which nothing has
 /// happened yet, and over runs of which there are none.
 ///
 /// Once a millisecond the time is told to each instance, and at each port one connection is
 /// accepted. In each turn pieces are read of each connection, as long as that takes little time:
-/// the rest of a frame's payload, or where a frame begins 512 bytes, until it were 16,384 or more.
-/// Then what waits on it is written. An instance for which that took ten milliseconds or more waits
-/// for the rest of the turn. Where another one was active within a second it rests then for as long
-/// as that took, or until nothing moved for a quarter of that. A connection on which nothing moved for 20 milliseconds is tried once a millisecond,
-/// until something moves on it again. A connection is closed where its client is gone or its socket
-/// failed, where an error of it was met and the client was sent all that waited, and where memory
-/// was refused for what it sent, or as the time was told. Where an instance has as many as it may
-/// have and another client comes, that client's is closed, and so is one of the others: the longest
-/// silent of those with no call in course from which no byte came for 60 seconds, or for 10 where
-/// the preface is not whole.
+/// the rest of a frame's payload, or where a frame begins 512 bytes. Then what waits on it is
+/// written. Of a turn an instance has 0.2 milliseconds, for its connections and its runs together;
+/// whoever used them up has them next as one of those that did, by turns, who had least first, and
+/// where nothing moved for others, or they had more. Of an instance for which a piece of work took a
+/// millisecond no more than a frame is in one piece for a minute. A piece of ten milliseconds ends
+/// the turn. Where another one was active within a second its instance rests then for as long as
+/// that took, or until nothing moved for a quarter of that. A connection on which nothing moved
+/// for 20 milliseconds is tried once a millisecond, until something moves on it again. A connection
+/// is closed where its client is gone or its socket failed, where an error of it was met and the
+/// client was sent all that waited, and where memory was refused for what it sent, or as the time
+/// was told. Where an instance has as many as it may have and another client comes, that client's
+/// is closed, and so is one of the others: the longest silent of those with no call in course that
+/// its client sent whole, from which no byte came for 60 seconds, or for 10 where the preface is
+/// not whole.
 ///
 /// What an instance orders is carried out at once. In each turn the runs go on, one after another,
-/// until the clock goes on; where all wait for programs or folders, 64 of them at most, once a
+/// for a millisecond at most; where all wait for programs or folders, 64 of them at most, once a
 /// millisecond. A fault of a run is the outcome of a job that failed, and a line of `errors`, which
 /// is not waited for.
 ///

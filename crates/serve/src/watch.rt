@@ -14,6 +14,14 @@ pub struct Sight<'a> {
     pub moment: u64,
 }
 
+/// What came of turns.
+#[derive(Clone, Copy, Debug, PartialEq, Eq)]
+pub struct Tally {
+    /// How many events were cut short: carried out in part, for want of memory. Where it were more
+    /// than 64 bits can say, 2^64 - 1.
+    pub cut: u64,
+}
+
 /// Whoever watches a server. Nothing of it can be changed by that: it is only looked at.
 pub trait Watch {
     /// Looks at the server after a turn, and says whether there is to be another.

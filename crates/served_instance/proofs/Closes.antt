@@ -44,11 +44,13 @@ map_push : (os : List OpenConnection) (o : OpenConnection) → map connection_sh
 map_push [] o = refl
 map_push (x ∷ os) o = ap (λ (vs : List ServedConnection). connection_shown x ∷ vs) (map_push os o)
 
-pub opens : (c : ℕ) (v : ConnectionValue) (s : InstanceState) (os : List OpenConnection) → ((texts : SourceTexts) → IsConnection texts v new_past) → Acts s os s (os ++ record { number = c; connection = v } ∷ []) (after_opening c)
-opens c v s os h = λ texts l st.
+pub opens : (window c : ℕ) (v : ConnectionValue) (s : InstanceState) (os : List OpenConnection) → s.limits.window ≡ window → ((texts : SourceTexts) → IsConnection texts v (new_past window)) → Acts s os s (os ++ record { number = c; connection = v } ∷ []) (after_opening c)
+opens window c v s os is h = λ texts l st.
     let o : OpenConnection = record { number = c; connection = v } in
-    let k : LoneConnection = record { number = c; past = new_past; is_open = true } in
-    let pushed = served_push texts (map connection_shown os) (open_ones l.connections) (connection_shown o) k st.connections refl (h texts) in
+    let k : LoneConnection = record { number = c; past = new_past l.state.limits.window; is_open = true } in
+    let same : window ≡ l.state.limits.window = sym is ∙ ap (λ (t : InstanceState). t.limits.window) st.state in
+    let stands : IsConnection texts v (new_past l.state.limits.window) = subst (λ (n : ℕ). IsConnection texts v (new_past n)) same (h texts) in
+    let pushed = served_push texts (map connection_shown os) (open_ones l.connections) (connection_shown o) k st.connections refl stands in
     let P : List ServedConnection → Type 0 = λ vs. AreServed texts vs (open_ones l.connections ++ k ∷ []) in
     let Q : List LoneConnection → Type 0 = λ ls. AreServed texts (map connection_shown (os ++ o ∷ [])) ls in
     record {

@@ -201,14 +201,14 @@ bytes_more c bytes l =
 
 -- ---- an event
 
--- what an event says of its own connection
-abbrev pub connections_after : WhatValue → List LoneConnection → List LoneConnection
-connections_after (opened c) ks = ks ++ record { number = c; past = new_past; is_open = true } ∷ []
-connections_after (took c n) ks = at_open c (λ p. with_taken p n) ks
-connections_after (closed c) ks = with_closed c ks
-connections_after _ ks = ks
+-- what an event says of its own connection, of an instance with this window
+abbrev pub connections_after : ℕ → WhatValue → List LoneConnection → List LoneConnection
+connections_after window (opened c) ks = ks ++ record { number = c; past = new_past window; is_open = true } ∷ []
+connections_after window (took c n) ks = at_open c (λ p. with_taken p n) ks
+connections_after window (closed c) ks = with_closed c ks
+connections_after window _ ks = ks
 
-acted_more : (what : WhatValue) (l : LoneInstance) → AreGrown (connections_after what l.connections) (effect_of what l).connections
+acted_more : (what : WhatValue) (l : LoneInstance) → AreGrown (connections_after l.state.limits.window what l.connections) (effect_of what l).connections
 acted_more (opened c) l = all_same (after_opening c l).connections
 acted_more (received c bytes) l =
     let m = after_bytes_on c bytes l in
@@ -220,7 +220,7 @@ acted_more tick l =
     more_trans l m (after_call_event end_late_jobs m) (happened_more time_passes l) (happened_more end_late_jobs m)
 acted_more (ended job outcome) l = happened_more (end_job job outcome) l
 
-pub accepted_more : (parent : List Blob) (e : EventValue) (l : LoneInstance) → AreGrown (connections_after e.what l.connections) (after_event parent e l).connections
+pub accepted_more : (parent : List Blob) (e : EventValue) (l : LoneInstance) → AreGrown (connections_after l.state.limits.window e.what l.connections) (after_event parent e l).connections
 accepted_more parent e l =
     let m : LoneInstance = effect_of e.what (lone_at_moment e.moment parent l) in
-    all_trans (connections_after e.what l.connections) m.connections (after_pump m).connections (acted_more e.what (lone_at_moment e.moment parent l)) (all_open_grow with_pumped pump_grows m.connections)
+    all_trans (connections_after l.state.limits.window e.what l.connections) m.connections (after_pump m).connections (acted_more e.what (lone_at_moment e.moment parent l)) (all_open_grow with_pumped pump_grows m.connections)

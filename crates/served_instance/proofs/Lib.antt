@@ -37,3 +37,4 @@ mod KeptJobs
 pub mod Watches
 pub use Rattle.grpc_sending.proofs.Agreeing
 pub use Rattle.grpc_sending.proofs.Histories
+pub use Rattle.conn_core.proofs.Greeting

@@ -143,7 +143,7 @@ closed_keeps c l h =
 opened_keeps : (c : ℕ) (l : LoneInstance) → Keeps l (after_opening c l)
 opened_keeps c l h = record {
   within = h.within;
-  short = all_append (λ (k : LoneConnection). DueShort k.past) l.connections (record { number = c; past = new_past; is_open = true } ∷ []) h.short (tt, tt);
+  short = all_append (λ (k : LoneConnection). DueShort k.past) l.connections (record { number = c; past = new_past l.state.limits.window; is_open = true } ∷ []) h.short (tt, tt);
 }
 
 acted_keeps : (what : WhatValue) (l : LoneInstance) → IsNarrowWhat what → Keeps l (effect_of what l)
@@ -155,13 +155,13 @@ acted_keeps tick l narrow h = happened_keeps end_late_jobs (after_call_event tim
 acted_keeps (ended job outcome) l narrow h = happened_keeps (end_job job outcome) l narrow h
 
 pub moment_within : (moment : ℕ) (s : InstanceState) → IsInstanceWithin s → IsInstanceWithin (at_moment moment s)
-moment_within moment s w = record { quota = w.quota; texts = w.texts; uploads = w.uploads; results = w.results; slots = w.slots; jobs = w.jobs; running = w.running; whole = w.whole; told = w.told; calls = w.calls; messages = w.messages; parent = w.parent }
+moment_within moment s w = record { quota = w.quota; limits = w.limits; texts = w.texts; uploads = w.uploads; results = w.results; slots = w.slots; jobs = w.jobs; running = w.running; whole = w.whole; told = w.told; calls = w.calls; messages = w.messages; parent = w.parent }
 
 abbrev pub AreNamed : List Blob → Type 0
 AreNamed bs = AllByRecursion (λ (b : Blob). Names b.0 b.1) bs
 
 pub seeing_within : (parent : List Blob) (s : InstanceState) → AreNamed parent → IsInstanceWithin s → IsInstanceWithin (seeing parent s)
-seeing_within parent s named w = record { quota = w.quota; texts = w.texts; uploads = w.uploads; results = w.results; slots = w.slots; jobs = w.jobs; running = w.running; whole = w.whole; told = w.told; calls = w.calls; messages = w.messages; parent = named }
+seeing_within parent s named w = record { quota = w.quota; limits = w.limits; texts = w.texts; uploads = w.uploads; results = w.results; slots = w.slots; jobs = w.jobs; running = w.running; whole = w.whole; told = w.told; calls = w.calls; messages = w.messages; parent = named }
 
 accepted_keeps : (parent : List Blob) (e : EventValue) (l : LoneInstance) → AreNamed parent → IsNarrowWhat e.what → Keeps l (after_event parent e l)
 accepted_keeps parent e l named narrow h =

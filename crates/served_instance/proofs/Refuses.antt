@@ -2,13 +2,14 @@
 use Rattle.std.proofs.Common.{◌≡◌, ◌<◌, ◌≤◌, refl, sym, ap, ◌∙◌, subst, get_or}
 use Rattle.std.proofs.lemmas.Bool.{le-ltb, lt-ltb}
 use Rattle.std.specs.Prelude.{ℕ, nat_le, nat_lt, ◌==◌, ◌&&◌, if◌then◌else◌, Bool, true, false, not, List, [], length, map, position, Option, Some, None, Err}
+use Rattle.std.specs.List.{list_any}
 use Rattle.std.specs.Option.{is_some, option_map, option_map_or}
 use Rattle.conn_core.specs.History.{has_failed}
 use Rattle.grpc_sending.specs.Bytes.{pending_bytes, untaken_count}
 use Rattle.grpc_sending.specs.StoredSending.{SourceTexts}
 use Rattle.blob_pool.specs.Slots.{Slots, text_at}
 use Rattle.conn_core.specs.CallsInCourse.{has_calls}
-use Rattle.conn_core.proofs.CallsInCourse.{same_calls}
+use Rattle.conn_core.proofs.CallsInCourse.{is_whole, same_calls}
 use Rattle.conn_core.specs.Past.{Past}
 use Rattle.conn_core.specs.StandsFor.{ConnectionValue}
 use Rattle.job_queue.specs.Jobs.{Jobs, running_job}
@@ -68,7 +69,7 @@ same_pending texts None (Some p) s = absurd s
 same_pending texts (Some v) None s = absurd s
 
 abbrev pub calls_kept : ConnectionValue → Bool
-calls_kept v = not v.ended && not (length v.streams.live == 0)
+calls_kept v = not v.ended && list_any is_whole v.streams.live
 
 pub same_presence_of_calls : (texts : SourceTexts) (a : Option ConnectionValue) (b : Option Past) → SameAt texts a b → option_map calls_kept a ≡ option_map (λ (p : Past). has_calls p.history) b
 same_presence_of_calls texts None None s = refl

@@ -80,7 +80,7 @@ within_turn (Err x) s t u done short w v = subst IsInstanceWithin (sym short) w
 pub within_seeing : (p : Slots) (parent : ViewValue) (i : InstanceSlots) (os : List OpenConnection) → IsServedInPool p (slots_of i os) → IsServedBeside p parent (slots_of i os) → IsInstanceWithin (state_beside p parent i)
 within_seeing p parent i os kept beside =
     let w = kept.within.instance in
-    record { quota = w.quota; texts = w.texts; uploads = w.uploads; results = w.results; slots = w.slots; jobs = w.jobs; running = w.running; whole = w.whole; told = w.told; calls = w.calls; messages = w.messages; parent = beside.named }
+    record { quota = w.quota; limits = w.limits; texts = w.texts; uploads = w.uploads; results = w.results; slots = w.slots; jobs = w.jobs; running = w.running; whole = w.whole; told = w.told; calls = w.calls; messages = w.messages; parent = beside.named }
 
 parent_after : (parent : ViewValue) (p q : Slots) (i j : InstanceSlots) (os ns : List OpenConnection) → Moves p q (holders_of (slots_of i os)) (holders_of (slots_of j ns)) → IsServedBeside p parent (slots_of i os) → visible_in q parent ≡ visible_in p parent
 parent_after parent p q i j os ns m beside = parent_same p q parent (holders_of (slots_of i os)) (holders_of (slots_of j ns)) m beside.counted

@@ -22,7 +22,7 @@ use Rattle.conn_core.specs.Calls.{cancels}
 use Rattle.conn_core.specs.Past.{Past, new_past, with_frame, with_fault, with_taken, with_pumped, with_bytes}
 use Rattle.execution.specs.Orders.{OrderValue}
 use Rattle.instance_core.specs.Calls.{CallEventValue, tick as time_passes, start_jobs, end_late_jobs, end_job}
-use Rattle.instance_core.specs.State.{InstanceState, new_instance, at_moment, seeing}
+use Rattle.instance_core.specs.State.{InstanceState, LimitsValue, new_instance, at_moment, seeing}
 use Rattle.instance_core.specs.Visible.{Blob}
 use Rattle.instance_core.specs.Replies.{ReplyValue}
 use Rattle.instance_core.specs.Answer.{answer, orders_at, state_after}
@@ -37,8 +37,9 @@ pub record LoneInstance : Type 0 where
   pub connections : List LoneConnection
 
 -- at first nothing has happened
-abbrev pub new_lone : List ℕ → ℕ → ℕ → LoneInstance
-new_lone name quota slots = record { state = new_instance name quota slots; connections = [] }
+abbrev pub new_lone : List ℕ → ℕ → ℕ → LimitsValue → LoneInstance
+new_lone name quota slots limits =
+    record { state = new_instance name quota slots limits; connections = [] }
 
 -- ---- calls
 
@@ -119,10 +120,12 @@ after_bytes_on c bytes l =
 
 -- ---- all events: received bytes are read first, and then the jobs start for which there is a slot
 
--- a connection opens with the server's SETTINGS
+-- a connection opens with the greeting of the window that was chosen for the instance
 abbrev pub after_opening : ℕ → LoneInstance → LoneInstance
 after_opening c l = record l {
-  connections = l.connections ++ record { number = c; past = new_past; is_open = true } ∷ [];
+  connections =
+      l.connections
+      ++ record { number = c; past = new_past l.state.limits.window; is_open = true } ∷ [];
 }
 
 -- a connection goes, and each call on it is given up

@@ -2,6 +2,7 @@
 
 ghost use Rattle.std.specs.Prelude.{◌≡◌, ◌≢◌, ◌≤◌, ◌<◌, ◌^◌, ℕ, List, [], None, length, map, Option, option_map, string_bytes, IfSome, IfOk, OnOk, OnErr, IfErr, Err};
 ghost use Rattle.std.specs.Result.{result_err};
+ghost use Rattle.server_events.specs.LimitsShown.{limits_value};
 ghost use Rattle.server_events.specs.Shown.{event_value, what_value};
 ghost use Rattle.grpc_sending.specs.Bytes.{most_untaken, pending_bytes};
 ghost use Rattle.conn_core.specs.History.{has_failed};
@@ -94,14 +95,22 @@ impl ServedInstance {
         requires slots { config.now.slots ≤ MOST_RUNNING }
         ensures stands { (p : Slots) → IfOk result
             (λ served. IsServedInstance (served_state_in p served)
-            (new_lone (string_bytes config.now.name) config.now.quota config.now.slots)) }
+            (new_lone (string_bytes config.now.name) config.now.quota config.now.slots
+            (limits_value config.now.limits))) }
         ensures within { (p : Slots) → IfOk result
             (λ served. IsServedWithin (served_state_in p served)) }
         ensures tidy { IfOk result (λ served. AreTidy served.connections) }
         ensures holders { IfOk result (λ served. (k : ℕ) → holders_of served k ≡ 0) }
     {
         Ok(ServedInstance {
-            instance: Instance::new(alloc, key, &config.name, config.quota, config.slots)?,
+            instance: Instance::new(
+                alloc,
+                key,
+                &config.name,
+                config.quota,
+                config.slots,
+                config.limits,
+            )?,
             connections: Vec::new(alloc),
         })
     }
@@ -249,7 +258,7 @@ impl ServedInstance {
         }
     }
 
-    /// Whether a call is in course on an open connection.
+    /// Whether a call is in course on an open connection that its client sent whole.
     pub fn has_calls(&self, connection: u32) -> Option<bool>
         ensures { (l : LoneInstance) → HasConnections self.now l
             → result ≡ option_map (λ p. has_calls p.history) (open_at connection l.connections) }
@@ -363,7 +372,7 @@ fn act(
 {
     match what {
         What::Open(number) => {
-            open(alloc, connections, number)?;
+            open(alloc, instance.limits().window(), connections, number)?;
             Ok(Vec::new(alloc))
         }
         What::Bytes(number, bytes) => {
@@ -391,16 +400,21 @@ fn act(
     }
 }
 
-/// The connection opens.
-fn open(alloc: Global, connections: &mut Vec<OpenConnection>, number: u32) -> Result<(), AllocError>
+/// The connection opens, with windows of so many bytes.
+fn open(
+    alloc: Global,
+    window: u32,
+    connections: &mut Vec<OpenConnection>,
+    number: u32,
+) -> Result<(), AllocError>
     requires few { length connections.old.items < CONNECTION_LIMIT }
-    ensures opened { OnOk result ((s : InstanceState)
+    ensures opened { OnOk result ((s : InstanceState) → s.limits.window ≡ window
         → Acts s connections.old.items s connections.new.items (after_opening number)) }
     ensures few { length connections.new.items ≤ CONNECTION_LIMIT }
     ensures holds { HoldAlike connections.old.items connections.new.items }
     ensures err { OnErr result (connections.new.items ≡ connections.old.items) }
 {
-    let connection = Connection::new(alloc)?;
+    let connection = Connection::new(alloc, window)?;
     connections.push(OpenConnection { number, connection })?;
     Ok(())
 }

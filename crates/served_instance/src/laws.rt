@@ -4,7 +4,7 @@ ghost use Rattle.std.specs.Prelude.{◌≡◌, ℕ, List};
 ghost use Rattle.job_queue.specs.Jobs.{jobs_without};
 ghost use Rattle.run_outcomes.specs.Outcomes.{OutcomeValue};
 ghost use Rattle.instance_core.specs.Room.{LosesForRoom};
-ghost use Rattle.instance_core.specs.State.{IsInstanceWithin, most_blobs};
+ghost use Rattle.instance_core.specs.State.{IsInstanceWithin};
 ghost use Rattle.instance_core.specs.Visible.{Blob};
 ghost use Rattle.server_events.specs.Events.{EventValue, ended};
 ghost use Rattle.served_instance.specs.Lone.{LoneInstance, lone_at_moment};
@@ -34,10 +34,10 @@ pub fn want_of_memory_keeps_jobs()
 /// An event that was refused for want of memory loses a blob only as any event does: it stood
 /// behind others, each of which stood before it already or was used or admitted by the calls that
 /// the event brings, or left by the run that it tells of; and these have more bytes together with
-/// it than the quota, or are more than 65,536.
+/// it than the quota, or are more than its limits allow.
 pub fn want_of_memory_loses_blobs_for_room()
     ensures { (parent : List Blob) (e : EventValue) (l m : LoneInstance) → IsInstanceWithin l.state
         → Short parent e l m
-        → LosesForRoom most_blobs l.state.quota
+        → LosesForRoom l.state.limits.blobs l.state.quota
         (touched_at e.what (lone_at_moment e.moment parent l)) l.state.visible m.state.visible }
 {}

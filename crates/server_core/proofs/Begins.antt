@@ -12,6 +12,8 @@ use Rattle.job_queue.specs.declared.queue.TheConstants.{MOST_RUNNING}
 use Rattle.server_events.specs.Instance.{slots_limit}
 use Rattle.server_events.specs.Configs.{ConfigValue, instance_limit, parent_of}
 use Rattle.server_events.specs.Faults.{IsConfig}
+use Rattle.server_events.specs.Limits.{usual_limits}
+use Rattle.server_events.specs.LimitsShown.{limits_value}
 use Rattle.server_events.specs.Shown.{config_value}
 use Rattle.served_instance.specs.Lone.{new_lone}
 use Rattle.served_instance.specs.StandsFor.{ServedConnection, ServedState, IsServedInstance, IsServedWithin}
@@ -55,18 +57,18 @@ parents_more configs xs k x ps qs p lt at is so_far own =
     ∙ sym (ap (map f) more ∙ map_push f (map config_value (take k xs)) (config_value x))
 
 abbrev pub Starts : List ConfigValue → List ServedState → Type 0
-Starts configs vs = (i : ℕ) (config : ConfigValue) → config_at i configs ≡ Some config → StandsAt i vs (new_lone config.name config.quota config.slots)
+Starts configs vs = (i : ℕ) (config : ConfigValue) → config_at i configs ≡ Some config → StandsAt i vs (new_lone config.name config.quota config.slots config.limits)
 
 -- one more instance
-starts_push : (configs : List ConfigValue) (vs : List ServedState) (x : ConfigValue) (v : ServedState) → length configs ≡ length vs → Starts configs vs → IsServedInstance v (new_lone x.name x.quota x.slots) → Starts (configs ++ x ∷ []) (vs ++ v ∷ [])
+starts_push : (configs : List ConfigValue) (vs : List ServedState) (x : ConfigValue) (v : ServedState) → length configs ≡ length vs → Starts configs vs → IsServedInstance v (new_lone x.name x.quota x.slots x.limits) → Starts (configs ++ x ∷ []) (vs ++ v ∷ [])
 starts_push configs vs x v same h own i config is =
     elim (get-pushed configs x config i is) [
       | inl old ↦ let s = h i config old in (s.0, get-append vs (v ∷ []) i s.0 s.1, s.2)
       | inr new ↦
-          (v, ap (λ k. slice_get (vs ++ v ∷ []) k) (new.0 ∙ same) ∙ get-last vs v, subst (λ (c : ConfigValue). IsServedInstance v (new_lone c.name c.quota c.slots)) new.1 own)
+          (v, ap (λ k. slice_get (vs ++ v ∷ []) k) (new.0 ∙ same) ∙ get-last vs v, subst (λ (c : ConfigValue). IsServedInstance v (new_lone c.name c.quota c.slots c.limits)) new.1 own)
     ]
 
-pub starts_more : (xs : List InstanceConfig) (k : ℕ) (x : InstanceConfig) (vs ws : List ServedState) (v : ServedState) → k < length xs → x ≡ get_or xs k x → length vs ≡ k → ws ≡ vs ++ v ∷ [] → Starts (map config_value (take k xs)) vs → IsServedInstance v (new_lone (string_bytes x.name) x.quota x.slots) → Starts (map config_value (take (k + 1) xs)) ws
+pub starts_more : (xs : List InstanceConfig) (k : ℕ) (x : InstanceConfig) (vs ws : List ServedState) (v : ServedState) → k < length xs → x ≡ get_or xs k x → length vs ≡ k → ws ≡ vs ++ v ∷ [] → Starts (map config_value (take k xs)) vs → IsServedInstance v (new_lone (string_bytes x.name) x.quota x.slots (limits_value x.limits)) → Starts (map config_value (take (k + 1) xs)) ws
 starts_more xs k x vs ws v lt at count is h own =
     let more : map config_value (take (k + 1) xs) ≡ map config_value (take k xs) ++ config_value x ∷ [] =
     map_more config_value xs k x lt ∙ ap (λ (y : InstanceConfig). map config_value (take k xs) ++ config_value y ∷ []) (sym at) in
@@ -90,7 +92,7 @@ begun_more records more v n count is h own i lt config =
 -- nothing was counted yet
 pub none_counted : (v : RecordValue) → ((config : ConfigValue) → IsRecord v (new_run config)) → v.count < 1
 none_counted v own =
-    let none : v.count ≡ 0 = (own (record { name = []; quota = 0; slots = 0; parent = None })).count in
+    let none : v.count ≡ 0 = (own (record { name = []; quota = 0; slots = 0; limits = usual_limits; parent = None })).count in
     omega arith
 
 -- ---- one more instance over a pool

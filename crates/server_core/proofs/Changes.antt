@@ -14,6 +14,7 @@ use Rattle.served_instance.specs.Lone.{sent_bytes_on}
 use Rattle.server_core.specs.declared.record.OpenRecord.{OpenRecord}
 use Rattle.server_core.specs.Records.{open_record, open_from}
 use Rattle.server_core.specs.Notes.{record_after_taking, open_records_after, sent_bytes_after}
+use Rattle.served_instance.proofs.Greeting.{nothing_taken}
 use Rattle.served_instance.proofs.Growth.{HasGrown, AreGrown, at_is_open, connections_after}
 
 -- ---- tests
@@ -86,20 +87,21 @@ known_same p (k ∷ ks) =
     let later = known_same (p + 1) ks in
     if_both k.is_open _ _ _ _ (λ is. cons_both _ _ _ _ (value_same p k) later) (λ is. later)
 
-abbrev pub new_at : ℕ → LoneConnection
-new_at c = record { number = c; past = new_past; is_open = true }
+abbrev pub new_at : ℕ → ℕ → LoneConnection
+new_at window c = record { number = c; past = new_past window; is_open = true }
 
 abbrev new_value : ℕ → ℕ → OpenRecord
 new_value c p = record { number = c; place = p; untaken = 0 }
 
-known_opened : (c p : ℕ) (ks : List LoneConnection) → known_from p (map sent_bytes_on ks ++ (c, []) ∷ []) (ks ++ new_at c ∷ []) ≡ open_from p ks ++ new_value c (p + length ks) ∷ []
-known_opened c p [] =
+known_opened : (window c p : ℕ) (ks : List LoneConnection) → known_from p (map sent_bytes_on ks ++ (c, []) ∷ []) (ks ++ new_at window c ∷ []) ≡ open_from p ks ++ new_value c (p + length ks) ∷ []
+known_opened window c p [] =
     let e : p ≡ p + 0 = omega arith in
-    ap (λ (n : ℕ). new_value c n ∷ []) e
-known_opened c p (k ∷ ks) =
+    let left : ℕ → Values = λ n. let o : OpenRecord = record { number = c; place = p; untaken = 0 - n } in o ∷ [] in
+    ap left (nothing_taken window) ∙ ap (λ (n : ℕ). new_value c n ∷ []) e
+known_opened window c p (k ∷ ks) =
     let e : p + 1 + length ks ≡ p + length (k ∷ ks) = omega arith in
-    let later : known_from (p + 1) (map sent_bytes_on ks ++ (c, []) ∷ []) (ks ++ new_at c ∷ []) ≡ open_from (p + 1) ks ++ new_value c (p + length (k ∷ ks)) ∷ [] =
-    known_opened c (p + 1) ks ∙ ap (λ (n : ℕ). open_from (p + 1) ks ++ new_value c n ∷ []) e in
+    let later : known_from (p + 1) (map sent_bytes_on ks ++ (c, []) ∷ []) (ks ++ new_at window c ∷ []) ≡ open_from (p + 1) ks ++ new_value c (p + length (k ∷ ks)) ∷ [] =
+    known_opened window c (p + 1) ks ∙ ap (λ (n : ℕ). open_from (p + 1) ks ++ new_value c n ∷ []) e in
     let more : Values → Values = λ os. os ++ new_value c (p + length (k ∷ ks)) ∷ [] in
     elim (cases_Bool k.is_open) [
       | inl is ↦ pick_true k.is_open _ _ is ∙ cons_both _ _ _ _ (value_same p k) later ∙ sym (ap more (pick_true k.is_open (open_record p k ∷ open_from (p + 1) ks) (open_from (p + 1) ks) is))
@@ -197,15 +199,15 @@ known_closed c p (k ∷ ks) apart =
     ]
 
 -- what is noted of open connections follows an event
-pub known_after : (what : WhatValue) (ks : List LoneConnection) → AreApart ks → open_records_after what (length ks) (open_from 0 ks) ≡ known_from 0 (sent_bytes_after what (map sent_bytes_on ks)) (connections_after what ks)
-known_after (opened c) ks apart =
+pub known_after : (window : ℕ) (what : WhatValue) (ks : List LoneConnection) → AreApart ks → open_records_after what (length ks) (open_from 0 ks) ≡ known_from 0 (sent_bytes_after what (map sent_bytes_on ks)) (connections_after window what ks)
+known_after window (opened c) ks apart =
     let e : 0 + length ks ≡ length ks = omega arith in
-    sym (known_opened c 0 ks ∙ ap (λ (n : ℕ). open_from 0 ks ++ new_value c n ∷ []) e)
-known_after (received c bytes) ks apart = sym (known_same 0 ks)
-known_after (took c n) ks apart = sym (known_took c n 0 ks apart)
-known_after (closed c) ks apart = sym (known_closed c 0 ks apart)
-known_after tick ks apart = sym (known_same 0 ks)
-known_after (ended job outcome) ks apart = sym (known_same 0 ks)
+    sym (known_opened window c 0 ks ∙ ap (λ (n : ℕ). open_from 0 ks ++ new_value c n ∷ []) e)
+known_after window (received c bytes) ks apart = sym (known_same 0 ks)
+known_after window (took c n) ks apart = sym (known_took c n 0 ks apart)
+known_after window (closed c) ks apart = sym (known_closed c 0 ks apart)
+known_after window tick ks apart = sym (known_same 0 ks)
+known_after window (ended job outcome) ks apart = sym (known_same 0 ks)
 
 pub taken_grown : (k m : LoneConnection) → HasGrown k m → count_taken m.past.history ≡ count_taken k.past.history
 taken_grown k m g = ap count_taken g.past.history ∙ sum_by-append count_taken_by k.past.history g.past.more ∙ omega (arith, g.past.quiet)

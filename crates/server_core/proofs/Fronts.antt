@@ -20,6 +20,7 @@ use Rattle.server_core.specs.declared.record.OpenRecord.{OpenRecord}
 use Rattle.server_core.specs.Records.{open_record, open_from, IsTakenFrom}
 use Rattle.server_core.specs.Notes.{sent_bytes_after, with_more_at, pending_bytes_on, sent_bytes_with, sent_bytes_with_all, record_after_noting}
 use Rattle.served_instance.proofs.Growth.{HasGrown, AreGrown, at_is_open, connections_after}
+use Rattle.served_instance.proofs.Greeting.{nothing_taken}
 use Rattle.server_core.proofs.Changes.{pick_true, pick_false, none_at, known_value, known_from, new_at, took_more, taken_grown, both_true, second_true, second_false}
 
 -- ---- fronts
@@ -76,11 +77,11 @@ fronts_same : (ks : List LoneConnection) → AreWithin ks → AreFronts (map sen
 fronts_same [] h = tt
 fronts_same (k ∷ ks) h = (front_same k h.0, fronts_same ks h.1)
 
-fronts_opened : (c : ℕ) (ks : List LoneConnection) → AreWithin ks → AreFronts (map sent_bytes_on ks ++ (c, []) ∷ []) (ks ++ new_at c ∷ [])
-fronts_opened c [] h =
-    let f : IsFront (c, []) (new_at c) = record { number = refl; more = bytes_put new_past.history; bytes = refl; within = λ is. omega arith; closed = λ is. absurd (true≢false is) } in
+fronts_opened : (window c : ℕ) (ks : List LoneConnection) → AreWithin ks → AreFronts (map sent_bytes_on ks ++ (c, []) ∷ []) (ks ++ new_at window c ∷ [])
+fronts_opened window c [] h =
+    let f : IsFront (c, []) (new_at window c) = record { number = refl; more = bytes_put (new_past window).history; bytes = refl; within = λ is. let none = nothing_taken window in omega (arith, none); closed = λ is. absurd (true≢false is) } in
     (f, tt)
-fronts_opened c (k ∷ ks) h = (front_same k h.0, fronts_opened c ks h.1)
+fronts_opened window c (k ∷ ks) h = (front_same k h.0, fronts_opened window c ks h.1)
 
 -- no more is taken than was put and not taken before
 abbrev pub MayTake : ℕ → ℕ → List LoneConnection → Type 0
@@ -133,13 +134,13 @@ May (opened c) ks = open_at c ks ≡ None
 May (took c n) ks = MayTake c n ks
 May _ ks = Unit {0}
 
-pub fronts_after : (what : WhatValue) (ks : List LoneConnection) → AreWithin ks → May what ks → AreFronts (sent_bytes_after what (map sent_bytes_on ks)) (connections_after what ks)
-fronts_after (opened c) ks h may = fronts_opened c ks h
-fronts_after (received c bytes) ks h may = fronts_same ks h
-fronts_after (took c n) ks h may = fronts_took c n ks h may
-fronts_after (closed c) ks h may = fronts_closed c ks h
-fronts_after tick ks h may = fronts_same ks h
-fronts_after (ended job outcome) ks h may = fronts_same ks h
+pub fronts_after : (window : ℕ) (what : WhatValue) (ks : List LoneConnection) → AreWithin ks → May what ks → AreFronts (sent_bytes_after what (map sent_bytes_on ks)) (connections_after window what ks)
+fronts_after window (opened c) ks h may = fronts_opened window c ks h
+fronts_after window (received c bytes) ks h may = fronts_same ks h
+fronts_after window (took c n) ks h may = fronts_took c n ks h may
+fronts_after window (closed c) ks h may = fronts_closed c ks h
+fronts_after window tick ks h may = fronts_same ks h
+fronts_after window (ended job outcome) ks h may = fronts_same ks h
 
 front_grown : (s : ℕ × List ℕ) (k m : LoneConnection) → IsFront s k → HasGrown k m → IsFront s m
 front_grown s k m f g = record {
@@ -241,25 +242,25 @@ false_number b c h = elim (cases_Bool (c == b)) [
   | inr other ↦ other
 ]
 
-none_with : (b c : ℕ) (ks : List LoneConnection) → (b == c) ≡ false → open_at b ks ≡ None → open_at b (ks ++ new_at c ∷ []) ≡ None
-none_with b c [] h none = pick_false (c == b) _ _ (false_number b c h)
-none_with b c (k ∷ ks) h none =
+none_with : (window b c : ℕ) (ks : List LoneConnection) → (b == c) ≡ false → open_at b ks ≡ None → open_at b (ks ++ new_at window c ∷ []) ≡ None
+none_with window b c [] h none = pick_false (c == b) _ _ (false_number b c h)
+none_with window b c (k ∷ ks) h none =
     let n = none_at b k ks none in
-    pick_false (is_open_at b k) _ _ n.here ∙ none_with b c ks h n.later
+    pick_false (is_open_at b k) _ _ n.here ∙ none_with window b c ks h n.later
 
-apart_opened : (c : ℕ) (ks : List LoneConnection) → open_at c ks ≡ None → AreApart ks → AreApart (ks ++ new_at c ∷ [])
-apart_opened c [] none a = (λ is. refl, tt)
-apart_opened c (k ∷ ks) none a =
+apart_opened : (window c : ℕ) (ks : List LoneConnection) → open_at c ks ≡ None → AreApart ks → AreApart (ks ++ new_at window c ∷ [])
+apart_opened window c [] none a = (λ is. refl, tt)
+apart_opened window c (k ∷ ks) none a =
     let n = none_at c k ks none in
-    (λ is. none_with k.number c ks (second_false k.is_open (k.number == c) is n.here) (a.0 is), apart_opened c ks n.later a.1)
+    (λ is. none_with window k.number c ks (second_false k.is_open (k.number == c) is n.here) (a.0 is), apart_opened window c ks n.later a.1)
 
-pub apart_after : (what : WhatValue) (ks : List LoneConnection) → May what ks → AreApart ks → AreApart (connections_after what ks)
-apart_after (opened c) ks may a = apart_opened c ks may a
-apart_after (received c bytes) ks may a = a
-apart_after (took c n) ks may a = apart_later ks (at_open c (λ q. with_taken q n) ks) (at_open_open c (λ q. with_taken q n) ks) a
-apart_after (closed c) ks may a = apart_later ks (with_closed c ks) (closed_open c ks) a
-apart_after tick ks may a = a
-apart_after (ended job outcome) ks may a = a
+pub apart_after : (window : ℕ) (what : WhatValue) (ks : List LoneConnection) → May what ks → AreApart ks → AreApart (connections_after window what ks)
+apart_after window (opened c) ks may a = apart_opened window c ks may a
+apart_after window (received c bytes) ks may a = a
+apart_after window (took c n) ks may a = apart_later ks (at_open c (λ q. with_taken q n) ks) (at_open_open c (λ q. with_taken q n) ks) a
+apart_after window (closed c) ks may a = apart_later ks (with_closed c ks) (closed_open c ks) a
+apart_after window tick ks may a = a
+apart_after window (ended job outcome) ks may a = a
 
 -- ---- what is gathered
 

@@ -9,7 +9,7 @@ use Rattle.execution.specs.Job.{JobValue}
 use Rattle.job_queue.specs.declared.queue.TheConstants.{MOST_RUNNING}
 use Rattle.instance_core.proofs.Limits.{nothing_within}
 use Rattle.instance_core.specs.Calls.{same_call}
-use Rattle.instance_core.specs.State.{IsInstanceWithin, most_blobs, new_instance}
+use Rattle.instance_core.specs.State.{IsInstanceWithin, LimitsValue, IsLimits, new_instance}
 use Rattle.server_events.specs.Configs.{ConfigValue}
 use Rattle.server_events.specs.Events.{EventValue}
 use Rattle.served_instance.specs.Narrow.{IsNarrow}
@@ -49,10 +49,11 @@ no_calls = tt
 no_jobs_wait : AreJobs (no_jobs {J = JobValue})
 no_jobs_wait = record { rising = tt; given = tt; ended_given = tt; ended_once = tt; ended_apart = tt; few_numbers = omega arith; few_waiting = omega arith; few_running = omega arith; few_ended = omega arith }
 
-pub new_within : (name : List ℕ) (quota slots : ℕ) → quota ≤ 2 ^ 40 → slots ≤ MOST_RUNNING → IsInstanceWithin (new_instance name quota slots)
-new_within name quota slots small few = record {
+pub new_within : (name : List ℕ) (quota slots : ℕ) (limits : LimitsValue) → quota ≤ 2 ^ 40 → slots ≤ MOST_RUNNING → IsLimits limits → IsInstanceWithin (new_instance name quota slots limits)
+new_within name quota slots limits small few good = record {
   quota = small;
-  texts = nothing_within most_blobs quota;
+  limits = good;
+  texts = nothing_within limits.blobs quota;
   uploads = record { bytes = omega arith; count = omega arith };
   results = record { few = omega arith; short = omega arith };
   slots = few;
@@ -68,7 +69,7 @@ new_within name quota slots small few = record {
 new_keeps : (config : ConfigValue) → IsLimited config → KeepsLimits (new_run config).lone
 new_keeps config limited =
     let few : config.slots ≤ MOST_RUNNING = omega (arith, limited.slots) in
-    record { within = new_within config.name config.quota config.slots limited.quota few; short = tt }
+    record { within = new_within config.name config.quota config.slots config.limits limited.quota few limited.limits; short = tt }
 
 pub new_family_keeps : (family : Family) → AreLimited family → FamilyKeeps (new_family_run family)
 new_family_keeps family limited = record { own = new_keeps family.own limited.own; beside = beside family.parent limited.parent } where

@@ -295,7 +295,7 @@ are_left (Off.One c) live ks is taken apart = record {
       ∙ ap (λ (ss : List (ℕ × List ℕ)). known_from 0 ss (with_closed c ks)) (sym (sent_closed c ks))
       ∙ known_same 0 (with_closed c ks);
   taken = fronts_taken (map sent_bytes_on ks) (with_closed c ks) (fronts_closed c ks (all_within ks taken));
-  apart = apart_after (closed c) ks tt apart;
+  apart = apart_after 0 (closed c) ks tt apart;
 }
 are_left Off.All live ks is taken apart = all_left live ks
 are_left (Off.AllAndJob n) live ks is taken apart =

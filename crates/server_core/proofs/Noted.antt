@@ -61,27 +61,29 @@ length_sent (k ∷ ks) = ap suc (length_sent ks)
 pub noted_apart : (v : RecordValue) (r : Run) (bs : List Blob) (e : EventValue) → IsRecord v r → refusal_of e r.lone ≡ None → AreApart (lone_step bs e r.lone).connections
 noted_apart v r bs e st none =
     let ks = r.lone.connections in
-    let k1 = connections_after e.what ks in
+    let window = r.lone.state.limits.window in
+    let k1 = connections_after window e.what ks in
     let m : LoneInstance = lone_step bs e r.lone in
     let step : m ≡ after_event bs e r.lone = ap (after_event_unless bs e r.lone) none in
     let grown : AreGrown k1 m.connections = subst (λ (n : LoneInstance). AreGrown k1 n.connections) (sym step) (accepted_more bs e r.lone) in
-    apart_grown k1 m.connections grown (apart_after e.what ks (may e r.lone none) st.apart)
+    apart_grown k1 m.connections grown (apart_after window e.what ks (may e r.lone none) st.apart)
 
 pub noted : (v : RecordValue) (r : Run) (bs : List Blob) (e : EventValue) (given : List OrderValue) (ordered : List (ℕ × OrderValue)) (ss : List (ℕ × List ℕ)) (os : List OpenRecord) → IsRecord v r → refusal_of e r.lone ≡ None → given ≡ lone_orders bs e r.lone → ordered ≡ v.orders ++ orders_at (v.count + 1) given → ss ≡ sent_bytes_with_all (lone_step bs e r.lone) (open_records_after e.what (length v.sent) v.live) (sent_bytes_after e.what v.sent) → os ≡ map (record_after_noting (lone_step bs e r.lone)) (open_records_after e.what (length v.sent) v.live) → IsRecord (record { count = v.count + 1; orders = ordered; refusals = v.refusals; sent = ss; live = os }) (run_step bs r e)
 noted v r bs e given ordered ss os st none gave ordered_is ss_is os_is =
     let ks = r.lone.connections in
     let m : LoneInstance = lone_step bs e r.lone in
     let s1 = sent_bytes_after e.what (map sent_bytes_on ks) in
-    let k1 = connections_after e.what ks in
+    let window = r.lone.state.limits.window in
+    let k1 = connections_after window e.what ks in
     let step : m ≡ after_event bs e r.lone = ap (after_event_unless bs e r.lone) none in
     let grown : AreGrown k1 m.connections = subst (λ (n : LoneInstance). AreGrown k1 n.connections) (sym step) (accepted_more bs e r.lone) in
     let can : May e.what ks = may e r.lone none in
-    let fronts : AreFronts s1 m.connections = fronts_grown s1 k1 m.connections (fronts_after e.what ks (all_within ks st.taken) can) grown in
+    let fronts : AreFronts s1 m.connections = fronts_grown s1 k1 m.connections (fronts_after window e.what ks (all_within ks st.taken) can) grown in
     let apart : AreApart m.connections = noted_apart v r bs e st none in
     let sent : sent_bytes_after e.what v.sent ≡ s1 = ap (sent_bytes_after e.what) st.sent in
     let size : length v.sent ≡ length ks = ap length st.sent ∙ length_sent ks in
     let known : open_records_after e.what (length v.sent) v.live ≡ known_from 0 s1 m.connections =
-    ap (λ (n : ℕ). open_records_after e.what n v.live) size ∙ ap (open_records_after e.what (length ks)) st.live ∙ known_after e.what ks st.apart ∙ known_grown 0 s1 k1 m.connections grown in
+    ap (λ (n : ℕ). open_records_after e.what n v.live) size ∙ ap (open_records_after e.what (length ks)) st.live ∙ known_after window e.what ks st.apart ∙ known_grown 0 s1 k1 m.connections grown in
     record {
       count = ap (λ n. n + 1) st.count;
       orders = ordered_is

@@ -34,7 +34,6 @@ use Rattle.instance_core.specs.Naming.{Names}
 use Rattle.instance_view.specs.Shown.{ViewValue, ViewEntry, blobs_in, holders, entry_holders}
 use Rattle.instance_core.proofs.Held.{shown_same, holders-few}
 use Rattle.instance_core.proofs.Steps.{length-visible_in}
-use Rattle.instance_core.specs.State.{most_blobs}
 use Rattle.served_instance.specs.declared.refusal.EventRefusal.{EventRefusal}
 use Rattle.served_instance.specs.declared.refusal.EventRefusal.TheVariants.{NoMemory}
 use Rattle.served_instance.specs.Lone.{LoneInstance}
@@ -154,19 +153,20 @@ jobs_few p jobs k are =
 
 -- by its entries, by its jobs, and by the ranges of its connections
 abbrev most_held : ℕ
-most_held = most_blobs + MOST_WAITING * 2 ^ 63 + MOST_RUNNING * 2 ^ 63 + CONNECTION_LIMIT * 2 ^ 64
+most_held = 2 ^ 31 + MOST_WAITING * 2 ^ 63 + MOST_RUNNING * 2 ^ 63 + CONNECTION_LIMIT * 2 ^ 64
 
 -- an instance has no more entries than it may have texts
 holds_few : (p : Slots) (a : ServedSlots) → IsServedWithin (served_state_in p a) → HasRanges p a → (k : ℕ) → holders_of a k ≤ most_held
 holds_few p a w r k =
     let long = length-visible_in p a.instance.view in
     let entries = w.instance.texts.entries in
+    let blobs = w.instance.limits.few_blobs in
     let most = holders-few a.instance.view.entries k in
     let ranges = ranges_few (2 ^ 64) a.connections r.few k in
     let many : length a.connections ≤ CONNECTION_LIMIT = omega (arith, w.connections, length-map a.connections (seen_with (text_at p))) in
     let all = mul-le-mul_right (2 ^ 64) many in
     let jobs = jobs_few p a.instance.jobs k w.instance.jobs in
-    omega (arith, long, entries, most, ranges, all, jobs)
+    omega (arith, long, entries, blobs, most, ranges, all, jobs)
 
 ranges_at : (p : Slots) (xs : List ServedSlots) (i : ℕ) (a : ServedSlots) → AllByRecursion (HasRanges p) xs → slice_get xs i ≡ Some a → HasRanges p a
 ranges_at p [] i a w at = cc

@@ -6,6 +6,7 @@ use Rattle.std.specs.List.{slice_get, flat_map}
 use Rattle.server_events.specs.Configs.{ConfigValue, parent_of}
 use Rattle.server_events.specs.Events.{EventValue}
 use Rattle.server_events.specs.Instance.{quota_limit, slots_limit}
+use Rattle.server_events.specs.Limits.{IsLimits}
 
 -- how an instance is configured, and how its parent is, if it has one
 pub record Family : Type 0 where
@@ -21,10 +22,11 @@ abbrev pub family_in : List ConfigValue → ConfigValue → Family
 family_in configs config =
     record { own = config; parent = option_and_then (slice_get configs) (parent_of configs config) }
 
--- it is given no more than an instance may be given
+-- it is given no more than an instance may be given, and what may be chosen for one
 pub record IsLimited (config : ConfigValue) : Type 0 where
   pub quota : config.quota ≤ quota_limit
   pub slots : config.slots ≤ slots_limit
+  pub limits : IsLimits config.limits
 
 -- so is its parent
 pub record AreLimited (family : Family) : Type 0 where

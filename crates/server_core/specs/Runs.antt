@@ -24,7 +24,7 @@ pub record Run : Type 0 where
 
 abbrev pub new_run : ConfigValue → Run
 new_run config = record {
-  lone = new_lone config.name config.quota config.slots;
+  lone = new_lone config.name config.quota config.slots config.limits;
   count = 0;
   orders = [];
   refusals = [];

@@ -53,10 +53,10 @@ pub fn a_parent_is_by_itself()
 
 /// An instance keeps its limits through every run of it and its parent. So its texts never have
 /// more bytes together than its quota, nor have its unfinished uploads, of which there are 64 at
-/// most; it has at most 10,000 results of actions, of 67,108,864 bytes together; no more jobs run
-/// than it has slots, and at most 1,000 wait; and each text is what its digest says: the hash is
-/// the text's, by SHA-256 or by SHA-512 as its length says, and the size its length. Exit codes of
-/// runs are numbers of 32 bits.
+/// most; it has no more blobs and results of actions, and no more bytes of these results, than were
+/// chosen for it; no more jobs run than it has slots, and at most 1,000 wait; and each text is what
+/// its digest says: the hash is the text's, by SHA-256 or by SHA-512 as its length says, and the
+/// size its length. Exit codes of runs are numbers of 32 bits.
 pub fn a_run_keeps_its_limits()
     ensures { (family : Family) (events : List FamilyEvent) → AreLimited family
         → AllByRecursion IsNarrow (map event_in events)

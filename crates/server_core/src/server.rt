@@ -31,7 +31,7 @@ ghost use Rattle.served_instance.specs.Ranges.{RangesEndWithin};
 use blob_pool::Pool;
 use keyed_maps::MapKey;
 use served_instance::{EventRefusal, Order, ServedInstance, Task};
-use server_events::{Configs, Event, InstanceConfig};
+use server_events::{Configs, Event, InstanceConfig, Limits};
 use std::alloc::{AllocError, Global};
 use std::marker::Model;
 use std::mem::swap;
@@ -105,7 +105,8 @@ impl Server {
     pub fn new(alloc: Global, key: MapKey, configs: &Configs) -> Result<Server, AllocError>
         ensures stands { IfOk result (λ server. (i : ℕ) (config : ConfigValue)
             → config_at i configs.now ≡ Some config
-            → StandsAt i server.instances (new_lone config.name config.quota config.slots)) }
+            → StandsAt i server.instances (new_lone config.name config.quota config.slots
+            config.limits)) }
         ensures count { IfOk result (λ server. length server.instances ≡ length configs.now) }
         ensures within { IfOk result (λ server. AllByRecursion IsServedWithin server.instances) }
         ensures parents { IfOk result (λ server. server.parents ≡ parents_of configs.now) }
@@ -200,7 +201,7 @@ impl Server {
         self.instance(instance)?.ended(connection)
     }
 
-    /// Whether a call is in course on an open connection.
+    /// Whether a call is in course on an open connection that its client sent whole.
     pub fn has_calls(&self, instance: u32, connection: u32) -> Option<bool>
         ensures none { instance_at instance self.now.instances ≡ None → result ≡ None }
         ensures calls { (l : LoneInstance) → StandsAt instance self.now.instances l
@@ -282,6 +283,7 @@ fn new_spare(alloc: Global, key: MapKey) -> Result<ServedInstance, AllocError>
         name: String::new(alloc),
         quota: 0,
         slots: 0,
+        limits: Limits::usual(),
         parent: None,
     };
     ServedInstance::new(alloc, key, &config)

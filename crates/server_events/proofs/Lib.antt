@@ -3,3 +3,4 @@ pub mod ListLemmas
 pub mod ParentLemmas
 pub mod OwnLemmas
 pub mod NameLemmas
+mod Chosen

@@ -3,16 +3,18 @@ use Rattle.std.specs.Prelude.{ℕ, Bool, false, not, ◌&&◌, nat_le, nat_lt, i
 use Rattle.std.specs.List.{list_any, position}
 use Rattle.std.specs.Option.{option_or, option_map_or}
 use Rattle.std.specs.Str.{bytes_eq}
+use Rattle.instance_limits.specs.Limits.{LimitsValue}
 use Rattle.server_events.specs.Instance.{is_instance_name, quota_limit, slots_limit}
 use Rattle.server_events.specs.declared.fault.ConfigFault.{ConfigFault}
 use Rattle.server_events.specs.declared.fault.ConfigFault.TheVariants.{BadName, BadQuota, BadSlots, DuplicateName, TooMany, BadParent}
 
--- an instance: its name, the bytes that it is given, the actions that it may run at once, and the
--- name of the instance on which it builds, if it builds on one
+-- an instance: its name, the bytes that it is given, the actions that it may run at once, the numbers
+-- that were chosen for it, and the name of the instance on which it builds, if it builds on one
 pub record ConfigValue : Type 0 where
   pub name : List ℕ
   pub quota : ℕ
   pub slots : ℕ
+  pub limits : LimitsValue
   pub parent : Option (List ℕ)
 
 -- the most instances that a server has

@@ -5,6 +5,7 @@ use Rattle.server_events.specs.declared.configs.InstanceConfig.{InstanceConfig}
 use Rattle.server_events.specs.declared.event.Event.{Event}
 use Rattle.server_events.specs.declared.event.What.{What}
 use Rattle.server_events.specs.declared.event.What.TheVariants.{Open, Bytes, Took, Closed, Tick, Outcome}
+use Rattle.instance_limits.specs.Shown.{limits_value}
 use Rattle.run_outcomes.specs.Shown.{outcome_shown}
 use Rattle.server_events.specs.Configs.{ConfigValue}
 use Rattle.server_events.specs.Events.{WhatValue, opened, received, took, closed, tick, ended, EventValue}
@@ -14,6 +15,7 @@ config_value config = record {
   name = string_bytes config.name;
   quota = config.quota;
   slots = config.slots;
+  limits = limits_value config.limits;
   parent = option_map string_bytes config.parent;
 }
 

@@ -1,10 +1,13 @@
 //! The instances of a server.
 ghost use Rattle.std.specs.Prelude.{◌≡◌, ◌∷◌, [], map, IfOk, IfErr, Some, None, length};
+ghost use Rattle.std.specs.List.{All};
+ghost use Rattle.instance_limits.specs.Limits.{IsLimits};
 ghost use Rattle.server_events.specs.Configs.{config_fault, own_fault, first_own_fault, first_parent_fault, has_bad_parent, names_a_root, is_named_among, number_named, parent_of};
 ghost use Rattle.server_events.specs.Shown.{config_value};
 
 use crate::fault::ConfigFault;
 use crate::instance::{is_instance_name, is_quota, is_slot_count};
+use instance_limits::Limits;
 use std::marker::Model;
 
 /// The most instances that a server has.
@@ -17,6 +20,8 @@ pub struct InstanceConfig {
     pub quota: u64,
     /// The most actions that it runs at once; with 0 it runs none.
     pub slots: u32,
+    /// What an operator chose for it.
+    pub limits: Limits,
     /// The name of the instance on which it builds, its parent: it reads the parent's blobs as its
     /// own, and changes nothing of it. A parent builds on none.
     pub parent: Option<String>,
@@ -30,6 +35,7 @@ impl Drop for InstanceConfig {
             name,
             quota: _,
             slots: _,
+            limits: _,
             parent,
         } = self;
         drop(name);
@@ -87,6 +93,7 @@ impl Configs {
     pub fn instances(&self) -> &[InstanceConfig]
         ensures instances { map config_value result.now ≡ self.now }
         ensures good { config_fault self.now ≡ None }
+        ensures limits { All (λ config. IsLimits config.limits) self.now }
     {
         &self.instances
     }

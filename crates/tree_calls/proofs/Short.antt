@@ -32,7 +32,7 @@ use Rattle.tree_calls.specs.GetTree.{texts_seen, get_tree_replies}
 use Rattle.tree_calls.specs.Results.{after_asking, after_get, after_sending, after_update, get_action_result_reply, update_action_result_reply}
 use Rattle.tree_calls.specs.Lists.{IsDirectory}
 use Rattle.tree_calls.specs.Pages.{IsPageBounded, AreContinued, token_before, directories_of}
-use Rattle.tree_calls.specs.Complete.{AreResultsWithin}
+use Rattle.tree_calls.specs.Complete.{LimitsValue, IsLimits, AreResultsWithin}
 use Rattle.tree_calls.proofs.Sizes.{bytes_written, both_written, message_written, payloads_weight, read_from, sizes}
 use Rattle.tree_calls.proofs.Whole.{whole_from}
 use Rattle.tree_calls.proofs.Pages.{list_given}
@@ -132,12 +132,13 @@ stored_short t (b ∷ bs) reply h = go (t b.0) h (stored_short t bs reply) where
   go true h later = let e : b.1 ≡ reply = cc in rw (← e) (omega arith)
   go false h later = let rest = later h in omega (arith, rest)
 
-pub get_action_result_short : (own : List ℕ) (visible results : List Blob) (request reply : List ℕ) → AreResultsWithin results → get_action_result_reply own visible results request ≡ Ok reply → length reply < 2 ^ 32
-get_action_result_short own visible results request reply within h =
+pub get_action_result_short : (limits : LimitsValue) (own : List ℕ) (visible results : List Blob) (request reply : List ℕ) → IsLimits limits → AreResultsWithin limits results → get_action_result_reply own visible results request ≡ Ok reply → length reply < 2 ^ 32
+get_action_result_short limits own visible results request reply good within h =
     let c = result_complete own visible results request reply h in
     let one = stored_short (same_digest c.action) results reply c.is_stored in
     let all = within.short in
-    omega (arith, one, all)
+    let most = good.short_results in
+    omega (arith, one, all, most)
 
 concat_short : (ps : List (List ℕ)) → length (concat ps) ≤ sizes ps
 concat_short [] = omega arith
@@ -204,31 +205,31 @@ front_short (suc n) room (b ∷ bs) = go (nat_le (length b.1) room) refl (front_
   go true is ih = let le = leb-true (length b.1) room is in omega (arith, ih, le)
   go false is ih = omega arith
 
-pub fronted_within : (t : Digest → Bool) (results : List Blob) → AreResultsWithin results → AreResultsWithin (with_match_first t results)
-fronted_within t results within = record {
+pub fronted_within : (limits : LimitsValue) (t : Digest → Bool) (results : List Blob) → AreResultsWithin limits results → AreResultsWithin limits (with_match_first t results)
+fronted_within limits t results within = record {
   few = rw (length-with_match_first t results) within.few;
   short = rw (blobs_length-with_match_first t results) within.short;
 }
 
-pub get_stays_within : (own : List ℕ) (visible results : List Blob) (request : List ℕ) → AreResultsWithin results → AreResultsWithin (after_get own visible results request)
-get_stays_within own visible results request within = go (action_asked own request) where
-  test : (action : Digest) (b : Bool) → AreResultsWithin (if b then with_match_first (same_digest action) results else results)
-  test action true = fronted_within (same_digest action) results within
+pub get_stays_within : (limits : LimitsValue) (own : List ℕ) (visible results : List Blob) (request : List ℕ) → AreResultsWithin limits results → AreResultsWithin limits (after_get own visible results request)
+get_stays_within limits own visible results request within = go (action_asked own request) where
+  test : (action : Digest) (b : Bool) → AreResultsWithin limits (if b then with_match_first (same_digest action) results else results)
+  test action true = fronted_within limits (same_digest action) results within
   test action false = within
 
-  go : (r : Result Digest Refusal) → AreResultsWithin (after_asking visible results r)
+  go : (r : Result Digest Refusal) → AreResultsWithin limits (after_asking visible results r)
   go (Err refusal) = within
   go (Ok action) = test action (is_some (blobs_for (texts_seen visible) action results))
 
-pub front_is_within : (bs : List Blob) → AreResultsWithin (front_within 10000 67108864 bs)
-front_is_within bs = record { few = front_few 10000 67108864 bs; short = front_short 10000 67108864 bs }
+pub front_is_within : (limits : LimitsValue) (bs : List Blob) → AreResultsWithin limits (front_within limits.results limits.result_bytes bs)
+front_is_within limits bs = record { few = front_few limits.results limits.result_bytes bs; short = front_short limits.results limits.result_bytes bs }
 
-pub update_stays_within : (own : List ℕ) (results : List Blob) (request : List ℕ) → AreResultsWithin results → AreResultsWithin (after_update own results request)
-update_stays_within own results request within = go (result_sent own request) where
-  test : (bs : List Blob) (b : Bool) → AreResultsWithin (if b then results else front_within 10000 67108864 bs)
+pub update_stays_within : (limits : LimitsValue) (own : List ℕ) (results : List Blob) (request : List ℕ) → AreResultsWithin limits results → AreResultsWithin limits (after_update own limits results request)
+update_stays_within limits own results request within = go (result_sent own request) where
+  test : (bs : List Blob) (b : Bool) → AreResultsWithin limits (if b then results else front_within limits.results limits.result_bytes bs)
   test bs true = within
-  test bs false = front_is_within bs
+  test bs false = front_is_within limits bs
 
-  go : (r : Result ResultSentValue Refusal) → AreResultsWithin (after_sending results r)
+  go : (r : Result ResultSentValue Refusal) → AreResultsWithin limits (after_sending limits results r)
   go (Err refusal) = within
-  go (Ok sent_bytes) = test ((sent_bytes.action, sent_bytes.text) ∷ remove_entry (same_digest sent_bytes.action) results) (nat_lt 67108864 (length sent_bytes.text))
+  go (Ok sent_bytes) = test ((sent_bytes.action, sent_bytes.text) ∷ remove_entry (same_digest sent_bytes.action) results) (nat_lt limits.result_bytes (length sent_bytes.text))

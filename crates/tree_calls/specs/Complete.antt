@@ -12,7 +12,7 @@ use Rattle.tree_messages.specs.Directories.{DirectoryValue, TreeValue, tree_of}
 use Rattle.tree_messages.specs.Results.{ActionResultValue, action_result_of}
 use Rattle.input_tree.specs.Directories.{written_digest}
 use Rattle.input_tree.specs.Listing.{Lookup}
-use Rattle.action_cache.specs.declared.results.TheConstants.{MOST_RESULTS, MOST_RESULT_BYTES}
+pub use Rattle.instance_limits.specs.Limits.{LimitsValue, IsLimits}
 use Rattle.tree_calls.specs.Asking.{action_asked}
 use Rattle.tree_calls.specs.GetTree.{texts_seen}
 
@@ -54,7 +54,7 @@ pub record IsCompleteReply (own : List ℕ) (visible results : List Blob)
   pub is_stored : lookup (same_digest action) results ≡ Some reply
   pub complete : IsComplete (texts_seen visible) reply
 
--- results are no more, and have no more bytes together, than an instance may have
-pub record AreResultsWithin (results : List Blob) : Type 0 where
-  pub few : length results ≤ MOST_RESULTS
-  pub short : blobs_length results ≤ MOST_RESULT_BYTES
+-- results are no more, and have no more bytes together, than the limits allow
+pub record AreResultsWithin (limits : LimitsValue) (results : List Blob) : Type 0 where
+  pub few : length results ≤ limits.results
+  pub short : blobs_length results ≤ limits.result_bytes

@@ -6,7 +6,7 @@ use Rattle.rpc.specs.declared.refusal.Refusal.{Refusal}
 use Rattle.rpc.specs.declared.refusal.Refusal.TheVariants.{NoResult}
 use Rattle.digest.specs.declared.Digest.{Digest}
 use Rattle.instance_view.specs.Visible.{Blob}
-use Rattle.action_cache.specs.Results.{results_after_store}
+use Rattle.action_cache.specs.Results.{LimitsValue, results_after_store}
 use Rattle.action_cache.specs.Answering.{blobs_used, result_for, results_after}
 use Rattle.cas_service.specs.Changes.{TextChange, uses}
 use Rattle.tree_calls.specs.Asking.{ResultSentValue, action_asked, result_sent}
@@ -45,10 +45,10 @@ after_get own visible results message = after_asking visible results (action_ask
 abbrev pub update_action_result_reply : List ℕ → List ℕ → Result (List ℕ) Refusal
 update_action_result_reply own message = result_sent own message >>= λ sent. Ok sent.text
 
-abbrev pub after_sending : List Blob → Result ResultSentValue Refusal → List Blob
-after_sending results (Ok sent) = results_after_store sent.action sent.text results
-after_sending results (Err refusal) = results
+abbrev pub after_sending : LimitsValue → List Blob → Result ResultSentValue Refusal → List Blob
+after_sending limits results (Ok sent) = results_after_store limits sent.action sent.text results
+after_sending limits results (Err refusal) = results
 
 -- the result that was sent is the most recently used, in the place of an earlier one
-abbrev pub after_update : List ℕ → List Blob → List ℕ → List Blob
-after_update own results message = after_sending results (result_sent own message)
+abbrev pub after_update : List ℕ → LimitsValue → List Blob → List ℕ → List Blob
+after_update own limits results message = after_sending limits results (result_sent own message)

@@ -13,7 +13,7 @@ ghost use Rattle.tree_calls.specs.GetTree.{get_tree_replies};
 ghost use Rattle.tree_calls.specs.Results.{after_get, after_update, get_action_result_reply, update_action_result_reply};
 ghost use Rattle.tree_calls.specs.Lists.{IsWholeTree};
 ghost use Rattle.tree_calls.specs.Pages.{AreNamedReplies, GiveTheList};
-ghost use Rattle.tree_calls.specs.Complete.{AreResultsWithin, IsCompleteReply};
+ghost use Rattle.tree_calls.specs.Complete.{LimitsValue, IsLimits, AreResultsWithin, IsCompleteReply};
 
 /// The list of a tree begins with its root, and no digest stands twice in it. Each listed digest is
 /// that of a directory, and each but the root is in a directory that stands before it; each
@@ -58,13 +58,15 @@ pub fn complete_results_are_given()
         get_action_result_reply own visible results request ≡ Ok reply }
 {}
 
-/// An instance has at most 10,000 results of at most 67,108,864 bytes together, whatever calls it
-/// answers.
+/// An instance has no more results, and no more bytes of them together, than its limits allow,
+/// whatever calls it answers.
 pub fn results_stay_within()
-    ensures get { (own request : List ℕ) (visible results : List Blob) →
-        AreResultsWithin results → AreResultsWithin (after_get own visible results request) }
-    ensures update { (own request : List ℕ) (results : List Blob) →
-        AreResultsWithin results → AreResultsWithin (after_update own results request) }
+    ensures get { (limits : LimitsValue) (own request : List ℕ) (visible results : List Blob) →
+        AreResultsWithin limits results →
+        AreResultsWithin limits (after_get own visible results request) }
+    ensures update { (limits : LimitsValue) (own request : List ℕ) (results : List Blob) →
+        AreResultsWithin limits results →
+        AreResultsWithin limits (after_update own limits results request) }
 {}
 
 /// Each message of a reply is so short that its length can be written before it.
@@ -72,8 +74,9 @@ pub fn replies_are_short()
     ensures tree { (own request : List ℕ) (visible : List Blob) (messages : List (List ℕ)) →
         get_tree_replies own visible request ≡ Ok messages →
         AllByRecursion (λ message. length message < message_length_limit) messages }
-    ensures get { (own request reply : List ℕ) (visible results : List Blob) →
-        AreResultsWithin results → get_action_result_reply own visible results request ≡ Ok reply →
+    ensures get { (limits : LimitsValue) (own request reply : List ℕ)
+        (visible results : List Blob) → IsLimits limits → AreResultsWithin limits results →
+        get_action_result_reply own visible results request ≡ Ok reply →
         length reply < message_length_limit }
     ensures update { (own request reply : List ℕ) →
         IsShortRequest request → update_action_result_reply own request ≡ Ok reply →

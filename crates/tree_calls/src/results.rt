@@ -3,6 +3,7 @@
 ghost use Rattle.std.specs.Prelude.{◌≡◌, ℕ, OnErr};
 ghost use Rattle.blob_pool.specs.Slots.{Slots};
 ghost use Rattle.instance_view.specs.Shown.{visible_in, holders};
+ghost use Rattle.instance_limits.specs.Shown.{limits_value};
 ghost use Rattle.instance_view.specs.Sight.{seen_in, sight_of};
 ghost use Rattle.cas_service.specs.InPool.{IsViewInPool};
 ghost use Rattle.cas_service.specs.Answers.{Answers, IfAnswered};
@@ -13,6 +14,7 @@ use crate::asking::{ResultSent, action_asked, result_sent};
 use action_cache::{Results, get_result};
 use blob_pool::Pool;
 use cas_service::CallError;
+use instance_limits::Limits;
 use instance_view::View;
 use rpc::Refusal;
 use std::alloc::Global;
@@ -56,22 +58,22 @@ pub fn get_action_result(
 
 /// Answers `UpdateActionResult`: the bytes that were sent. They are stored as the action's result,
 /// in the place of an earlier one, and it is the most recently used; of all results the longest
-/// front stays that has at most 10,000 results and 67,108,864 bytes. A refused call changes
-/// nothing.
+/// front stays that the limits allow. A refused call changes nothing.
 pub fn update_action_result(
     alloc: Global,
     own: &str,
+    limits: Limits,
     results: &mut Results,
     message: &[u8],
 ) -> Result<Vec<u8>, CallError>
     ensures reply { Answers (λ reply. reply.items) result
         (update_action_result_reply own.now message.now) }
     ensures results { IfAnswered result
-        (results.new ≡ after_update own.now results.old message.now) }
+        (results.new ≡ after_update own.now (limits_value limits) results.old message.now) }
     ensures err { OnErr result (results.new ≡ results.old) }
 {
     let ResultSent { action, text } = result_sent(alloc, own, message)?;
     let reply = Vec::from_slice(alloc, &text)?;
-    results.update(&action, text)?;
+    results.update(limits, &action, text)?;
     Ok(reply)
 }

@@ -13,21 +13,28 @@ use Rattle.rpc.specs.Status.{code_of, text_of}
 use Rattle.digest.specs.Naming.{digest_of}
 use Rattle.instance_view.specs.Visible.{Blob, visible_text}
 use Rattle.quota_evict.specs.Admission.{visible_after_admission}
-pub use Rattle.quota_evict.specs.Within.{most_blobs}
+use Rattle.script.specs.Limits.{LimitsValue}
 use Rattle.cas_service.specs.Changes.{TextChange, visible_after_changes}
 use Rattle.cas_service.specs.FindMissing.{find_missing_reply, find_missing_changes}
 use Rattle.cas_service.specs.BatchUpdate.{batch_update_reply, batch_update_changes}
 use Rattle.cas_service.specs.BatchRead.{batch_read_reply, batch_read_changes}
 
--- an instance: its name, its quota in bytes, and its texts, the most recently used first
+-- an instance: its name, its quota in bytes, how many texts it may have, and its texts, the most
+-- recently used first
 pub record StoreValue : Type 0 where
   pub name : List ℕ
   pub quota : ℕ
+  pub limit : ℕ
   pub visible : List Blob
 
 -- at first there are no texts
-abbrev pub new_store : InstanceValue → StoreValue
-new_store instance = record { name = instance.name; quota = instance.quota; visible = [] }
+abbrev pub new_store : LimitsValue → InstanceValue → StoreValue
+new_store limits instance = record {
+  name = instance.name;
+  quota = instance.quota;
+  limit = limits.blobs;
+  visible = [];
+}
 
 -- the reply of a store to a call, or its refusal
 abbrev pub reply_from_store : Method → StoreValue → List ℕ → Result (List ℕ) Refusal
@@ -64,12 +71,12 @@ put_line refused = if refused then codes "refused" else codes "stored"
 -- a text is stored under its digest
 abbrev pub store_after_put : List ℕ → StoreValue → StoreValue
 store_after_put text s = record s {
-  visible = visible_after_admission most_blobs s.quota (digest_of text) text s.visible;
+  visible = visible_after_admission s.limit s.quota (digest_of text) text s.visible;
 }
 
 abbrev pub store_after_call : Method → List ℕ → StoreValue → StoreValue
 store_after_call method message s = record s {
-  visible = visible_after_changes most_blobs s.quota (changes_by method s message) s.visible;
+  visible = visible_after_changes s.limit s.quota (changes_by method s message) s.visible;
 }
 
 -- the line that a command prints
@@ -83,7 +90,7 @@ store_after (put place text) s = store_after_put text s
 store_after (call place method message) s = store_after_call method message s
 
 abbrev pub no_store : StoreValue
-no_store = record { name = []; quota = 0; visible = [] }
+no_store = record { name = []; quota = 0; limit = 0; visible = [] }
 
 -- the instance that a command is for
 abbrev pub store_of : CommandValue → List StoreValue → StoreValue
@@ -101,13 +108,15 @@ lines_of_commands (command ∷ commands) stores =
     line_of command (store_of command stores)
     ∷ lines_of_commands commands (stores_after command stores)
 
--- the lines that a script prints
-abbrev pub lines_of_value : UnaryScriptValue → List (List ℕ)
-lines_of_value script = lines_of_commands script.commands (map new_store script.instances)
+-- the lines that a script prints, for whose instances these limits were chosen
+abbrev pub lines_of_value : LimitsValue → UnaryScriptValue → List (List ℕ)
+lines_of_value limits script =
+    lines_of_commands script.commands (map (new_store limits) script.instances)
 
 -- the lines that the script of a text prints, or the number of its first bad line
-abbrev pub lines_of_script : List ℕ → Result (List (List ℕ)) ℕ
-lines_of_script text = unary_script_of text >>= λ script. Ok (lines_of_value script)
+abbrev pub lines_of_script : LimitsValue → List ℕ → Result (List (List ℕ)) ℕ
+lines_of_script limits text =
+    unary_script_of text >>= λ script. Ok (lines_of_value limits script)
 
 -- lines as they are written, each with a newline at its end
 abbrev pub text_of_lines : List (List ℕ) → List ℕ

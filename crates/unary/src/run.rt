@@ -7,6 +7,7 @@ ghost use Rattle.program_status.specs.Status.{fault_line, status_of};
 ghost use Rattle.program_status.specs.declared.Status.TheVariants.{Failed};
 ghost use Rattle.program_status.specs.declared.Fault.TheVariants.{OutOfMemory};
 ghost use Rattle.script.specs.UnaryShown.{command_value, unary_script_value};
+ghost use Rattle.script.specs.LimitsShown.{limits_value};
 ghost use Rattle.script.specs.UnaryLines.{instance_place, HasGoodInstances};
 ghost use Rattle.unary.specs.Session.{line_of, store_of, stores_after, lines_of_commands, lines_of_value, lines_of_script, text_of_lines};
 ghost use Rattle.unary.specs.Outcome.{IsOutcome};
@@ -14,6 +15,7 @@ ghost use Rattle.unary.specs.Outcome.{IsOutcome};
 use crate::session::{answer, open_all};
 use crate::store::Store;
 use program_status::{Fault, Status, read_all, told};
+use script::Limits;
 use script::unary::{Command, UnaryScript, parse};
 use std::alloc::Global;
 use std::io::{Read, Write};
@@ -62,47 +64,61 @@ fn play<O: Write>(
     Ok(())
 }
 
-/// Carries a script out, and writes what it prints.
-fn perform<O: Write>(alloc: Global, script: &UnaryScript, output: &mut O) -> Result<(), Fault>
+/// Carries a script out, for whose instances these limits were chosen, and writes what it prints.
+fn perform<O: Write>(
+    alloc: Global,
+    limits: Limits,
+    script: &UnaryScript,
+    output: &mut O,
+) -> Result<(), Fault>
     requires instances { HasGoodInstances (unary_script_value script.now).instances }
     requires commands { All (λ command. instance_place
         (command_value command) < vec_len script.now.instances) script.now.commands.items }
     ensures lines { OnOk result (Appends (O.contents output.old) (O.contents output.new)
-        (text_of_lines (lines_of_value (unary_script_value script.now)))) }
+        (text_of_lines
+        (lines_of_value (limits_value limits) (unary_script_value script.now)))) }
     ensures memory { result ≡ Err OutOfMemory →
         (count : ℕ) × Appends (O.contents output.old) (O.contents output.new)
-        (text_of_lines (take count (lines_of_value (unary_script_value script.now)))) }
+        (text_of_lines (take count
+        (lines_of_value (limits_value limits) (unary_script_value script.now)))) }
 {
-    let mut stores = open_all(alloc, &script.instances)?;
+    let mut stores = open_all(alloc, limits, &script.instances)?;
     play(alloc, &mut stores, &script.commands, output)
 }
 
 /// Reads a script, carries it out, and writes what it prints.
-fn run<I: Read, O: Write>(alloc: Global, input: &mut I, output: &mut O) -> Result<(), Status>
+fn run<I: Read, O: Write>(
+    alloc: Global,
+    limits: Limits,
+    input: &mut I,
+    output: &mut O,
+) -> Result<(), Status>
     ensures { IfSome (I.remaining input.old)
-        (λ text. IsOutcome (lines_of_script text) (status_of result) (O.contents output.old)
-        (O.contents output.new)) }
+        (λ text. IsOutcome (lines_of_script (limits_value limits) text) (status_of result)
+        (O.contents output.old) (O.contents output.new)) }
 {
     let text = read_all(alloc, input)?;
     let script = parse(alloc, &text)?;
-    perform(alloc, &script, output)?;
+    perform(alloc, limits, &script, output)?;
     Ok(())
 }
 
-/// Reads a script of calls, carries it out, and writes a line for each command. A fault is told in
-/// one line on `errors`. Where a line is bad, nothing is carried out.
+/// Reads a script of calls, carries it out by instances for which these limits were chosen, and
+/// writes a line for each command. A fault is told in one line on `errors`. Where a line is bad,
+/// nothing is carried out.
 pub fn unary<I: Read, O: Write, E: Write>(
     alloc: Global,
+    limits: Limits,
     input: &mut I,
     output: &mut O,
     errors: &mut E,
 ) -> Status
     ensures outcome { IfSome (I.remaining input.old)
-        (λ text. IsOutcome (lines_of_script text) result (O.contents output.old)
-        (O.contents output.new)) }
+        (λ text. IsOutcome (lines_of_script (limits_value limits) text) result
+        (O.contents output.old) (O.contents output.new)) }
     // Where the line could not be written, the status is `Failed`.
     ensures told { result ≢ Failed →
         Appends (E.contents errors.old) (E.contents errors.new) (fault_line result) }
 {
-    told(run(alloc, input, output), errors)
+    told(run(alloc, limits, input, output), errors)
 }

@@ -3,6 +3,7 @@
 ghost use Rattle.std.specs.Prelude.{◌≡◌, ◌++◌, ◌<◌, ◌≤◌, ◌^◌, ℕ, List, [], ◌∷◌, length, map, OnOk, OnErr, IfOk, IfErr, Ok, Err, Result};
 ghost use Rattle.std.specs.List.{All};
 ghost use Rattle.script.specs.UnaryShown.{instance_value, command_value};
+ghost use Rattle.script.specs.LimitsShown.{limits_value};
 ghost use Rattle.script.specs.UnaryLines.{instance_place};
 ghost use Rattle.rpc.specs.declared.refusal.Refusal.{Refusal};
 ghost use Rattle.unary.specs.Session.{new_store, ok_line, status_line, line_of, store_after, store_of, stores_after};
@@ -12,18 +13,22 @@ use crate::store::Store;
 use cas_service::CallError;
 use rpc::Refusal;
 use script::unary::{Command, Instance};
-use script::write_hex;
+use script::{Limits, write_hex};
 use std::alloc::{AllocError, Global};
 
-/// The instances of a script, with no texts yet.
-pub fn open_all(alloc: Global, instances: &[Instance]) -> Result<Vec<Store>, AllocError>
+/// The instances of a script, for which these limits were chosen, with no texts yet.
+pub fn open_all(
+    alloc: Global,
+    limits: Limits,
+    instances: &[Instance],
+) -> Result<Vec<Store>, AllocError>
     requires { All (λ instance. instance.quota ≤ most_stored_bytes) instances.now }
     ensures { IfOk result (λ stores. stores.items
-        ≡ map new_store (map instance_value instances.now)) }
+        ≡ map (new_store (limits_value limits)) (map instance_value instances.now)) }
 {
     let mut stores = Vec::new(alloc);
     for instance in instances {
-        let store = Store::open(alloc, instance)?;
+        let store = Store::open(alloc, limits, instance)?;
         stores.push(store)?;
     }
     Ok(stores)

@@ -1,6 +1,7 @@
 //! An instance with its texts, as a script fills and asks it.
 
 ghost use Rattle.std.specs.Prelude.{◌≡◌, ◌≤◌, ◌^◌, ℕ, List, [], OnOk, OnErr, IfOk};
+ghost use Rattle.script.specs.LimitsShown.{limits_value};
 ghost use Rattle.script.specs.UnaryShown.{instance_value};
 ghost use Rattle.cas_service.specs.Answers.{Answers, IfAnswered};
 ghost use Rattle.cas_service.specs.Changes.{visible_after_changes};
@@ -16,7 +17,8 @@ use cas_service::{CallError, batch_read, batch_update, find_missing};
 use digest::Digest;
 use instance_view::View;
 use keyed_maps::MapKey;
-use quota_evict::{AdmitError, MOST_BLOBS, admit};
+use quota_evict::{AdmitError, admit};
+use script::Limits;
 use script::unary::{Instance, Method};
 use std::alloc::{AllocError, Global};
 use std::marker::Model;
@@ -40,7 +42,7 @@ pub struct Store {
 
 impl Model for Store {
     ghost use Rattle.std.specs.Prelude.{◌≡◌, ◌≤◌, ◌^◌, [], string_bytes};
-    ghost use Rattle.quota_evict.specs.Within.{most_blobs, most_stored_bytes};
+    ghost use Rattle.quota_evict.specs.Within.{most_stored_bytes};
     ghost use Rattle.instance_view.specs.Shown.{visible_in};
     ghost use Rattle.quota_evict.specs.InPool.{IsViewInPool};
     ghost use Rattle.unary.specs.Session.{StoreValue};
@@ -50,22 +52,24 @@ impl Model for Store {
     ghost view = { λ s. record {
       name = string_bytes s.name;
       quota = s.quota;
+      limit = s.texts.view.limit;
       visible = visible_in s.texts.pool s.texts.view;
     } };
 
     ghost invariant = { λ s. (s.quota ≤ most_stored_bytes)
         × IsViewInPool s.quota s.texts.pool s.texts.view
-        × (s.texts.view.limit ≡ most_blobs) × (s.texts.nobody.entries ≡ []) };
+        × (s.texts.nobody.entries ≡ []) };
 }
 
 impl Store {
-    /// An instance that has no texts yet.
-    pub fn open(alloc: Global, instance: &Instance) -> Result<Store, AllocError>
+    /// An instance for which these limits were chosen, and that has no texts yet.
+    pub fn open(alloc: Global, limits: Limits, instance: &Instance) -> Result<Store, AllocError>
         requires { instance.now.quota ≤ most_stored_bytes }
-        ensures { IfOk result (λ store. store ≡ new_store (instance_value instance.now)) }
+        ensures { IfOk result (λ store.
+            store ≡ new_store (limits_value limits) (instance_value instance.now)) }
     {
         let name = String::from_str(alloc, &instance.name)?;
-        let view = View::new(alloc, MapKey::known(), MOST_BLOBS)?;
+        let view = View::new(alloc, MapKey::known(), limits.blobs() as usize)?;
         let nobody = View::new(alloc, MapKey::known(), 1)?;
         Ok(Store {
             name,
@@ -150,13 +154,15 @@ fn call(
     requires kept { IsViewInPool quota texts.old.pool texts.old.view }
     requires nobody { texts.old.nobody.entries ≡ [] }
     ensures reply { let visible = visible_in texts.old.pool texts.old.view in
-        Answers (λ reply. reply.items) result
-        (reply_from_store method (record { name = own.now; quota = quota; visible = visible })
+        let limit = texts.old.view.limit in
+        Answers (λ reply. reply.items) result (reply_from_store method
+        (record { name = own.now; quota = quota; limit = limit; visible = visible })
         message.now) }
     ensures called { let visible = visible_in texts.old.pool texts.old.view in
+        let limit = texts.old.view.limit in
         IfAnswered result (visible_in texts.new.pool texts.new.view
-        ≡ visible_after_changes texts.old.view.limit quota
-        (changes_by method (record { name = own.now; quota = quota; visible = visible })
+        ≡ visible_after_changes limit quota (changes_by method
+        (record { name = own.now; quota = quota; limit = limit; visible = visible })
         message.now) visible) }
     ensures kept { IsViewInPool quota texts.new.pool texts.new.view }
     ensures limit { texts.new.view.limit ≡ texts.old.view.limit }

@@ -121,6 +121,6 @@ pub trait Host: Drop {
     fn news(&self, nth: usize) -> Option<News>
         ensures { IfSome (learned self.now) (λ all. result ≡ slice_get all nth) };
 
-    /// The milliseconds since the start.
+    /// The microseconds since the start.
     fn passed(&self) -> io::Result<u64>;
 }

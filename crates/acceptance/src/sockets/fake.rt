@@ -197,7 +197,7 @@ impl<'a> Sockets for Fake<'a> {
 
     /// The clock is read in each turn.
     fn passed(&self) -> u64 {
-        self.moment.saturating_add(1)
+        self.moment.saturating_add(1).saturating_mul(1_000)
     }
 
     fn accept(&mut self, socket: Socket) -> io::Result<()> {

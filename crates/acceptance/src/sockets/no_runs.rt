@@ -42,6 +42,10 @@ impl Runs for NoRuns {
         None
     }
 
+    fn next_waits(&self) -> bool {
+        false
+    }
+
     fn ask(
         &mut self,
         _run: RunKey,
@@ -51,7 +55,13 @@ impl Runs for NoRuns {
         Ok(None)
     }
 
-    fn last_words(&self, _run: RunKey, _most: u32) -> io::Result<Vec<u8>> {
+    fn reason(
+        &self,
+        _run: RunKey,
+        _task: Option<LentTask<'_>>,
+        _fault: RunFault,
+        _most: u32,
+    ) -> io::Result<Vec<u8>> {
         Err(io::Error::from(ErrorKind::NotFound))
     }
 

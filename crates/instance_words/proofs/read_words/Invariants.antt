@@ -1,4 +1,5 @@
 use Rattle.std.proofs.Common.{◌≡◌, ◌++◌, ◌+◌, ℕ, List, length, map}
+use Rattle.server_events.specs.LimitsShown.{limits_value}
 use Rattle.server_events.specs.Configs.{ConfigValue}
 use Rattle.server_events.specs.Shown.{config_value}
 use Rattle.instance_words.specs.Words.{AreWordsOf}
@@ -8,8 +9,8 @@ use Rattle.instance_words.proofs.read_words.Given as goal
 abbrev pub invariant-words : goal.invariant-words
 invariant-words l =
     ((ports : List ℕ) (configs : List ConfigValue)
-    → AreWordsOf (map (λ word. word.now) l.left) ports configs
-    → AreWordsOf (map (λ word. word.now) l.words) (l.ports.items ++ ports)
+    → AreWordsOf (limits_value l.limits) (map (λ word. word.now) l.left) ports configs
+    → AreWordsOf (limits_value l.limits) (map (λ word. word.now) l.words) (l.ports.items ++ ports)
     (map config_value l.configs.items ++ configs))
     × (l.place + length l.left ≡ length l.words)
 

@@ -19,7 +19,7 @@ static HELP: [(&str, Wanted); 7] = [
             sends\n  \
             probe   Send a file's bytes to a server, and print the first bytes that come back\n  \
             check   Ask a server on a port what it can do: status 0 where it answers in time, \
-            else 4\n  \
+            else 4; or tell a server's figures in words\n  \
             serve   Serve instances on ports of this host\n  \
             help    Print this message or the help of the given subcommand(s)\n\n\
             Options:\n  \
@@ -48,14 +48,26 @@ static HELP: [(&str, Wanted); 7] = [
         Ends(
             0,
             "Carry out a script of calls on instances of its own, without connections\n\n\
-            Usage: remoted unary <FILE>\n\n\
+            Usage: remoted unary [OPTIONS] <FILE>\n\n\
             Arguments:\n  \
             <FILE>  The script: lines `instance NAME QUOTA`, `put NAME HEX` and `call NAME \
             METHOD HEX`\n\n\
-            Options:\n  \
-            -h, --help  Print help\n\n\
-            QUOTA is in bytes, 0 to 1099511627776, in digits alone. HEX is bytes, two digits \
-            for each.\n\n\
+            Options:\n      \
+            --blobs <N>         How many blobs each instance stores at most, 1 to 2147483648. \
+            Each that is there takes some 570 bytes of memory beside its own [default: 65536]\n      \
+            --results <N>       How many results of actions each instance keeps at most, 0 to \
+            2147483648. Each that is there takes some 250 bytes of memory beside its own \
+            [default: 10000]\n      \
+            --result-bytes <N>  How many bytes the results of each instance have together at \
+            most, 4M to 2G. They count in no quota [default: 67108864]\n      \
+            --window <N>        How many bytes a client may send of a call, and on a connection, \
+            before the server has read them, 65535 to 2147483647. An upload brings so many in a \
+            round trip at most. It takes no memory by itself [default: 65535]\n  \
+            -h, --help              Print help\n\n\
+            QUOTA is in bytes, 0 to 1099511627776, in digits alone. HEX is bytes, two digits for \
+            each.\n\
+            --blobs holds for each instance; the other three numbers have no effect on these \
+            calls.\n\n\
             Statuses:\n  \
             0  done\n  \
             1  FILE cannot be read, or standard output cannot be written\n  \
@@ -63,9 +75,7 @@ static HELP: [(&str, Wanted); 7] = [
             5  out of memory: what was printed stands\n\n\
             Examples:\n  \
             remoted unary calls.txt\n  \
-            printf 'instance a 100\\n\
-            put a 616263\\n\
-            ' | remoted\n",
+            printf 'instance a 100\\nput a 616263\\n' | remoted\n",
         ),
     ),
     (
@@ -73,14 +83,26 @@ static HELP: [(&str, Wanted); 7] = [
         Ends(
             0,
             "Carry out a script of events on a server of its own, and print what it sends\n\n\
-            Usage: remoted replay <FILE>\n\n\
+            Usage: remoted replay [OPTIONS] <FILE>\n\n\
             Arguments:\n  \
             <FILE>  The script: lines `instance NAME QUOTA SLOTS [PARENT]`, and then one line \
             for each event\n\n\
-            Options:\n  \
-            -h, --help  Print help\n\n\
+            Options:\n      \
+            --blobs <N>         How many blobs each instance stores at most, 1 to 2147483648. \
+            Each that is there takes some 570 bytes of memory beside its own [default: 65536]\n      \
+            --results <N>       How many results of actions each instance keeps at most, 0 to \
+            2147483648. Each that is there takes some 250 bytes of memory beside its own \
+            [default: 10000]\n      \
+            --result-bytes <N>  How many bytes the results of each instance have together at \
+            most, 4M to 2G. They count in no quota [default: 67108864]\n      \
+            --window <N>        How many bytes a client may send of a call, and on a connection, \
+            before the server has read them, 65535 to 2147483647. An upload brings so many in a \
+            round trip at most. It takes no memory by itself [default: 65535]\n  \
+            -h, --help              Print help\n\n\
             QUOTA is in bytes, 0 to 1099511627776, in digits alone; SLOTS is 0 to 64. Moments \
-            are in milliseconds.\n\n\
+            are in milliseconds.\n\
+            --blobs, --results, --result-bytes and --window hold for each instance, as for \
+            serve.\n\n\
             Statuses:\n  \
             0  done\n  \
             1  FILE cannot be read, or standard output cannot be written\n  \
@@ -103,14 +125,14 @@ static HELP: [(&str, Wanted); 7] = [
             --turns <T>    How many turns to take at most: in each it tries once to send and to \
             read [default: 1000000000]\n  \
             -h, --help         Print help\n\n\
-            The server is one of this host, 127.0.0.1. The bytes are printed in hexadecimal, \
-            two digits for each.\n\n\
+            The server is one of this host, 127.0.0.1. The bytes are printed in hexadecimal, two \
+            digits for each.\n\n\
             Statuses:\n  \
             0  all N bytes came\n  \
             1  FILE cannot be read, or there is no connection\n  \
             2  the command line is wrong\n  \
-            4  `N bytes came`: fewer than were wanted, until the server closed or the turns \
-            were over\n  \
+            4  `N bytes came`: fewer than were wanted, until the server closed or the turns were \
+            over\n  \
             5  out of memory\n\n\
             Examples:\n  \
             remoted probe --port 8980 --send greeting.bin --want 15\n  \
@@ -121,25 +143,33 @@ static HELP: [(&str, Wanted); 7] = [
         "remoted check --help",
         Ends(
             0,
-            "Ask a server on a port what it can do: status 0 where it answers in time, else 4\n\n\
-            Usage: remoted check [OPTIONS] --port <P>\n\n\
+            "Ask a server on a port what it can do: status 0 where it answers in time, else 4; or \
+            tell a server's figures in words\n\n\
+            Usage: remoted check [OPTIONS]\n\n\
             Options:\n      \
-            --port <P>         The port to connect to\n      \
+            --port <P>         The port of the server that is asked\n      \
             --host <ADDRESS>   The address of the server, IPv4 or IPv6 [default: 127.0.0.1]\n      \
-            --instance <NAME>  The instance that is asked; that of the port if none is named\n      \
+            --instance <NAME>  The instance that is asked, or whose figures are told; that of \
+            the port, or each, if none is named\n      \
             --seconds <N>      For how many seconds the answer is waited for, 1 to 3600 \
-            [default: 5]\n  \
+            [default: 5]\n      \
+            --metrics <FILE>   The file of a server's figures that is told in words, in place of \
+            asking the server\n  \
             -h, --help             Print help\n\n\
-            It connects and calls GetCapabilities, which changes nothing.\n\n\
+            With --port it connects and calls GetCapabilities, which changes nothing. With \
+            --metrics it reads the file that the server writes (serve --metrics FILE), and asks \
+            nobody.\n\n\
             Statuses:\n  \
-            0  it answers\n  \
-            1  standard output cannot be written\n  \
+            0  it answers, or its figures are told\n  \
+            1  FILE cannot be read, or standard output cannot be written\n  \
             2  the command line is wrong\n  \
-            4  it does not answer, not in time, or refuses; standard error says which\n  \
+            4  it does not answer, not in time, or refuses, or FILE has no such instance; \
+            standard error says which\n  \
             5  out of memory\n\n\
             Examples:\n  \
             remoted check --port 8980\n  \
-            remoted check --host 10.0.0.7 --port 8980 --instance red --seconds 2\n",
+            remoted check --host 10.0.0.7 --port 8980 --instance red --seconds 2\n  \
+            remoted check --metrics /run/figures --instance red\n",
         ),
     ),
     (
@@ -163,8 +193,22 @@ static HELP: [(&str, Wanted); 7] = [
             slots, run programs [default: 127.0.0.1]\n      \
             --metrics <FILE>      The file to which the server's figures are written every 10 \
             seconds, for Prometheus\n      \
-            --stop <FILE>         The file that ends the server once it is there; it must not \
-            be there at the start\n  \
+            --stop <FILE>         The file that ends the server once it is there; it must not be \
+            there at the start\n      \
+            --end <FILE>          The file whose lines end jobs, NAME, NAME HASH or NAME \
+            abandoned; it is read and removed\n      \
+            --links <HOW>         What becomes of symbolic links in output directories: \
+            leave-out, or fail to have the action fail; leave-out if not given\n      \
+            --blobs <N>           How many blobs each instance stores at most, 1 to 2147483648. \
+            Each that is there takes some 570 bytes of memory beside its own [default: 65536]\n      \
+            --results <N>         How many results of actions each instance keeps at most, 0 to \
+            2147483648. Each that is there takes some 250 bytes of memory beside its own \
+            [default: 10000]\n      \
+            --result-bytes <N>    How many bytes the results of each instance have together at \
+            most, 4M to 2G. They count in no quota [default: 67108864]\n      \
+            --window <N>          How many bytes a client may send of a call, and on a \
+            connection, before the server has read them, 65535 to 2147483647. An upload brings \
+            so many in a round trip at most. It takes no memory by itself [default: 65535]\n  \
             -h, --help                Print help\n\n\
             An instance, NAME:PORT:QUOTA:SLOTS or NAME:PORT:QUOTA:SLOTS:PARENT:\n  \
             NAME    1 to 64 of a-z, 0-9 and -, each once\n  \
@@ -174,6 +218,12 @@ static HELP: [(&str, Wanted); 7] = [
             SLOTS   the most actions that it runs at a time, 0 to 64; with 0 it is a cache \
             alone\n  \
             PARENT  the name of an instance whose blobs it reads, too\n\n\
+            Numbers for all instances, where a build is larger than the usual ones:\n  \
+            --blobs         some 570 bytes of memory for each blob that is there\n  \
+            --results       some 250 bytes for each result that is there\n  \
+            --result-bytes  as many bytes as results have; they count in no quota\n  \
+            --window        nothing by itself: an upload has at most so many bytes on its way\n\
+            None of them takes memory before something is there.\n\n\
             Statuses:\n  \
             0  it has served: for its turns, or until the file of --stop was there\n  \
             1  it cannot begin: a port is taken, or DIR, PROGRAM or a limit of the host is in \
@@ -187,9 +237,16 @@ static HELP: [(&str, Wanted); 7] = [
             remoted serve --work /var/lib/remoted --turns endless --metrics /run/figures --stop \
             /run/end \\\n      \
             red:8980:8589934592:0\n  \
+            with a file that ends jobs (echo red >/run/x && mv /run/x /run/jobs):\n    \
+            remoted serve --work /var/lib/remoted --turns endless --end /run/jobs \
+            red:8980:8589934592:4\n  \
             a cache that CI fills, and a team's that reads it and runs up to 4 actions:\n    \
             remoted serve --work /var/lib/remoted --turns endless ci:8980:8589934592:0 \
-            red:8981:2147483648:4:ci\n",
+            red:8981:2147483648:4:ci\n  \
+            for builds of up to 30,000 actions, over a network:\n    \
+            remoted serve --work /var/lib/remoted --turns endless --blobs 500000 --results \
+            100000 \\\n      \
+            --result-bytes 512M --window 4M red:8980:17179869184:0\n",
         ),
     ),
 ];

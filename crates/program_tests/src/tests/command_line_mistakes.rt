@@ -4,7 +4,7 @@ use crate::tests::cases::all_hold;
 use crate::tests::command_lines::Wanted::{self, Ends};
 use std::test::*;
 
-static MISTAKES: [(&str, Wanted); 29] = [
+static MISTAKES: [(&str, Wanted); 35] = [
     (
         "remoted unary",
         Ends(
@@ -20,7 +20,7 @@ static MISTAKES: [(&str, Wanted); 29] = [
         Ends(
             2,
             "error: unexpected argument 'two' found\n\n\
-            Usage: remoted unary <FILE>\n\n\
+            Usage: remoted unary [OPTIONS] <FILE>\n\n\
             For more information, try '--help'.\n",
         ),
     ),
@@ -190,6 +190,14 @@ static MISTAKES: [(&str, Wanted); 29] = [
         ),
     ),
     (
+        "remoted serve --work here --end= a:1:2:3",
+        Ends(
+            2,
+            "error: a value is required for '--end <FILE>' but none was supplied\n\n\
+            For more information, try '--help'.\n",
+        ),
+    ),
+    (
         "remoted serve --work here --stop= a:1:2:3",
         Ends(
             2,
@@ -226,9 +234,53 @@ static MISTAKES: [(&str, Wanted); 29] = [
         "remoted check",
         Ends(
             2,
-            "error: the following required arguments were not provided:\n  \
-            --port <P>\n\n\
-            Usage: remoted check --port <P>\n\n\
+            "error: either --port is given, or --metrics\n\n\
+            Usage: remoted [COMMAND]\n\n\
+            For more information, try '--help'.\n",
+        ),
+    ),
+    (
+        "remoted check --port 1 --metrics out",
+        Ends(
+            2,
+            "error: either --port is given, or --metrics\n\n\
+            Usage: remoted [COMMAND]\n\n\
+            For more information, try '--help'.\n",
+        ),
+    ),
+    (
+        "remoted serve --work here --blobs 0 a:1:2:3",
+        Ends(
+            2,
+            "error: invalid value '0' for '--blobs <N>': 0 is not in 1..=2147483648\n\n\
+            For more information, try '--help'.\n",
+        ),
+    ),
+    (
+        "remoted replay --results 2147483649 in.txt",
+        Ends(
+            2,
+            "error: invalid value '2147483649' for '--results <N>': 2147483649 is not in \
+            0..=2147483648\n\n\
+            For more information, try '--help'.\n",
+        ),
+    ),
+    (
+        "remoted serve --work here --result-bytes 4095K a:1:2:3",
+        Ends(
+            2,
+            "error: --result-bytes is not a number of bytes from 4194304 to 2147483648, as 64M or \
+            2G\n\n\
+            Usage: remoted [COMMAND]\n\n\
+            For more information, try '--help'.\n",
+        ),
+    ),
+    (
+        "remoted unary --window 2G in.txt",
+        Ends(
+            2,
+            "error: --window is not a number of bytes from 65535 to 2147483647, as 64K or 4M\n\n\
+            Usage: remoted [COMMAND]\n\n\
             For more information, try '--help'.\n",
         ),
     ),

@@ -1,11 +1,11 @@
 //! What command lines ask for.
 
 use crate::tests::cases::all_hold;
-use crate::tests::command_lines::Task;
 use crate::tests::command_lines::Wanted::{self, Asks};
+use crate::tests::command_lines::{Numbers, Task};
 use std::test::*;
 
-static TASKS: [(&str, Wanted); 15] = [
+static TASKS: [(&str, Wanted); 18] = [
     (
         "remoted",
         Asks(Task {
@@ -92,7 +92,7 @@ static TASKS: [(&str, Wanted); 15] = [
             kind: "serve",
             file: Some("here"),
             numbers: (1000000000, 0, 0),
-            others: &["127.0.0.1", "", ""],
+            others: &["127.0.0.1", "", "", "", ""],
             instances: &["a:1:2:3"],
         }),
     ),
@@ -102,7 +102,7 @@ static TASKS: [(&str, Wanted); 15] = [
             kind: "serve",
             file: Some("here"),
             numbers: (5, 0, 0),
-            others: &["127.0.0.1", "", ""],
+            others: &["127.0.0.1", "", "", "", ""],
             instances: &["a:1:2:3", "b:4:5:6", "no-instance"],
         }),
     ),
@@ -112,7 +112,7 @@ static TASKS: [(&str, Wanted); 15] = [
             kind: "bin/sandbox",
             file: Some("here"),
             numbers: (1000000000, 0, 0),
-            others: &["127.0.0.1", "", ""],
+            others: &["127.0.0.1", "", "", "", ""],
             instances: &["a:1:2:3"],
         }),
     ),
@@ -122,7 +122,7 @@ static TASKS: [(&str, Wanted); 15] = [
             kind: "serve",
             file: Some("here"),
             numbers: (18446744073709551615, 0, 0),
-            others: &["127.0.0.1", "", ""],
+            others: &["127.0.0.1", "", "", "", ""],
             instances: &["a:1:2:3"],
         }),
     ),
@@ -132,7 +132,17 @@ static TASKS: [(&str, Wanted); 15] = [
             kind: "serve",
             file: Some("here"),
             numbers: (9223372036854775807, 0, 0),
-            others: &["::1", "out", "end"],
+            others: &["::1", "out", "end", "", ""],
+            instances: &["a:1:2:3"],
+        }),
+    ),
+    (
+        "remoted serve --work here --links fail --end jobs a:1:2:3",
+        Asks(Task {
+            kind: "serve",
+            file: Some("here"),
+            numbers: (1000000000, 0, 0),
+            others: &["127.0.0.1", "", "", "jobs", "fail"],
             instances: &["a:1:2:3"],
         }),
     ),
@@ -156,7 +166,60 @@ static TASKS: [(&str, Wanted); 15] = [
             instances: &[],
         }),
     ),
+    (
+        "remoted check --metrics out --instance a",
+        Asks(Task {
+            kind: "figures",
+            file: Some("out"),
+            numbers: (0, 0, 0),
+            others: &["a"],
+            instances: &[],
+        }),
+    ),
+    (
+        "remoted check --metrics out",
+        Asks(Task {
+            kind: "figures",
+            file: Some("out"),
+            numbers: (0, 0, 0),
+            others: &[""],
+            instances: &[],
+        }),
+    ),
 ];
+
+static NUMBERS: [(&str, Numbers); 7] = [
+    ("remoted", Numbers(65536, 10000, 67108864, 65535)),
+    (
+        "remoted serve --work here a:1:2:3",
+        Numbers(65536, 10000, 67108864, 65535),
+    ),
+    (
+        "remoted replay --results 0 in.txt",
+        Numbers(65536, 0, 67108864, 65535),
+    ),
+    (
+        "remoted unary --blobs 1 in.txt",
+        Numbers(1, 10000, 67108864, 65535),
+    ),
+    (
+        "remoted serve --work here --blobs 2147483648 --results 2147483648 --result-bytes 2G --window 2147483647 a:1:2:3",
+        Numbers(2147483648, 2147483648, 2147483648, 2147483647),
+    ),
+    (
+        "remoted serve --work here --result-bytes 4M --window 64K a:1:2:3",
+        Numbers(65536, 10000, 4194304, 65536),
+    ),
+    (
+        "remoted replay --window 65535 --blobs 7 --result-bytes 5000000 --results 3 in.txt",
+        Numbers(7, 3, 5000000, 65535),
+    ),
+];
+
+#[test]
+fn numbers_of_instances(rt: HostRuntime) {
+    all_hold(&rt, &rt, &NUMBERS);
+}
 
 #[test]
 fn invocations(rt: HostRuntime) {

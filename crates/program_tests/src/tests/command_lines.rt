@@ -3,6 +3,7 @@
 use crate::tests::cases::Case;
 use crate::tests::command_lines::Wanted::{Asks, Ends};
 use command_line::*;
+use instance_limits::Limits;
 use std::alloc::{AllocError, Global};
 use std::fmt::Display;
 use std::test::*;
@@ -30,8 +31,9 @@ pub struct Task {
     /// The port, the count and the turns of a probe, the turns of serving, or the port and the
     /// seconds of a check; zeros for the rest.
     pub numbers: (u64, u64, u64),
-    /// The address, the file of the figures and the file that ends a server, or the address and the
-    /// instance of a check; an empty text where there is none.
+    /// The address, the file of the figures, the one that ends a server, the one that ends jobs, and
+    /// what becomes of links; or the address and the instance of a check; an empty text where there
+    /// is none.
     pub others: &'static [&'static str],
     pub instances: &'static [&'static str],
 }
@@ -52,6 +54,8 @@ impl Task {
             service.listen,
             service.metrics.unwrap_or(""),
             service.stop.unwrap_or(""),
+            service.end.unwrap_or(""),
+            service.links.unwrap_or(""),
         ];
         let kind = service.launcher.unwrap_or("serve");
         self.is(kind, Some(service.work), (service.turns, 0, 0), &others)
@@ -66,8 +70,8 @@ impl Task {
 
     fn is_invocation(&self, invocation: &Invocation<'_>) -> bool {
         match invocation {
-            Invocation::Unary { file } => self.is("unary", *file, (0, 0, 0), &[]),
-            Invocation::Replay { file } => self.is("replay", Some(*file), (0, 0, 0), &[]),
+            Invocation::Unary { file, .. } => self.is("unary", *file, (0, 0, 0), &[]),
+            Invocation::Replay { file, .. } => self.is("replay", Some(*file), (0, 0, 0), &[]),
             Invocation::Probe {
                 port,
                 send,
@@ -76,6 +80,41 @@ impl Task {
             } => self.is("probe", Some(*send), (u64::from(*port), *want, *turns), &[]),
             Invocation::Serve(service) => self.is_service(service),
             Invocation::Check(question) => self.is_check(*question),
+            Invocation::Figures { metrics, instance } => {
+                let others = [instance.unwrap_or("")];
+                self.is("figures", Some(*metrics), (0, 0, 0), &others)
+            }
+        }
+    }
+}
+
+/// The numbers that a command line chooses for instances: blobs, results, bytes of these, and the
+/// window.
+pub struct Numbers(pub u64, pub u64, pub u64, pub u32);
+
+impl Numbers {
+    fn are(&self, limits: &Limits) -> bool {
+        let Numbers(blobs, results, bytes, window) = self;
+        limits.blobs() == *blobs
+            && limits.results() == *results
+            && limits.result_bytes() == *bytes
+            && limits.window() == *window
+    }
+}
+
+impl Case for Numbers {
+    fn holds(&self, host: &HostRuntime, line: &str) -> bool {
+        let alloc = host.alloc();
+        let mut words = Vec::new(alloc);
+        if add_words(alloc, &mut words, line).is_err() {
+            return false;
+        }
+        match parse(alloc, &words) {
+            Ok(Invocation::Unary { limits, .. } | Invocation::Replay { limits, .. }) => {
+                self.are(&limits)
+            }
+            Ok(Invocation::Serve(service)) => self.are(&service.limits),
+            _ => false,
         }
     }
 }

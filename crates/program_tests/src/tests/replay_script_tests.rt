@@ -2,7 +2,7 @@
 
 use digest::Digest;
 use script::replay::*;
-use server_events::{Content, Event, Outcome, Output, OutputKind, What};
+use server_events::{Content, Event, Limits, Outcome, Output, OutputKind, What};
 use std::alloc::Global;
 use std::test::*;
 
@@ -78,7 +78,7 @@ fn reads_outcomes(alloc: Global, events: &mut EventReader) -> bool {
 }
 
 fn is_read(alloc: Global) -> bool {
-    match parse(alloc, SCRIPT) {
+    match parse(alloc, Limits::usual(), SCRIPT) {
         Ok(script) => {
             let mut events = script.events;
             reads_outcomes(alloc, &mut events)

@@ -5,7 +5,7 @@ use keyed_maps::MapKey;
 use script::replay::parse;
 use served_instance::EventRefusal;
 use server_core::*;
-use server_events::{Configs, Event, What};
+use server_events::{Configs, Event, Limits, What};
 use std::alloc::{AllocError, Global};
 use std::test::*;
 
@@ -82,7 +82,7 @@ fn is_apart(server: &Server) -> bool {
 const INSTANCES: &[u8] = b"instance a 1000 0\ninstance b 1000 0\n";
 
 fn configs(alloc: Global) -> Option<Configs> {
-    Configs::new(parse(alloc, INSTANCES).ok()?.configs).ok()
+    Configs::new(parse(alloc, Limits::usual(), INSTANCES).ok()?.configs).ok()
 }
 
 fn is_served(alloc: Global, configs: &Configs) -> bool {

@@ -18,6 +18,7 @@ fn config(alloc: Global, wanted: &Wanted) -> Result<InstanceConfig, AllocError> 
         name: String::from_str(alloc, name)?,
         quota,
         slots,
+        limits: Limits::usual(),
         parent,
     })
 }
@@ -126,6 +127,7 @@ fn add_numbered(alloc: Global, instances: &mut Instances) -> Result<(), AllocErr
             name: number.to_string(alloc)?,
             quota: 1,
             slots: 1,
+            limits: Limits::usual(),
             parent: None,
         })?;
     }

@@ -2,6 +2,7 @@
 
 use crate::tests::cases::{Case, all_hold};
 use program_status::Status;
+use server_events::Limits;
 use std::alloc::Global;
 use std::io;
 use std::test::*;
@@ -12,7 +13,7 @@ fn prints(alloc: Global, script: &[u8], printed: &[u8]) -> bool {
     let mut input = script;
     let mut written = Vec::new(alloc);
     let mut told = Vec::new(alloc);
-    let ended = unary(alloc, &mut input, &mut written, &mut told);
+    let ended = unary(alloc, Limits::usual(), &mut input, &mut written, &mut told);
     ended == Status::Done && written.as_slice() == printed && told.is_empty()
 }
 
@@ -97,7 +98,8 @@ const FAILURE: &[u8] = b"remoted: input or output failed\n";
 /// Whether a run fails, and tells so.
 fn tells_failure<I: io::Read, O: io::Write>(alloc: Global, input: &mut I, output: &mut O) -> bool {
     let mut told = Vec::new(alloc);
-    unary(alloc, input, output, &mut told) == Status::Failed && told.as_slice() == FAILURE
+    unary(alloc, Limits::usual(), input, output, &mut told) == Status::Failed
+        && told.as_slice() == FAILURE
 }
 
 fn tells_of_a_broken_reader(alloc: Global) -> bool {
@@ -113,7 +115,7 @@ fn tells_of_a_broken_writer(alloc: Global) -> bool {
 fn fails_where_nothing_can_be_told(alloc: Global) -> bool {
     let mut bad = b"frob\n".as_slice();
     let mut written = Vec::new(alloc);
-    unary(alloc, &mut bad, &mut written, &mut Broken) == Status::Failed
+    unary(alloc, Limits::usual(), &mut bad, &mut written, &mut Broken) == Status::Failed
 }
 
 fn tells_of_broken_streams(alloc: Global) -> bool {

@@ -262,7 +262,7 @@ fn goes(connection: &mut Connection, all: &mut Vec<u8>, scenario: Scenario) -> b
 /// Whether a new connection goes through that as it should.
 fn passes(alloc: Global, scenario: Scenario) -> bool {
     let mut all = Vec::new(alloc);
-    match Connection::new(alloc) {
+    match Connection::new(alloc, 65_535) {
         Ok(mut connection) => goes(&mut connection, &mut all, scenario),
         Err(_) => false,
     }

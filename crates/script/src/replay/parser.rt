@@ -1,6 +1,7 @@
 //! A text as a script.
 ghost use Rattle.std.specs.Prelude.{◌≡◌, ◌≤◌, ◌+◌, length, map, Some, None, Ok, Err, IfOk, IfErr, OnOk, option_map, option_and_then, string_bytes};
 ghost use Rattle.server_events.specs.Configs.{config_fault};
+ghost use Rattle.server_events.specs.LimitsShown.{limits_value};
 ghost use Rattle.server_events.specs.Shown.{config_value};
 ghost use Rattle.script.specs.ReplayHead.{after_head_line};
 ghost use Rattle.script.specs.ReplayScript.{replay_script_of, config_if_good, config_of, may_build, may_follow};
@@ -13,7 +14,7 @@ use crate::replay::event::read_event;
 use crate::replay::instance::{InstanceForm, first_is_root, forms_of_text, instance_form};
 use crate::replay::reader::EventReader;
 use crate::{Parts, words};
-use server_events::{INSTANCE_LIMIT, InstanceConfig, own_fault};
+use server_events::{INSTANCE_LIMIT, InstanceConfig, Limits, own_fault};
 use std::alloc::{AllocError, Global};
 use std::str;
 
@@ -25,14 +26,15 @@ pub struct ReplayScript<'a> {
     pub events: EventReader<'a>,
 }
 
-/// The script that a text writes, or the number of its first bad line: one that has no form,
+/// The script that a text writes, where these limits were chosen for all instances, or the number of
+/// its first bad line: one that has no form,
 /// configures an instance after an event, or configures an instance that may not follow those
 /// before it or may not build on its parent. A parent is another instance, of any line, of a later
 /// one too: the first of its name, which builds on none.
-pub fn parse(alloc: Global, text: &[u8]) -> Result<ReplayScript<'_>, ScriptFault>
+pub fn parse(alloc: Global, limits: Limits, text: &[u8]) -> Result<ReplayScript<'_>, ScriptFault>
     ensures script { IfOk result (λ script.
-        replay_script_of text.now ≡ Ok (replay_script_value script)) }
-    ensures bad_line { IfErr result (IsFaultOf (replay_script_of text.now)) }
+        replay_script_of (limits_value limits) text.now ≡ Ok (replay_script_value script)) }
+    ensures bad_line { IfErr result (IsFaultOf (replay_script_of (limits_value limits) text.now)) }
 
     // A server may have the instances.
     ensures configs { IfOk result (λ script. config_fault (map config_value script.configs.items)
@@ -41,7 +43,8 @@ pub fn parse(alloc: Global, text: &[u8]) -> Result<ReplayScript<'_>, ScriptFault
     ensures few { IfOk result (λ script. length script.events ≤ length text.now + 1) }
 {
     let mut head = ReplayHead {
-        forms: forms_of_text(alloc, text)?,
+        limits,
+        forms: forms_of_text(alloc, limits, text)?,
         configs: Vec::new(alloc),
         has_events: false,
     };
@@ -52,10 +55,11 @@ pub fn parse(alloc: Global, text: &[u8]) -> Result<ReplayScript<'_>, ScriptFault
     })
 }
 
-// The instances of all lines, those of the lines so far, and whether there was an event among the
-// latter.
+// What was chosen for the instances, those of all lines, those of the lines so far, and whether there
+// was an event among the latter.
 #[derive(Drop)]
 pub(crate) struct ReplayHead<'a> {
+    pub(crate) limits: Limits,
     pub(crate) forms: Vec<InstanceForm<'a>>,
     pub(crate) configs: Vec<InstanceConfig>,
     pub(crate) has_events: bool,
@@ -109,12 +113,12 @@ fn read_config(
 ) -> Result<InstanceConfig, LineFault>
     ensures read { IfOk result (λ config. option_and_then
         (config_if_good (head_value head.now).all (head_value head.now).configs)
-        (config_of words.entry) ≡ Some (config_value config)) }
+        (config_of (limits_value head.now.limits) words.entry) ≡ Some (config_value config)) }
     ensures bad { result ≡ Err LineFault.Bad → option_and_then
         (config_if_good (head_value head.now).all (head_value head.now).configs)
-        (config_of words.entry) ≡ None }
+        (config_of (limits_value head.now.limits) words.entry) ≡ None }
 {
-    match instance_form(words) {
+    match instance_form(head.limits, words) {
         None => Err(LineFault::Bad),
         Some(form) => config_if_good(alloc, &head.forms, &head.configs, form),
     }
@@ -138,6 +142,7 @@ fn config_if_good(
         name: String::from_str(alloc, name)?,
         quota: form.quota,
         slots: form.slots,
+        limits: form.limits,
         parent: owned(alloc, form.parent)?,
     };
     if may_follow(before, &config) && may_build(forms, &config) {

@@ -1,5 +1,6 @@
 use Rattle.std.proofs.Common.{ℕ, List, map, subst, ◌∙◌, Vec, Global}
 use Rattle.std.specs.Prelude.{option_map}
+use Rattle.instance_limits.specs.Shown.{limits_value}
 use Rattle.instance_view.specs.Shown.{visible_in}
 use Rattle.quota_evict.specs.Within.{AreBlobsWithin}
 use Rattle.outcomes.specs.Completing.{blob_shown}
@@ -40,5 +41,5 @@ returns-clause-within c =
       limit = limit;
       texts = subst (λ (n : ℕ). AreBlobsWithin n c.args.settings.now.quota (visible_in c.admit_blobs.new.pool view)) limit c.admit_blobs.ensures.kept.within;
       uploads = kept.uploads;
-      results = results_kept c.store.result c.args.action.now (option_map text_of c.args.stored) c.args.contents.now.results c.store.new.results c.store.ensures.stored c.store.ensures.err kept.results;
+      results = results_kept (limits_value c.args.settings.now.limits) c.store.result c.args.action.now (option_map text_of c.args.stored) c.args.contents.now.results c.store.new.results c.store.ensures.stored c.store.ensures.err kept.results;
     }

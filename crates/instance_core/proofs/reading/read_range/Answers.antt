@@ -1,9 +1,10 @@
+use Rattle.std.proofs.Common.{arith}
 use Rattle.instance_core.proofs.Ranges.{room_kept}
 use Rattle.instance_core.proofs.Carrying.{carries_range}
 use Rattle.instance_core.proofs.reading.read_range.Goals as goal
 
 pub read-outcome-requires-clause-room : goal.read-outcome-requires-clause-room
-read-outcome-requires-clause-room c = room_kept c.args.settings.now.quota c.args.pool.now c.args.contents.now.view c.requires.kept.kept c.requires.kept.limit
+read-outcome-requires-clause-room c = room_kept c.args.settings.now.quota c.args.pool.now c.args.contents.now.view c.requires.kept.kept (omega (arith, c.requires.kept.limit, c.args.settings.now.limits.few_blobs))
 
 pub returns : goal.returns
 returns c = record {

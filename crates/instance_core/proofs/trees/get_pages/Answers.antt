@@ -5,7 +5,7 @@ use Rattle.cas_service.specs.Answers.{IfAnswered}
 use Rattle.cas_service.specs.Changes.{visible_after_changes, MadeInPart}
 use Rattle.tree_calls.specs.GetTree.{get_tree_replies, get_tree_changes}
 use Rattle.rpc.specs.declared.method.Method.TheVariants.{GetTree}
-use Rattle.instance_core.specs.State.{most_blobs}
+use Rattle.instance_limits.specs.Shown.{limits_value}
 use Rattle.instance_core.specs.Replies.{messages}
 use Rattle.instance_core.specs.declared.answer.Answer.TheVariants.{Messages}
 use Rattle.instance_core.specs.Carries.{shaped, answer_holders}
@@ -32,8 +32,8 @@ returns c = record {
       (λ calls. answers_shaped pages_said Messages messages p outcome.result (get_tree_replies own seen c.args.message.now) (λ x. refl) replies)
       (λ calls. refl)
       (subst (λ (n : ℕ). IfAnswered outcome.result (visible_in p view ≡ visible_after_changes n settings.quota cs (visible_in p old.view))) c.requires.kept.limit used)
-      (if_no_memory outcome.result (view ≡ old.view) (MadeInPart most_blobs settings.quota cs (visible_in p old.view) (visible_in p view))
-      (λ is. none_made most_blobs settings.quota cs (visible_in p old.view) (visible_in p view) (ap (visible_in p) is)) outcome.ensures.err)
+      (if_no_memory outcome.result (view ≡ old.view) (MadeInPart (limits_value settings.limits).blobs settings.quota cs (visible_in p old.view) (visible_in p view))
+      (λ is. none_made (limits_value settings.limits).blobs settings.quota cs (visible_in p old.view) (visible_in p view) (ap (visible_in p) is)) outcome.ensures.err)
       (still p old.view view (answer_holders (shaped Messages outcome.result)) outcome.ensures.holders (message_holds Messages (λ x k. refl) outcome.result))
       (kept_within settings p old p view c.requires.kept outcome.ensures.limit (outcome.ensures.kept p settings.quota c.requires.kept.kept)));
 }

@@ -1,9 +1,10 @@
+use Rattle.server_events.specs.LimitsShown.{limits_value}
 use Rattle.replay.specs.Printed.{text_printed_by}
 use Rattle.replay.proofs.Told.{outcome_told}
 use Rattle.replay.proofs.run.replay.Goals as goal
 
 pub returns-clause-outcome : goal.returns-clause-outcome
-returns-clause-outcome g c = outcome_told _ text_printed_by _ _ _ _ c.told.ensures.status c.perform.ensures
+returns-clause-outcome g c = outcome_told _ (text_printed_by (limits_value c.args.limits)) _ _ _ _ c.told.ensures.status c.perform.ensures
 
 pub returns-clause-told : goal.returns-clause-told
 returns-clause-told g c = c.told.ensures.told

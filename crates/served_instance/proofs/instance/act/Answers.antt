@@ -10,6 +10,7 @@ use Rattle.server_events.specs.Events.{WhatValue, opened, received, took, closed
 use Rattle.server_events.specs.Shown.{what_value}
 use Rattle.served_instance.specs.declared.open_connection.OpenConnection.{OpenConnection}
 use Rattle.instance_core.specs.Slots.{state_beside}
+use Rattle.instance_core.specs.State.{LimitsValue}
 use Rattle.instance_core.specs.InstanceViewShown.{visible_in}
 use Rattle.blob_pool.specs.Slots.{text_at}
 use Rattle.served_instance.specs.Acts.{ActsIn, present_at, slots_of}
@@ -42,7 +43,7 @@ returns-in_ok-open-in-Open-clause-acted c =
     let ns = c.open.new.connections.items in
     let done : Result (Unit {0}) AllocError = Ok tt in
     rest_between done parent p p i i os os ns ns (what_value c.args.what) (opened c.in-Open.number) refl refl (ap what_value c.in-Open.is)
-    (λ l rest st. c.in_ok-open-in-Open.ensures.opened (state_beside p parent i) (text_at p) l st)
+    (λ l rest st. c.in_ok-open-in-Open.ensures.opened (state_beside p parent i) (ap (λ (limits : LimitsValue). limits.window) (sym c.limits.ensures) ∙ sym c.window.ensures) (text_at p) l st)
 
 pub returns-in_ok-open-in-Open-clause-orders : goal.returns-in_ok-open-in-Open-clause-orders
 returns-in_ok-open-in-Open-clause-orders c =

@@ -7,9 +7,9 @@ use Rattle.served_instance.proofs.Closes.{opens}
 use Rattle.served_instance.proofs.instance.open.Goals as goal
 
 pub returns-clause-opened : goal.returns-clause-opened
-returns-clause-opened c = λ s.
+returns-clause-opened c = λ s is.
     let os = c.args.connections.now.items in
-    subst (λ (xs : List OpenConnection). Acts s os s xs (after_opening c.args.number)) (sym c.in_ok-push.ensures.items) (opens c.args.number c.in_ok-connection.connection s os c.in_ok-connection.ensures.stands)
+    subst (λ (xs : List OpenConnection). Acts s os s xs (after_opening c.args.number)) (sym c.in_ok-push.ensures.items) (opens c.args.window c.args.number c.in_ok-connection.connection s os is c.in_ok-connection.ensures.stands)
 
 pub returns-clause-holds : goal.returns-clause-holds
 returns-clause-holds c =

@@ -11,6 +11,7 @@ loop-at-preserved-in-Over g c =
       serving = λ configs same at. c.in-Over.ensures.serving configs (omega (arith, one, same, c.loop-at.invariant.instances)) (c.loop-at.invariant.serving configs same at);
       no_fault = c.in-Over.ensures.no_fault ∙ c.loop-at.invariant.no_fault;
       instances = c.loop-at.invariant.instances;
+      moment = c.loop-at.invariant.moment;
       opened = one_closed _ _ _ c.loop-at.self.connections.items _ _ _ c.loop-at.at c.index.result.now lt c.index.ensures c.remove.ensures.by_index.2 c.in-Over.ensures.stays c.loop-at.invariant.opened;
     }
 
@@ -22,6 +23,7 @@ loop-at-preserved-in-Moved g c =
       serving = λ configs same at. c.in-Moved.ensures.serving configs (omega (arith, one, same, c.loop-at.invariant.instances)) (c.loop-at.invariant.serving configs same at);
       no_fault = c.in-Moved.ensures.no_fault ∙ c.loop-at.invariant.no_fault;
       instances = c.loop-at.invariant.instances;
+      moment = c.loop-at.invariant.moment;
       opened = one_goes _ _ _ c.loop-at.self.connections.items _ _ c.loop-at.at c.index.result.now _ _ lt c.index.ensures refl refl refl c.in-Moved.ensures.stays c.loop-at.invariant.opened;
     }
 
@@ -33,5 +35,6 @@ loop-at-preserved g c =
       serving = λ configs same at. c.in-NotReady.ensures.serving configs (omega (arith, one, same, c.loop-at.invariant.instances)) (c.loop-at.invariant.serving configs same at);
       no_fault = c.in-NotReady.ensures.no_fault ∙ c.loop-at.invariant.no_fault;
       instances = c.loop-at.invariant.instances;
+      moment = c.loop-at.invariant.moment;
       opened = one_goes _ _ _ c.loop-at.self.connections.items _ _ c.loop-at.at c.index.result.now _ _ lt c.index.ensures refl refl refl c.in-NotReady.ensures.stays c.loop-at.invariant.opened;
     }

@@ -10,6 +10,7 @@ invariant-loop-at g l = record {
   no_fault : g.R.Runs.faulted l.runs ≡ g.R.Runs.faulted l.fn.runs;
   instances : l.self.instances ≡ l.fn.self.instances;
   opened : HasAllOpen l.self (g.S.Sockets.happened l.sockets);
+  moment : l.self.moment ≡ l.fn.self.moment;
 }
 
 abbrev pub decreases-loop-at : goal.decreases-loop-at

@@ -1,0 +1,259 @@
+//! The turns of a server: how long those were in which calls ended, by the calls' methods, and what
+//! was refused in them.
+
+use crate::clock::{nanoseconds_between, unix_time};
+use crate::figures::JobTimes;
+use crate::instance_figures::{METHOD_COUNT, METHODS};
+use crate::refusals::{CAUSES, Refusals, ended_of};
+use call_counts::CallCounts;
+use host_wires::TurnClock;
+use metrics_text::{Kind, Label, Metrics, Value};
+use serve::Sight;
+use std::alloc::AllocError;
+use std::time::Instant;
+
+const MILLISECOND: u64 = 1_000_000;
+
+/// How many lengths of turns are told apart.
+const PLACES: usize = 10;
+
+/// Up to how many nanoseconds a turn counts at each place, and how that is written in seconds. The
+/// last has all.
+const BOUNDS: [(u64, &str); PLACES] = [
+    (MILLISECOND / 10, "0.0001"),
+    (MILLISECOND / 4, "0.00025"),
+    (MILLISECOND, "0.001"),
+    (4 * MILLISECOND, "0.004"),
+    (16 * MILLISECOND, "0.016"),
+    (64 * MILLISECOND, "0.064"),
+    (250 * MILLISECOND, "0.25"),
+    (1000 * MILLISECOND, "1"),
+    (4000 * MILLISECOND, "4"),
+    (u64::MAX, "+Inf"),
+];
+
+/// How many calls of a method ended in turns of which lengths.
+#[derive(Clone, Copy)]
+struct Lengths {
+    /// At each place those of that length, and of none before.
+    counts: [u64; PLACES],
+    /// Of these turns together, each as often as calls ended in it, in nanoseconds.
+    sum: u64,
+}
+
+const NO_LENGTHS: Lengths = Lengths {
+    counts: [0; PLACES],
+    sum: 0,
+};
+
+impl Lengths {
+    /// So many calls ended in a turn of this length.
+    fn add(&mut self, calls: u64, length: u64) {
+        let place = BOUNDS.iter().position(|(most, _)| length <= *most);
+        if let Some(count) = place.and_then(|place| self.counts.get_mut(place)) {
+            *count = count.saturating_add(calls);
+        }
+        self.sum = self.sum.saturating_add(length.saturating_mul(calls));
+    }
+
+    fn is_empty(&self) -> bool {
+        self.counts.iter().all(|count| *count == 0)
+    }
+}
+
+/// How many calls of each method have ended.
+fn all_ended(counts: &CallCounts) -> [u64; METHOD_COUNT] {
+    let mut ended = [0; METHOD_COUNT];
+    for (sum, (method, _)) in ended.iter_mut().zip(METHODS.iter()) {
+        *sum = ended_of(counts.of(*method));
+    }
+    ended
+}
+
+/// What was counted at an instance when it was looked last.
+#[derive(Clone, Copy)]
+struct Seen {
+    /// Of each method, how many calls had ended.
+    ended: [u64; METHOD_COUNT],
+    refusals: Refusals,
+}
+
+/// The turns of a server.
+#[derive(Drop)]
+pub struct Turns {
+    /// The Unix time of the start in seconds, where it is known.
+    start: Option<u64>,
+    /// When the first turn began, which no clock of turns saw.
+    first: Option<Instant>,
+    count: u64,
+    /// The nanoseconds of the longest one since it was told.
+    longest: u64,
+    /// How many lines were dropped since one was written, when it was looked last.
+    seen_dropped: u64,
+    dropped: u64,
+    /// Of each method.
+    lengths: [Lengths; METHOD_COUNT],
+    /// Of each instance.
+    seen: Vec<Seen>,
+}
+
+impl Turns {
+    pub fn new(rt: &HostRuntime, instances: usize) -> Result<Turns, AllocError> {
+        let nothing = Seen {
+            ended: [0; METHOD_COUNT],
+            refusals: Refusals::new(),
+        };
+        Ok(Turns {
+            start: unix_time(rt),
+            first: Instant::now(rt).ok(),
+            count: 0,
+            longest: 0,
+            seen_dropped: 0,
+            dropped: 0,
+            lengths: [NO_LENGTHS; METHOD_COUNT],
+            seen: vec![in rt.alloc(); nothing; instances]?,
+        })
+    }
+
+    /// The Unix time of the start in seconds, where it is known.
+    pub fn start(&self) -> Option<u64> {
+        self.start
+    }
+
+    /// How many there were.
+    pub fn count(&self) -> u64 {
+        self.count
+    }
+
+    /// What was refused at an instance, by cause.
+    pub fn refused(&self, instance: u32) -> [u64; CAUSES] {
+        match self.seen.get(instance as usize) {
+            Some(seen) => seen.refusals.causes,
+            None => [0; CAUSES],
+        }
+    }
+
+    /// A turn was at its end, which this clock saw begin, if it was not the first.
+    pub fn add(
+        &mut self,
+        rt: &HostRuntime,
+        sight: &Sight<'_>,
+        clock: &TurnClock,
+        times: &JobTimes,
+    ) {
+        self.count = self.count.saturating_add(1);
+        self.note_dropped(sight);
+        let began = match clock.began() {
+            Some(began) => Some(began),
+            None => self.first,
+        };
+        let (Some(began), Ok(now)) = (began, Instant::now(rt)) else {
+            return;
+        };
+        let length = nanoseconds_between(began, now);
+        self.longest = self.longest.max(length);
+        let (lengths, mut number) = (&mut self.lengths, 0u32);
+        for seen in self.seen.iter_mut() {
+            let place = number as usize;
+            if clock.was_read(place) || times.has_jobs(place) {
+                charge(lengths, seen, sight, number, length);
+            }
+            number = number.saturating_add(1);
+        }
+    }
+
+    /// Counts the lines that were dropped.
+    fn note_dropped(&mut self, sight: &Sight<'_>) {
+        let more = if sight.dropped >= self.seen_dropped {
+            sight.dropped - self.seen_dropped
+        } else {
+            sight.dropped
+        };
+        self.seen_dropped = sight.dropped;
+        self.dropped = self.dropped.saturating_add(more);
+    }
+
+    /// Adds what is told of them. The longest one is that since it was told last.
+    pub fn tell(&mut self, metrics: &mut Metrics<'_>) -> Result<(), AllocError> {
+        metrics.counter(
+            "remoted_turns_total",
+            "Turns of the server's loop.",
+            self.count,
+        )?;
+        metrics.one(
+            Kind::Gauge,
+            "remoted_longest_turn_seconds",
+            "The longest turn since these figures were written last.",
+            Value::Milliseconds(self.longest / MILLISECOND),
+        )?;
+        self.longest = 0;
+        metrics.counter(
+            "remoted_lines_dropped_total",
+            "Lines on failed runs that were not written.",
+            self.dropped,
+        )?;
+        metrics.family(
+            Kind::Histogram,
+            "remoted_turn_seconds",
+            "How long the turns were in which calls ended, by method; each call counts.",
+        )?;
+        for ((_, method), lengths) in METHODS.iter().zip(self.lengths.iter()) {
+            tell_lengths(metrics, *method, lengths)?;
+        }
+        Ok(())
+    }
+}
+
+/// Charges a turn of this length to the methods of the calls of an instance that ended in it, and
+/// looks what else was counted there.
+fn charge(
+    lengths: &mut [Lengths; METHOD_COUNT],
+    seen: &mut Seen,
+    sight: &Sight<'_>,
+    number: u32,
+    length: u64,
+) {
+    let Some(served) = sight.server.instance(number) else {
+        return;
+    };
+    let ended = all_ended(served.instance().call_counts());
+    let counts = seen.ended.iter().zip(ended.iter());
+    for (lengths, (was, is)) in lengths.iter_mut().zip(counts) {
+        if is > was {
+            lengths.add(is.saturating_sub(*was), length);
+        }
+    }
+    seen.ended = ended;
+    seen.refusals.look(served.instance());
+}
+
+/// Adds the samples of a method, if any of its calls ended.
+fn tell_lengths(
+    metrics: &mut Metrics<'_>,
+    method: &'static str,
+    lengths: &Lengths,
+) -> Result<(), AllocError> {
+    if lengths.is_empty() {
+        return Ok(());
+    }
+    let method = Label {
+        name: "method",
+        value: method,
+    };
+    let mut calls: u64 = 0;
+    for ((_, seconds), count) in BOUNDS.iter().zip(lengths.counts.iter()) {
+        calls = calls.saturating_add(*count);
+        let most = Label {
+            name: "le",
+            value: *seconds,
+        };
+        metrics.named_sample(
+            "remoted_turn_seconds_bucket",
+            &[method, most],
+            Value::Whole(calls),
+        )?;
+    }
+    let sum = Value::Milliseconds(lengths.sum / MILLISECOND);
+    metrics.named_sample("remoted_turn_seconds_sum", &[method], sum)?;
+    metrics.named_sample("remoted_turn_seconds_count", &[method], Value::Whole(calls))
+}

@@ -246,7 +246,7 @@ static HELP: [(&str, Wanted); 7] = [
             for builds of up to 30,000 actions, over a network:\n    \
             remoted serve --work /var/lib/remoted --turns endless --blobs 500000 --results \
             100000 \\\n      \
-            --result-bytes 512M --window 4M red:8980:17179869184:0\n",
+            --result-bytes 512M --window 16M red:8980:17179869184:0\n",
         ),
     ),
 ];

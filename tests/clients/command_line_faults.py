@@ -126,11 +126,13 @@ class Checks:
     def serve(self, *words):
         return ["serve", "--turns", "20", "--work", *words]
 
-    def begun(self, *instances):
+    def begun(self, *instances, programs="without a launcher"):
         """What such a server says at its start, of instances as they are written without a parent."""
         told = [f"remoted: {self.version} begins with {len(instances)} instances"]
         for name, port, quota, slots in (word.split(":") for word in instances):
             told += [f"remoted: {name}: {quota} bytes, {slots} slots, on 127.0.0.1:{port}"]
+        if any(word.split(":")[3] != "0" for word in instances):
+            told += [f"remoted: programs are started {programs}"]
         return "\n".join([*told, "remoted: ends after 20 turns at the latest", ""])
 
     def file(self, name, text):
@@ -217,11 +219,13 @@ def folders(checks):
 
 def launchers(checks):
     port, path = free_ports(1)[0], checks.file("no-program", "")
-    for program in ["/no/such", path, checks.folder]:
+    missing, other = "there is no such file", "it is no file that the server may execute"
+    for program, why in [("/no/such", missing), (path, other), (checks.folder, other)]:
         words = ["--launcher", program, f"red:{port}:100:1"]
-        checks.ends(checks.serve("launched", *words), 1, f"remoted: cannot run {program}\n")
+        checks.ends(checks.serve("launched", *words), 1, f"remoted: cannot run {program}: {why}\n")
     words = ["--launcher", "/usr/bin/env", f"red:{port}:100:1"]
-    checks.ends(checks.serve("launched", *words), 0, checks.begun(words[2]), f"listening red {port}\n")
+    told = checks.begun(words[2], programs="by /usr/bin/env")
+    checks.ends(checks.serve("launched", *words), 0, told, f"listening red {port}\n")
 
 
 def what_is_lacking(checks):
@@ -291,6 +295,7 @@ def beginnings(checks):
     told = f"remoted: {checks.version} begins with 2 instances\n"
     told += f"remoted: ci: 8589934592 bytes, 0 slots, on [::1]:{ports[0]}\n"
     told += f"remoted: red: 1000 bytes, 4 slots, on [::1]:{ports[1]}, reads ci\n"
+    told += "remoted: programs are started without a launcher\n"
     told += "remoted: figures are written to figures\nremoted: ends once end is there\n"
     told += "remoted: jobs are ended by the lines of jobs\n"
     told += "remoted: ends after 20 turns at the latest\nremoted: ends after 20 turns\n"

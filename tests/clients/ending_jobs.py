@@ -163,11 +163,13 @@ def some_jobs(program):
 def bad_lines(program):
     with two_teams(program) as (server, red, blue, path):
         put(path, b"red 12345\nred abandoned now\n\ngreen\n\xff\nred 12345G\x1b[0m\n red \t abandoned \r\nblue")
-        bad = [f"remoted: {path}: bad line {number}" for number in (1, 2, 4, 5, 6)]
+        form, name = "it is not NAME, NAME HASH or NAME abandoned", "no instance has this name"
+        faults = {1: form, 2: form, 4: name, 5: form, 6: form}
+        bad = [f"remoted: {path}: bad line {number}: {fault}" for number, fault in faults.items()]
         good = [f"remoted: {name}: jobs ended by an operator: 0" for name in ("red", "blue")]
         hears(server, *bad, *good)
         put(path, "\n".join(f"no {number}" for number in range(1000)))
-        hears(server, *[f"remoted: {path}: bad line {number}" for number in range(1, 11)])
+        hears(server, *[f"remoted: {path}: bad line {number}: {form}" for number in range(1, 11)])
         put(path, "")
         expect(within(3, lambda: not path.exists()), "an empty file is taken, and nothing said")
         os.mkfifo(path)

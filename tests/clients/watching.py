@@ -218,7 +218,7 @@ def prometheus(program):
         textfiles, path = os.path.join(folder, "textfiles"), os.path.join(folder, "remoted.prom")
         os.mkdir(textfiles)
         other = os.path.join(folder, "other.prom")
-        # As deploy/tmpfiles.conf does.
+        # As WATCHING has it.
         os.symlink(path, os.path.join(textfiles, "remoted.prom"))
         os.symlink(other, os.path.join(textfiles, "remoted-other.prom"))
         config = os.path.join(folder, "prometheus.yml")

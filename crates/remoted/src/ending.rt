@@ -29,6 +29,12 @@ const FEWEST_DIGITS: usize = 6;
 /// The word for jobs for which nobody waits.
 const ABANDONED: &str = "abandoned";
 
+/// What is wrong with a line that says nothing.
+const NO_FORM: &str = "it is not NAME, NAME HASH or NAME abandoned";
+
+/// What is wrong with one of an instance that is not there.
+const NO_INSTANCE: &str = "no instance has this name";
+
 /// Which jobs of an instance are to be ended.
 #[derive(Clone, Copy)]
 enum Which<'a> {
@@ -262,37 +268,41 @@ impl<'a> EndFile<'a> {
         let mut bad: usize = 0;
         for line in text.split(|byte| *byte == b'\n') {
             place = place.saturating_add(1);
-            let is_empty = line.iter().all(|byte| byte.is_ascii_whitespace());
-            if is_empty || self.carry_out_line(line, sight, told)? {
+            if line.iter().all(|byte| byte.is_ascii_whitespace()) {
                 continue;
             }
+            let Some(fault) = self.carry_out_line(line, sight, told)? else {
+                continue;
+            };
             bad = bad.saturating_add(1);
             if bad <= MOST_TOLD {
                 let path = self.path;
-                told.push(format!(in self.rt.alloc(); "remoted: {path}: bad line {place}\n")?)?;
+                told.push(format!(in self.rt.alloc();
+                    "remoted: {path}: bad line {place}: {fault}\n"
+                )?)?;
             }
         }
         Ok(())
     }
 
-    /// Does what a line says, and tells of it. Whether it has a form, and names an instance.
+    /// Does what a line says, and tells of it; or says what is wrong with the line.
     fn carry_out_line(
         &self,
         line: &[u8],
         sight: &Sight<'_>,
         told: &mut Vec<String>,
-    ) -> Result<bool, AllocError> {
+    ) -> Result<Option<&'static str>, AllocError> {
         let Ok(line) = str::from_utf8(line) else {
-            return Ok(false);
+            return Ok(Some(NO_FORM));
         };
         let Some(read) = read_line(line) else {
-            return Ok(false);
+            return Ok(Some(NO_FORM));
         };
         let Some(number) = number_of(self.configs, read.name) else {
-            return Ok(false);
+            return Ok(Some(NO_INSTANCE));
         };
         let Some(served) = sight.server.instance(number) else {
-            return Ok(false);
+            return Ok(Some(NO_INSTANCE));
         };
         let (alloc, name) = (self.rt.alloc(), read.name);
         let line = match end_jobs(alloc, self.ended, number, served.instance(), read.which) {
@@ -304,6 +314,6 @@ impl<'a> EndFile<'a> {
             )?,
         };
         told.push(line)?;
-        Ok(true)
+        Ok(None)
     }
 }

@@ -63,6 +63,14 @@ pub struct Counters<'a> {
     pub turns: &'a TurnClock,
 }
 
+/// What starts the programs of actions.
+fn programs_line(alloc: Global, launcher: Option<&str>) -> Result<String, AllocError> {
+    match launcher {
+        Some(program) => format!(in alloc; "remoted: programs are started by {program}\n"),
+        None => format!(in alloc; "remoted: programs are started without a launcher\n"),
+    }
+}
+
 /// Whoever watches a server for its operator.
 #[derive(Drop)]
 pub struct Operator<'a> {
@@ -128,6 +136,9 @@ impl<'a> Operator<'a> {
         }
         if !are_usual(service.limits) {
             self.tell(numbers_line(alloc, service.limits));
+        }
+        if instances.iter().any(|config| config.slots > 0) {
+            self.tell(programs_line(alloc, service.launcher));
         }
         if let Some(path) = service.metrics {
             self.tell(format!(in alloc; "remoted: figures are written to {path}\n"));

@@ -141,10 +141,20 @@ fn launcher_of<E: Write>(
     match launcher_path(rt, program) {
         Ok(path) => Ok(Some(Some(Launcher::new(path, names_of(rt, &instances.configs)?)))),
         Err(error) if is_memory(&error) => Err(error),
-        Err(_) => {
-            writeln!(errors, "remoted: cannot run {program}")?;
+        Err(error) => {
+            let why = why_no_launcher(error.kind());
+            writeln!(errors, "remoted: cannot run {program}: {why}")?;
             Ok(None)
         }
+    }
+}
+
+/// Why a file is no launcher.
+fn why_no_launcher(kind: ErrorKind) -> &'static str {
+    match kind {
+        ErrorKind::NotFound => "there is no such file",
+        ErrorKind::PermissionDenied => "it is no file that the server may execute",
+        _ => "its path leads to no file",
     }
 }
 

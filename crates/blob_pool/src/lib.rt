@@ -1,6 +1,7 @@
 //! Texts that stand once, in pages, with exact counts of their holders.
 #![tactic(auto)]
 
+mod alone;
 mod draft;
 mod hashing;
 mod hold;

@@ -4,14 +4,16 @@ ghost use Rattle.std.specs.Prelude.{◌≡◌, ◌≢◌, ◌+◌, ◌<◌, ◌�
 ghost use Rattle.digest.specs.Naming.{Names};
 ghost use Rattle.paged_text.specs.Pages.{part_of};
 ghost use Rattle.blob_pool.specs.Slots.{text_at, count_at, held_text_at, IsShared, texts_stored, bytes_stored};
+ghost use Rattle.blob_pool.specs.Alone.{bytes_alone, holders_at};
 ghost use Rattle.blob_pool.specs.Moves.{Moves, HasRoom, no_holders, one_at};
 ghost use Rattle.paged_text.specs.declared.text.TheConstants.{MOST_BYTES, PAGE_BYTES};
 
+use crate::alone::bytes_alone;
 use crate::draft::Draft;
 use crate::hold::{Hold, Kept, keep};
 use crate::index::Index;
 use crate::slot::Slot;
-use crate::slots::{hold_again, put_text, take_text, text, totals};
+use crate::slots::{Totals, hold_again, put_text, take_text, text};
 use digest::{Digest, HashFunction};
 use keyed_maps::MapKey;
 use slab::Slab;
@@ -23,6 +25,7 @@ pub struct Pool {
     alloc: Global,
     slots: Slab<Slot>,
     index: Index,
+    totals: Totals,
 }
 
 // Written out, so that no crate above proves again that each part of it may be dropped.
@@ -32,6 +35,7 @@ impl Drop for Pool {
             slots,
             index,
             alloc: _,
+            totals: _,
         } = self;
         drop(slots);
         drop(index);
@@ -40,13 +44,14 @@ impl Drop for Pool {
 
 impl Model for Pool {
     ghost use Rattle.blob_pool.specs.Slots.{Slots};
-    ghost use Rattle.blob_pool.specs.Listed.{IsPool};
+    ghost use Rattle.blob_pool.specs.Listed.{IsPool, AreTotals};
 
     ghost Value = { Slots };
 
     ghost view = { λ p. p.slots.slots };
 
-    ghost invariant = { λ p. IsPool p.slots.slots p.index };
+    ghost invariant = { λ p. IsPool p.slots.slots p.index
+        × AreTotals p.slots.slots p.totals };
 }
 
 impl Pool {
@@ -58,6 +63,7 @@ impl Pool {
             alloc,
             slots: Slab::new(alloc),
             index: Index::new(alloc, key),
+            totals: Totals { texts: 0, bytes: 0 },
         }
     }
 
@@ -75,7 +81,7 @@ impl Pool {
         // Nothing stands there that nobody holds.
         ensures held { (k : ℕ) → held_text_at self.now k ≢ None → 0 < count_at self.now k }
     {
-        totals(&self.slots)
+        (self.totals.texts, self.totals.bytes)
     }
 
     /// Bytes that a digest is known to name, to be sealed here. Under one by SHA-256 they are not
@@ -101,7 +107,7 @@ impl Pool {
         ensures err { OnErr result (self.new ≡ self.old) }
         ensures back { IfErr result (λ given. given.text ≡ draft.text) }
     {
-        match put_text(&mut self.slots, &mut self.index, draft) {
+        match put_text(&mut self.slots, &mut self.index, &mut self.totals, draft) {
             Ok(slot) => Ok(Hold::of(slot)),
             Err(draft) => Err(draft),
         }
@@ -155,7 +161,7 @@ impl Pool {
         ensures { Moves self.old self.new (one_at hold) no_holders }
     {
         let slot = keep(hold).number();
-        take_text(&mut self.slots, &mut self.index, slot);
+        take_text(&mut self.slots, &mut self.index, &mut self.totals, slot);
     }
 
     /// The right that was kept. It takes no memory.
@@ -175,6 +181,14 @@ impl Pool {
             Some(text) => text.len(),
             None => 0,
         }
+    }
+
+    /// How many bytes the texts have together that nobody holds but these holders: numbers of slots,
+    /// each as often as the slot is held. It takes no memory.
+    pub fn bytes_alone(&self, holders: Vec<usize>) -> u128
+        ensures { result ≡ bytes_alone (holders_at holders.items) 0 self.now }
+    {
+        bytes_alone(&self.slots, holders)
     }
 
     /// What the text has from a place on, up to the end of its page of 65,536 bytes and to `most`

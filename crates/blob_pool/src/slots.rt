@@ -3,12 +3,12 @@
 ghost use Rattle.std.specs.Prelude.{◌≡◌, ◌+◌, ◌-◌, ◌<◌, ◌≤◌, ◌^◌, ◌↔◌, ℕ, [], length, Some, None, IsTrue, IfSome, IfNone, IfOk, IfErr, OnErr, slice_index_or};
 ghost use Rattle.std.specs.Option.{option_copied};
 ghost use Rattle.digest.specs.Naming.{digest_of};
-ghost use Rattle.slab.specs.Slab.{slab_len};
 ghost use Rattle.paged_text.specs.declared.text.TheConstants.{MOST_BYTES};
-ghost use Rattle.blob_pool.specs.Slots.{held_text_at, text_at, count_at, bytes_stored};
+ghost use Rattle.blob_pool.specs.Slots.{held_text_at, text_at, count_at};
+ghost use Rattle.blob_pool.specs.declared.slots.Totals.{Totals};
 ghost use Rattle.blob_pool.specs.Putting.{Puts};
 ghost use Rattle.blob_pool.specs.Moves.{Moves, HasRoom, no_holders, one_at};
-ghost use Rattle.blob_pool.specs.Listed.{Listing, IsInListing, IsPool};
+ghost use Rattle.blob_pool.specs.Listed.{Listing, IsInListing, IsPool, AreTotals};
 
 use crate::draft::Draft;
 use crate::index::Index;
@@ -16,6 +16,13 @@ use crate::slot::Slot;
 use digest::Digest;
 use paged_text::PagedText;
 use slab::Slab;
+
+/// How many texts a pool has, and how many bytes they have together.
+#[derive(Clone, Copy)]
+pub struct Totals {
+    pub texts: u64,
+    pub bytes: u128,
+}
 
 /// Whether a slot has the text.
 fn has_text(slots: &Slab<Slot>, slot: usize, text: &PagedText) -> bool
@@ -79,6 +86,7 @@ pub fn hold_again(slots: &mut Slab<Slot>, slot: usize)
     requires room { count_at slots.old.slots slot < 2 ^ 127 }
     ensures pool { (index : Listing) → IsPool slots.old.slots index → IsPool slots.new.slots index }
     ensures moves { Moves slots.old.slots slots.new.slots no_holders (one_at slot) }
+    ensures totals { (t : Totals) → AreTotals slots.old.slots t → AreTotals slots.new.slots t }
     ensures text { text_at slots.new.slots slot ≡ text_at slots.old.slots slot }
 {
     add_holder(slots, slot);
@@ -98,11 +106,18 @@ fn take_holder(slots: &mut Slab<Slot>, slot: usize)
 }
 
 /// Holds a text: in the slot that has it already, or in a free one. The draft is given back for
-/// want of memory only.
-pub fn put_text(slots: &mut Slab<Slot>, index: &mut Index, draft: Draft) -> Result<usize, Draft>
+/// want of memory only. The totals stay right.
+pub fn put_text(
+    slots: &mut Slab<Slot>,
+    index: &mut Index,
+    totals: &mut Totals,
+    draft: Draft,
+) -> Result<usize, Draft>
     requires pool { IsPool slots.old.slots index.old }
     requires room { HasRoom slots.old.slots }
+    requires totals { AreTotals slots.old.slots totals.old }
     ensures pool { IsPool slots.new.slots index.new }
+    ensures totals { AreTotals slots.new.slots totals.new }
     ensures moves { IfOk result (λ k. Moves slots.old.slots slots.new.slots no_holders (one_at k)) }
     ensures text { IfOk result (λ k. text_at slots.new.slots k ≡ draft.text) }
     ensures same { IfOk result (λ k. (j : ℕ) → 0 < count_at slots.old.slots j →
@@ -115,7 +130,7 @@ pub fn put_text(slots: &mut Slab<Slot>, index: &mut Index, draft: Draft) -> Resu
         hold_again(slots, slot);
         return Ok(slot);
     }
-    match add_text(slots, index, text, digest) {
+    match add_text(slots, index, totals, text, digest) {
         Ok(slot) => Ok(slot),
         Err(text) => Err(Draft::close(text, digest)),
     }
@@ -125,15 +140,18 @@ pub fn put_text(slots: &mut Slab<Slot>, index: &mut Index, draft: Draft) -> Resu
 fn add_text(
     slots: &mut Slab<Slot>,
     index: &mut Index,
+    totals: &mut Totals,
     text: PagedText,
     digest: Digest,
 ) -> Result<usize, PagedText>
     requires pool { IsPool slots.old.slots index.old }
+    requires totals { AreTotals slots.old.slots totals.old }
     requires absent { (k : ℕ) → 0 < count_at slots.old.slots k → text_at slots.old.slots k ≡ text →
         ⊥ }
     requires digest { digest ≡ digest_of text }
     requires short { length text ≤ MOST_BYTES }
     ensures pool { IsPool slots.new.slots index.new }
+    ensures totals { AreTotals slots.new.slots totals.new }
     ensures moves { IfOk result (λ k. Moves slots.old.slots slots.new.slots no_holders (one_at k)) }
     ensures text { IfOk result (λ k. text_at slots.new.slots k ≡ text) }
     ensures err { OnErr result (slots.new.slots ≡ slots.old.slots) }
@@ -146,31 +164,42 @@ fn add_text(
     if index.list(&digest, slot).is_err() {
         return Err(text);
     }
-    Ok(slots.insert_reserved(Slot::new(text, digest)))
+    let size = text.len() as u128;
+    let slot = slots.insert_reserved(Slot::new(text, digest));
+    totals.texts = slots.len() as u64;
+    totals.bytes += size;
+    Ok(slot)
 }
 
-/// Lets go of a text: one holder less, and a text without holders goes.
-pub fn take_text(slots: &mut Slab<Slot>, index: &mut Index, slot: usize)
+/// Lets go of a text: one holder less, and a text without holders goes. The totals stay
+/// right.
+pub fn take_text(slots: &mut Slab<Slot>, index: &mut Index, totals: &mut Totals, slot: usize)
     requires pool { IsPool slots.old.slots index.old }
     requires held { 0 < count_at slots.old.slots slot }
+    requires totals { AreTotals slots.old.slots totals.old }
     ensures pool { IsPool slots.new.slots index.new }
+    ensures totals { AreTotals slots.new.slots totals.new }
     ensures moves { Moves slots.old.slots slots.new.slots (one_at slot) no_holders }
 {
     if slots[slot].count() > 1 {
         take_holder(slots, slot);
     } else {
-        drop_text(slots, index, slot);
+        drop_text(slots, index, totals, slot);
     }
 }
 
 /// Takes out a text that has one holder.
-fn drop_text(slots: &mut Slab<Slot>, index: &mut Index, slot: usize)
+fn drop_text(slots: &mut Slab<Slot>, index: &mut Index, totals: &mut Totals, slot: usize)
     requires pool { IsPool slots.old.slots index.old }
     requires last { count_at slots.old.slots slot ≡ 1 }
+    requires totals { AreTotals slots.old.slots totals.old }
     ensures pool { IsPool slots.new.slots index.new }
+    ensures totals { AreTotals slots.new.slots totals.new }
     ensures moves { Moves slots.old.slots slots.new.slots (one_at slot) no_holders }
 {
     let held = slots.remove(slot);
+    totals.texts = slots.len() as u64;
+    totals.bytes -= held.text().len() as u128;
     index.unlist(&held.digest(), slot);
 }
 
@@ -181,18 +210,4 @@ pub fn text(slots: &Slab<Slot>, slot: usize) -> Option<&PagedText>
 {
     let held = slots.get(slot)?;
     Some(held.text())
-}
-
-/// How many texts there are, and how many bytes they have together.
-pub fn totals(slots: &Slab<Slot>) -> (u64, u128)
-    requires { (k : ℕ) → length (text_at slots.now.slots k) ≤ MOST_BYTES }
-    ensures texts { result.0 ≡ slab_len slots.now }
-    ensures bytes { result.1 ≡ bytes_stored slots.now.slots }
-{
-    let texts = slots.len() as u64;
-    let mut bytes = 0;
-    for (_, held) in slots.iter() {
-        bytes += held.text().len() as u128;
-    }
-    (texts, bytes)
 }

@@ -295,6 +295,13 @@ impl Connection {
         self.sender.pending()
     }
 
+    /// The sources that it holds, each as often as it is held: until `spent` tells it.
+    pub fn sources(&self) -> Result<Vec<usize>, AllocError>
+        ensures { IfOk result (λ sources. sources.items ≡ sources_of self.now.sending) }
+    {
+        self.sender.sources()
+    }
+
     /// Whether an error of the connection was met and GOAWAY put.
     pub fn ended(&self) -> bool
         ensures { result ≡ self.now.ended }

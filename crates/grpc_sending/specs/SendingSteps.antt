@@ -1,5 +1,5 @@
 -- For the code alone: no promise speaks of it.
-use Rattle.std.specs.Prelude.{◌≡◌, ◌-◌, ℕ, suc, ℤ, ◌==◌, nat_lt, if◌then◌else◌, Bool, false, List, [], ◌∷◌, ◌++◌, length, take, drop, map, Option, Some, None}
+use Rattle.std.specs.Prelude.{◌≡◌, ℕ, suc, ℤ, ◌==◌, nat_lt, if◌then◌else◌, Bool, false, List, [], ◌∷◌, ◌++◌, length, take, drop, map, Option, Some, None}
 use Rattle.http2_streams.specs.Credit.{window_left}
 use Rattle.http2_frames.specs.declared.frame.Frame.TheVariants.{Data}
 use Rattle.http2_frames.specs.Writing.{text_of}

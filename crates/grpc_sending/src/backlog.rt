@@ -1,6 +1,6 @@
 //! What waits to be put, and the sources of ranges that are over.
 
-ghost use Rattle.std.specs.Prelude.{◌≡◌, ◌≤◌, ◌<◌, ◌==◌, ◌^◌, ◌++◌, ◌∷◌, [], ℕ, List, None, OnOk, OnErr, MatchOption, length, map, filter, not, if◌then◌else◌, vec_capacity};
+ghost use Rattle.std.specs.Prelude.{◌≡◌, ◌≤◌, ◌<◌, ◌==◌, ◌^◌, ◌++◌, ◌∷◌, [], ℕ, List, None, IfOk, OnOk, OnErr, MatchOption, length, map, filter, not, if◌then◌else◌, vec_capacity};
 ghost use Rattle.grpc_sending.specs.StoredSending.{Tells};
 ghost use Rattle.grpc_sending.specs.SendingSteps.{Appends, stored_first_at, stored_front_at};
 ghost use Rattle.grpc_sending.specs.SortedQueues.{AreSorted};
@@ -59,6 +59,17 @@ impl Backlog {
         ensures sorted { AreSorted result.now }
     {
         &self.queues
+    }
+
+    /// The sources that it holds: of what is to be put on each stream in order, and behind them those
+    /// that are spent and were not told yet. Each stands there as often as it is held.
+    pub(crate) fn sources(&self) -> Result<Vec<usize>, AllocError>
+        ensures { IfOk result (λ sources. sources.items ≡ sources_waiting self.now) }
+    {
+        let mut sources = Vec::new(self.allocator());
+        queue::add_sources(&self.queues, &mut sources)?;
+        sources.extend_from_slice(&self.spent)?;
+        Ok(sources)
     }
 
     /// The first piece of the stream was put.

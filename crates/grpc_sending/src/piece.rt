@@ -1,6 +1,6 @@
 //! What is to be put of an item of a response.
 
-ghost use Rattle.std.specs.Prelude.{◌≡◌, ◌≤◌, ◌<◌, ◌+◌, ◌++◌, ◌∷◌, [], List, true, false, IfOk, length, drop, vec_capacity};
+ghost use Rattle.std.specs.Prelude.{◌≡◌, ◌≤◌, ◌<◌, ◌+◌, ◌++◌, ◌∷◌, [], List, true, false, IfOk, OnOk, length, drop, vec_capacity};
 ghost use Rattle.std.specs.Cow.{cow_slice_items};
 ghost use Rattle.hpack.specs.Encoding.{block_text};
 ghost use Rattle.hpack.specs.declared.encoder.Position.TheVariants.{Later};
@@ -197,6 +197,16 @@ impl StoredPiece {
             }
             StoredPiece::Ranged(range) => range.take_off(count),
         }
+    }
+
+    /// Adds the source, if it is a range.
+    pub(crate) fn add_source(&self, sources: &mut Vec<usize>) -> Result<(), AllocError>
+        ensures { OnOk result (sources.new.items ≡ sources.old.items ++ source_of self.now) }
+    {
+        if let StoredPiece::Ranged(range) = self {
+            sources.push(range.source)?;
+        }
+        Ok(())
     }
 
     /// The piece is over: the source of a range is spent.

@@ -5,7 +5,7 @@ ghost use Rattle.grpc_sending.specs.StoredSending.{stored_on};
 ghost use Rattle.grpc_sending.specs.SendingSteps.{Appends, stored_front, pieces_left, left_at, with_piece};
 ghost use Rattle.grpc_sending.specs.SortedQueues.{AreSorted, IsQueueAt, IsGapFor};
 ghost use Rattle.std.specs.List.Sorted.{IsSearchInRange};
-ghost use Rattle.grpc_sending.specs.Sources.{Spends, SpendsOf, HasRoomForSources, HasRoomForPieces, HoldsSourcesToo, source_of};
+ghost use Rattle.grpc_sending.specs.Sources.{Spends, SpendsOf, HasRoomForSources, HasRoomForPieces, HoldsSourcesToo, source_of, sources_in, sources_held};
 ghost use Rattle.grpc_sending.specs.declared.piece.StoredPiece.{StoredPiece};
 ghost use Rattle.grpc_sending.specs.declared.queue.StoredQueue.{StoredQueue};
 
@@ -61,6 +61,13 @@ impl Pieces {
         Ok(())
     }
 
+    /// Adds the sources of ranges among them, in order.
+    pub(crate) fn add_sources(&self, sources: &mut Vec<usize>) -> Result<(), AllocError>
+        ensures { OnOk result (sources.new.items ≡ sources.old.items ++ sources_in self.now) }
+    {
+        add_each(&self.pieces, sources)
+    }
+
     /// Bytes of the first piece were put.
     fn take_off(&mut self, count: usize, spent: &mut Vec<usize>)
         requires room { HasRoomForPieces self.old spent.old.items (vec_capacity spent.old) }
@@ -98,6 +105,17 @@ impl Pieces {
             Removal::FrontBytes(count) => self.take_off(count, spent),
         }
     }
+}
+
+/// Adds the sources of ranges among these pieces, in order.
+fn add_each(pieces: &VecDeque<StoredPiece>, sources: &mut Vec<usize>) -> Result<(), AllocError>
+    ensures { OnOk result (sources.new.items
+        ≡ sources.old.items ++ sources_in pieces.now.items) }
+{
+    for place in 0..pieces.len() {
+        pieces[place].add_source(sources)?;
+    }
+    Ok(())
 }
 
 fn spend_first(pieces: &mut VecDeque<StoredPiece>, spent: &mut Vec<usize>)
@@ -207,6 +225,19 @@ pub(crate) fn forget_all(queues: &mut Vec<StoredQueue>, spent: &mut Vec<usize>)
         let mut pieces = queue.pieces;
         pieces.clear(spent);
     }
+}
+
+/// Adds the sources of the ranges of all streams, in order.
+pub(crate) fn add_sources(
+    queues: &[StoredQueue],
+    sources: &mut Vec<usize>,
+) -> Result<(), AllocError>
+    ensures { OnOk result (sources.new.items ≡ sources.old.items ++ sources_held queues.now) }
+{
+    for queue in queues {
+        queue.pieces.add_sources(sources)?;
+    }
+    Ok(())
 }
 
 /// What is still to be put on the stream.

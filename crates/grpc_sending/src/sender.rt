@@ -10,7 +10,7 @@ ghost use Rattle.grpc_messages.specs.Wire.{message_length_limit};
 ghost use Rattle.grpc_sending.specs.Bytes.{most_untaken};
 ghost use Rattle.grpc_sending.specs.Owed.{OwedItem, Headed, Message, Range, owed_with_item};
 ghost use Rattle.grpc_sending.specs.Pump.{history_after_pump, next_frames};
-ghost use Rattle.grpc_sending.specs.StoredSending.{Tells, PumpsEnded, AddsNothing, AddsToLive, Enters, DropsClosed, DropsAll, Owes, OwesRange, IsAtRest, PumpsStreams, PumpsSending, KeepsFit, KeepsFitWith, SourceTexts, StoredSending, IsStoredSending, QueuesEndWithin, EndsWithinText, KeepsSources, HoldsMore, HasFewSources, new_stored_sending, sending_in, stored_on};
+ghost use Rattle.grpc_sending.specs.StoredSending.{Tells, PumpsEnded, AddsNothing, AddsToLive, Enters, DropsClosed, DropsAll, Owes, OwesRange, IsAtRest, PumpsStreams, PumpsSending, KeepsFit, KeepsFitWith, SourceTexts, StoredSending, IsStoredSending, QueuesEndWithin, EndsWithinText, KeepsSources, HoldsMore, HasFewSources, new_stored_sending, sending_in, sources_of, stored_on};
 ghost use Rattle.grpc_sending.specs.SendingSteps.{EndsBy, PutsBy, ResetsBy, FinishesBy, front_bytes, front_frame};
 ghost use Rattle.grpc_sending.specs.SortedQueues.{AreSorted};
 ghost use Rattle.grpc_sending.specs.Step.{Puts, Rests, IsControl, Finishes, Resets};
@@ -90,6 +90,13 @@ impl Sender {
         ensures room { length result.now ≤ most_untaken }
     {
         self.buffer.as_slice()
+    }
+
+    /// The sources that it holds, each as often as it is held: until `spent` tells it.
+    pub fn sources(&self) -> Result<Vec<usize>, AllocError>
+        ensures { IfOk result (λ sources. sources.items ≡ sources_of self.now) }
+    {
+        self.backlog.sources()
     }
 
     /// The peer took so many of them.

@@ -153,6 +153,16 @@ fn drop_metrics(metrics: &mut Metrics<'_>, sizes: &InstanceSizes) -> Result<(), 
     )
 }
 
+/// What its Reads alone hold.
+fn read_metrics(metrics: &mut Metrics<'_>, held: u128) -> Result<(), AllocError> {
+    let bytes = u64::try_from(held).unwrap_or(u64::MAX);
+    metrics.gauge(
+        "remoted_read_bytes_held",
+        "Bytes of texts that this instance's Reads hold, and nobody else, until they are answered.",
+        bytes,
+    )
+}
+
 fn connection_metrics(
     metrics: &mut Metrics<'_>,
     open: usize,
@@ -428,6 +438,8 @@ pub fn instance_metrics(
     let (sizes, calls) = (instance.sizes(), instance.call_counts());
     let time = times.of(number as usize);
     store_metrics(&mut metrics, instance)?;
+    let held = served.read_bytes(sight.server.stored_texts().pool)?;
+    read_metrics(&mut metrics, held)?;
     connection_metrics(&mut metrics, served.connection_count(), counts)?;
     hit_metrics(&mut metrics, calls)?;
     job_metrics(&mut metrics, &sizes, time, counters.folders.left(number))?;

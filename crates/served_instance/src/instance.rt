@@ -22,17 +22,19 @@ ghost use Rattle.job_queue.specs.declared.queue.TheConstants.{MOST_RUNNING};
 ghost use Rattle.execution.specs.InPool.{task_in};
 ghost use Rattle.execution.specs.Orders.{task_of};
 ghost use Rattle.instance_core.specs.Turns.{AreOrders};
-ghost use Rattle.served_instance.specs.Ranges.{AreTidy, HaveFewSources, RangesEndWithin, Releases, range_holders};
+ghost use Rattle.served_instance.specs.Ranges.{AreTidy, HaveFewSources, RangesEndWithin, Releases, range_holders, sources_at};
 ghost use Rattle.instance_core.specs.State.{InstanceState};
 ghost use Rattle.instance_core.specs.Slots.{state_in, holders_of_instance, IsInstanceInPool};
 ghost use Rattle.instance_core.specs.InstanceViewShown.{visible_in};
 ghost use Rattle.served_instance.specs.Slots.{served_state_in, holders_of, StandsIn, IsServedInPool, IsServedBeside, HasConnections};
 ghost use Rattle.blob_pool.specs.Slots.{Slots, text_at, count_at};
 ghost use Rattle.blob_pool.specs.Moves.{Moves, no_holders};
+ghost use Rattle.blob_pool.specs.Alone.{bytes_alone, holders_at};
 ghost use Rattle.instance_core.specs.Within.{most_stored_bytes};
 
 use crate::broken::Broken;
 use crate::calls::{break_off, break_off_all, close};
+use crate::held::range_sources;
 use crate::jobs::{end_run, pass_time, receive_and_start};
 use crate::open_connection::{OpenConnection, connection_at, connection_near, find, take};
 use crate::pool_parts::PoolParts;
@@ -267,6 +269,16 @@ impl ServedInstance {
             None => None,
             Some(kept) => Some(kept.has_calls()),
         }
+    }
+
+    /// How many bytes the texts in the pool have together that nobody holds but the ranges of its
+    /// connections: those which its Reads have still to put, and which are stored no more.
+    pub fn read_bytes(&self, pool: &Pool) -> Result<u128, AllocError>
+        ensures { IfOk result (λ bytes. bytes
+            ≡ bytes_alone (holders_at (sources_at self.now.connections)) 0 pool.now) }
+    {
+        let sources = range_sources(*self.connections.allocator(), &self.connections)?;
+        Ok(pool.bytes_alone(sources))
     }
 
     /// Puts all that can be put, on each open connection, and releases what no range is left of.

@@ -4,6 +4,7 @@
 
 mod broken;
 mod calls;
+mod held;
 mod instance;
 mod jobs;
 mod laws;

@@ -3,7 +3,7 @@
 ghost use Rattle.std.specs.Prelude.{◌≤◌, IfOk, length};
 
 use crate::counting::{Calls, Deed, Failing};
-use serve::{Socket, Sockets};
+use serve::{ProcessorTime, Socket, Sockets};
 use std::alloc::Global;
 use std::io::{self, ErrorKind};
 
@@ -101,6 +101,14 @@ impl<'a> Sockets for FakeSockets<'a> {
     /// The clock is read in each turn.
     fn passed(&self) -> u64 {
         self.turns.saturating_add(1).saturating_mul(1_000)
+    }
+
+    /// The server is never without a processor.
+    fn processor(&self) -> ProcessorTime {
+        ProcessorTime {
+            had: self.passed(),
+            lacked: 0,
+        }
     }
 
     fn accept(&mut self, socket: Socket) -> io::Result<()> {

@@ -19,7 +19,7 @@ use crate::port::Port;
 pub use counts::SocketCounts;
 pub use laws::{what_is_laid, wrong_bodies_are_refused};
 pub use lingering::LINGERING_LIMIT;
-use serve::{Socket, Sockets};
+use serve::{ProcessorTime, Socket, Sockets};
 use std::alloc::Global;
 use std::io::{self, ErrorKind};
 use std::net::{IpAddr, SocketAddr};
@@ -259,6 +259,16 @@ impl<'a, H: Host> Sockets for HostSockets<'a, H> {
     /// It is 0 where the clock cannot be read.
     fn passed(&self) -> u64 {
         self.host.passed().unwrap_or(0)
+    }
+
+    fn processor(&self) -> ProcessorTime {
+        match self.host.processor() {
+            Ok(processor) => processor,
+            Err(_) => ProcessorTime {
+                had: self.passed(),
+                lacked: 0,
+            },
+        }
     }
 
     fn accept(&mut self, socket: Socket) -> io::Result<()>

@@ -10,6 +10,7 @@
 //! `news` and the tokens. Where they are wrong somebody waits, and nothing goes to another.
 
 use crate::options::{ask_after_clients, give_up_later};
+use crate::processor_clock::ProcessorClock;
 use crate::turn_clock::TurnClock;
 use mio::event::Event;
 use mio::net::{TcpListener, TcpStream};
@@ -18,7 +19,7 @@ use std::io::{self, Read, Write};
 use std::net::{Shutdown, SocketAddr};
 use std::rc::Rc;
 use std::time::{Duration, Instant};
-use wires::{Door, Host, NEWS_LIMIT, News, Wire};
+use wires::{Door, Host, NEWS_LIMIT, News, ProcessorTime, Wire};
 
 /// Under what the system tells of a door.
 fn door_token(place: usize) -> Token {
@@ -113,6 +114,7 @@ pub struct ThisHost<'a> {
     /// What it told last.
     told: Events,
     start: Instant,
+    processors: ProcessorClock,
     /// What is noted of turns.
     turns: Rc<TurnClock>,
 }
@@ -133,6 +135,7 @@ impl<'a> ThisHost<'a> {
             poll,
             told: Events::with_capacity(rt.alloc(), NEWS_LIMIT)?,
             start: Instant::now(rt)?,
+            processors: ProcessorClock::new(rt),
             turns,
         })
     }
@@ -174,5 +177,9 @@ impl<'a> Host for ThisHost<'a> {
         let passed = self.start.elapsed(self.rt)?;
         let seconds = passed.as_secs().saturating_mul(1_000_000);
         Ok(seconds.saturating_add(passed.subsec_micros() as u64))
+    }
+
+    fn processor(&self) -> io::Result<ProcessorTime> {
+        self.processors.read()
     }
 }

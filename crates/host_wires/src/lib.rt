@@ -3,6 +3,7 @@
 
 mod host;
 mod options;
+mod processor_clock;
 mod turn_clock;
 
 pub use host::{HostDoor, HostWire, ThisHost};

@@ -8,6 +8,7 @@ pub mod KeepsServing
 pub mod Did
 pub mod Numbers
 pub mod Pace
+pub mod Absence
 pub mod KeepsOpen
 pub mod Silence
 pub mod Logged

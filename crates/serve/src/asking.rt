@@ -171,7 +171,7 @@ pub(crate) fn ask_all<S: Sockets, R: Runs, E: Write>(
         };
         let is_asked = pace.takes(run.instance, waits);
         ask_if(counting, configs, runs, errors, moment, run, is_asked);
-        if is_asked && pace.note_asked(sockets.passed(), run.instance) {
+        if is_asked && pace.note_asked(sockets, sockets.passed(), run.instance) {
             break;
         }
     }

@@ -1,6 +1,7 @@
 //! Serves a server's instances over sockets, and the jobs that they order over runs, turn by turn.
 #![tactic(auto)]
 
+mod absence;
 mod asking;
 mod carrying;
 mod copies;
@@ -16,6 +17,7 @@ mod open_socket;
 mod pace;
 mod runs;
 mod serving;
+mod share;
 mod sockets;
 mod watch;
 
@@ -27,5 +29,5 @@ pub use logged::{LoggedSockets, SocketRecord};
 pub use logged_runs::{LoggedRuns, RunRecord};
 pub use runs::Runs;
 pub use serving::serve;
-pub use sockets::{Socket, Sockets};
+pub use sockets::{ProcessorTime, Socket, Sockets};
 pub use watch::{Nobody, Sight, Tally, Watch};

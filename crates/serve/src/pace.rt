@@ -5,101 +5,36 @@
 //! leaves something of one. All others are quick: they have their slice in each turn. Of the heavy
 //! ones one at most has it, that had least so far, and only where nothing moved for quick ones, or
 //! where those had more than it.
+//!
+//! Nobody is charged for time in which the server had no processor, as it was stopped, had used up a
+//! quota, or others had all processors. So of a piece of work that took longer than a slice it is
+//! asked what the server had of one.
 
-ghost use Rattle.std.specs.Prelude.{◌≡◌, ◌≢◌, ◌≤◌, ◌<◌, ◌-◌, ℕ, true, false, IsTrue, Some, slice_get};
-ghost use Rattle.serve.specs.Pace.{IsOwed, MayHaveMore};
+ghost use Rattle.std.specs.Prelude.{◌≡◌, ◌≢◌, ◌≤◌, ◌<◌, ◌-◌, ◌⊎◌, ℕ, true, false, IsTrue, Some, slice_get};
+ghost use Rattle.serve.specs.Pace.{AreChargedAtMost, IsOwed, MayHaveMore, most_charged};
 
 use crate::exchange::Tried;
-use crate::sockets::Sockets;
+use crate::share::{DEAR, Share, UNUSED, Work, charged_of};
+use crate::sockets::{ProcessorTime, Sockets};
 use std::alloc::{AllocError, Global};
 
 /// How many microseconds of a turn an instance has.
 const SLICE: u64 = 200;
 
-/// From how many microseconds on a piece of work is dear.
-const DEAR: u64 = 10_000;
-
-/// From how many microseconds on one is long.
-const LONG: u64 = 1_000;
-
 /// For how many microseconds after a long piece an instance is known for it.
 const LONG_KNOWN: u64 = 60_000_000;
 
-/// For how many microseconds an instance rests at most after a dear piece.
-const MOST_REST: u64 = 10_000_000;
-
-/// For how many microseconds after something moved for an instance it is active.
-const ACTIVE_TIME: u64 = 1_000_000;
-
-/// For how many microseconds an instance rests at least, where another one is active.
-const LEAST_PATIENCE: u64 = 3_000;
-
 /// From how many microseconds on a run that was asked was not just found to wait.
 const WORTH_NOTING: u64 = 20;
+
+/// For how many milliseconds at most nothing is told where nothing comes and nothing runs.
+const QUIET_TIME: u64 = 50;
 
 /// For how many microseconds of a turn runs are asked.
 const MOST_ASKED: u64 = 1_000;
 
 /// How many runs are asked at most in a millisecond of those that wait.
 pub(crate) const MOST_WAITING: usize = 64;
-
-/// How much more than another one an instance counts as having had at most, in microseconds.
-const MOST_AHEAD: u64 = 1_000_000;
-
-/// What an instance had of the turns. Moments and times are in microseconds.
-#[derive(Clone, Copy)]
-struct Share {
-    /// When something moved for it last.
-    active: Option<u64>,
-    /// The turn in which something moved for it last.
-    turn: u64,
-    /// What it had of this turn.
-    spent: u64,
-    /// What it had so far; where it was away, as much as whoever had least.
-    had: u64,
-    /// Whether it used up its slice when it had one last.
-    is_heavy: bool,
-    /// When its last long piece had ended.
-    long: Option<u64>,
-    /// When its last dear piece had ended.
-    ended: u64,
-    /// How long that took.
-    took: u64,
-}
-
-const UNUSED: Share = Share {
-    active: None,
-    turn: 0,
-    spent: 0,
-    had: 0,
-    is_heavy: false,
-    long: None,
-    ended: 0,
-    took: 0,
-};
-
-impl Share {
-    /// Whether something moved for it within a second.
-    fn is_active(&self, passed: u64) -> bool {
-        match self.active {
-            Some(active) => passed.saturating_sub(active) < ACTIVE_TIME,
-            None => false,
-        }
-    }
-
-    /// Whether it rests, where something moved last at this moment for another one. It does so
-    /// until as much time went by as it took, or as nothing moved for a quarter of that.
-    fn rests(&self, passed: u64, other: u64) -> bool
-        ensures end { IsTrue result → passed - self.now.ended < self.now.took }
-    {
-        let rested = passed.saturating_sub(self.ended);
-        let quiet = passed.saturating_sub(other);
-        let is_other_active = quiet < self.took.saturating_add(ACTIVE_TIME);
-        rested < self.took
-            && is_other_active
-            && quiet.min(rested) < LEAST_PATIENCE.max(self.took / 4)
-    }
-}
 
 /// Lets no instance have all the time.
 #[derive(Drop)]
@@ -110,8 +45,12 @@ pub(crate) struct Pace {
     turn: u64,
     /// What the clock showed last.
     passed: u64,
+    /// What the server had of processors when that was asked last, and what was charged since.
+    processor: ProcessorTime,
     /// The heavy instance that has its slice in this turn.
     chosen: Option<u32>,
+    /// Whether another heavy one was passed over in this turn that does not rest.
+    is_passed_over: bool,
     /// Whether it has it now, and the quick ones do not.
     is_heavy_now: bool,
     /// Whether its runs come before its connections in this turn.
@@ -135,7 +74,9 @@ impl Pace {
             shares: vec![in alloc; UNUSED; instances]?,
             turn: 0,
             passed: 0,
+            processor: ProcessorTime { had: 0, lacked: 0 },
             chosen: None,
+            is_passed_over: false,
             is_heavy_now: false,
             runs_first: false,
             is_due: false,
@@ -146,13 +87,17 @@ impl Pace {
         })
     }
 
-    /// The next turn begins, when the clock shows this, for the quick ones at first; and those runs
-    /// are asked that wait, or not.
-    pub(crate) fn begin(&mut self, passed: u64, is_due: bool) {
+    /// The next turn begins, for the quick ones at first; and those runs are asked that wait, or
+    /// not. So often it is asked, too, what the server had of processors.
+    pub(crate) fn begin<S: Sockets>(&mut self, sockets: &S, is_due: bool) {
         let had_turn = self.chosen;
         self.turn = self.turn.wrapping_add(1);
-        self.passed = passed;
+        self.passed = sockets.passed();
+        if is_due {
+            self.processor = sockets.processor();
+        }
         self.chosen = None;
+        self.is_passed_over = false;
         self.is_heavy_now = false;
         self.is_due = is_due;
         self.waiting = MOST_WAITING;
@@ -217,8 +162,25 @@ impl Pace {
     }
 
     /// Whether an instance may rest now, or waits for its slice.
-    pub(crate) fn may_rest(&self) -> bool {
+    fn may_rest(&self) -> bool {
         self.shares.iter().any(|share| self.passed.saturating_sub(share.ended) < share.took)
+    }
+
+    /// For how many milliseconds the sockets may wait for something to come, behind a turn: not at
+    /// all where something moved, or where a heavy instance was passed over, which may go on; for one
+    /// where there are runs, which are to be asked, or where an instance may rest.
+    pub(crate) fn patience(&self, has_moved: bool, has_runs: bool) -> u64
+        ensures at_once { has_moved ≡ true → result ≡ 0 }
+        ensures passed_over { self.now.is_passed_over ≡ true → result ≡ 0 }
+        ensures bound { result ≤ 50 }
+    {
+        if has_moved || self.is_passed_over {
+            0
+        } else if has_runs || self.may_rest() {
+            1
+        } else {
+            QUIET_TIME
+        }
     }
 
     /// Chooses the heavy instance whose turn it is, if it is that of one.
@@ -240,6 +202,27 @@ impl Pace {
         }
         self.chosen = chosen;
         self.runs_first = !self.runs_first;
+        self.is_passed_over = self.passes_over();
+    }
+
+    /// Whether a heavy instance is not the chosen one, and does not rest.
+    fn passes_over(&self) -> bool
+        ensures left { result ≡ false → (number : ℕ) (share : Share)
+            → slice_get self.now.shares.items number ≡ Some share → share.is_heavy ≡ true
+            → (self.now.chosen ≡ Some number) ⊎ IsOwed self.now.passed (Some share) }
+    {
+        let mut number: u32 = 0;
+        while let Some(share) = self.shares.get(number as usize) {
+            if share.is_heavy && self.chosen != Some(number) && !self.rests(number) {
+                return true;
+            }
+            // There are no instances behind the last number.
+            let Some(next) = number.checked_add(1) else {
+                return true;
+            };
+            number = next;
+        }
+        false
     }
 
     /// Whether the chosen instance's runs come before its connections in this turn.
@@ -377,7 +360,7 @@ impl Pace {
         if tried == Tried::NotReady {
             return;
         }
-        self.charge(sockets.passed(), instance);
+        let _charged = self.charge(sockets, sockets.passed(), instance, Work::Exchange);
         self.note_active(instance);
         if self.chosen == Some(instance) {
             self.from = place.saturating_add(1);
@@ -386,14 +369,14 @@ impl Pace {
 
     /// A run of an instance was asked, and the clock shows this. Whether no further one is asked in
     /// this turn.
-    pub(crate) fn note_asked(&mut self, passed: u64, instance: u32) -> bool
+    pub(crate) fn note_asked<S: Sockets>(&mut self, sockets: &S, passed: u64, instance: u32) -> bool
         ensures dear { 10000 ≤ passed - self.old.passed → result ≡ true }
         ensures others { (other : ℕ) → other ≢ instance → slice_get self.new.shares.items other
             ≡ slice_get self.old.shares.items other }
     {
         let took = passed.saturating_sub(self.passed);
-        self.charge(passed, instance);
-        if took >= WORTH_NOTING {
+        let charged = self.charge(sockets, passed, instance, Work::Asking);
+        if charged >= WORTH_NOTING {
             self.note_active(instance);
         }
         self.asked = self.asked.saturating_add(took);
@@ -401,39 +384,58 @@ impl Pace {
     }
 
     /// What was done for an instance since the clock was read last has ended, when it shows this.
-    fn charge(&mut self, passed: u64, instance: u32)
+    /// How much of that is charged. A short piece is charged by the clock: such are many, and to ask
+    /// for more would take a part of each.
+    fn charge<S: Sockets>(&mut self, sockets: &S, passed: u64, instance: u32, work: Work) -> u64
         ensures dear { 10000 ≤ passed - self.old.passed → self.new.is_spent ≡ true }
+        ensures most { AreChargedAtMost (passed - self.old.passed) instance
+            self.old.shares.items self.new.shares.items }
         ensures others { (other : ℕ) → other ≢ instance → slice_get self.new.shares.items other
             ≡ slice_get self.old.shares.items other }
     {
         let took = passed.saturating_sub(self.passed);
         self.passed = passed;
-        if let Some(share) = self.shares.get_mut(instance as usize) {
-            share.spent = share.spent.saturating_add(took);
-            share.had = share.had.saturating_add(took);
+        if took < SLICE {
+            self.charge_short(took, instance);
+            return took;
         }
-        if took >= LONG {
-            self.charge_long(took, instance);
-        }
+        self.is_spent = self.is_spent || took >= DEAR;
+        self.charge_piece(took, sockets.processor(), instance, work)
     }
 
-    /// A long piece of an instance has ended now, which took so much.
-    fn charge_long(&mut self, took: u64, instance: u32)
-        ensures dear { 10000 ≤ took → self.new.is_spent ≡ true }
+    /// A short piece of an instance took so much.
+    fn charge_short(&mut self, took: u64, instance: u32)
+        requires short { took < 200 }
+        ensures most { AreChargedAtMost took instance
+            self.old.shares.items self.new.shares.items }
         ensures others { (other : ℕ) → other ≢ instance → slice_get self.new.shares.items other
             ≡ slice_get self.old.shares.items other }
     {
+        self.processor.had = self.processor.had.saturating_add(took);
+        let passed = self.passed;
+        if let Some(share) = self.shares.get_mut(instance as usize) {
+            // It is neither long nor dear.
+            share.charge(took, passed, 0);
+        }
+    }
+
+    /// A piece of an instance has ended now, which took so much, when the server had this of
+    /// processors. How much of that is charged.
+    fn charge_piece(&mut self, took: u64, now: ProcessorTime, instance: u32, work: Work) -> u64
+        ensures most { AreChargedAtMost took instance
+            self.old.shares.items self.new.shares.items }
+        ensures processor { AreChargedAtMost (most_charged work took self.old.processor now)
+            instance self.old.shares.items self.new.shares.items }
+        ensures others { (other : ℕ) → other ≢ instance → slice_get self.new.shares.items other
+            ≡ slice_get self.old.shares.items other }
+        ensures spent { self.new.is_spent ≡ self.old.is_spent }
+    {
+        let charged = charged_of(work, took, self.processor, now);
+        self.processor = now;
         let (passed, least) = (self.passed, self.least_had(false).unwrap_or(0));
         if let Some(share) = self.shares.get_mut(instance as usize) {
-            share.long = Some(passed);
-            share.had = share.had.min(least.saturating_add(MOST_AHEAD));
-            if took >= DEAR {
-                share.ended = passed;
-                share.took = took.min(MOST_REST);
-            }
+            share.charge(charged, passed, least);
         }
-        if took >= DEAR {
-            self.is_spent = true;
-        }
+        charged
     }
 }

@@ -1,6 +1,7 @@
 //! The turns.
 
 ghost use Rattle.std.specs.Prelude.{◌≡◌, ◌<◌, ◌≤◌, ℕ, [], length, true, Some, IfSome, IfOk, IfErr};
+ghost use Rattle.serve.specs.Absence.{IsCatchingUp};
 ghost use Rattle.serve.specs.Numbers.{NumbersAreApart};
 ghost use Rattle.serve.specs.FaultLines.{WritesLines, WritesLinesAt};
 ghost use Rattle.serve.specs.KeepsOpen.{HasAllOpen, LacksRoom};
@@ -8,6 +9,7 @@ ghost use Rattle.serve.specs.SocketEvents.{Adds};
 ghost use Rattle.serve.specs.Served.{WasServed};
 ghost use Rattle.serve.specs.KeepsServing.{IsServing, KeepsServing};
 
+use crate::absence::Absence;
 use crate::asking::ask_all;
 use crate::carrying::{Counting, tell};
 use crate::counts::{Occurrence, ServeCounts};
@@ -29,9 +31,6 @@ use std::io::Write;
 /// How many microseconds a millisecond has.
 const MILLISECOND: u64 = 1_000;
 
-/// For how many milliseconds at most nothing is told where nothing comes and nothing runs.
-const QUIET_TIME: u64 = 50;
-
 /// A server, and its open connections.
 #[derive(Drop)]
 struct Serving {
@@ -40,6 +39,7 @@ struct Serving {
     instances: u32,
     /// What the clock showed last, in milliseconds since the start.
     moment: u64,
+    absence: Absence,
     /// When the ports were tried last.
     tried: Option<u64>,
     /// In order of opening.
@@ -69,6 +69,7 @@ impl Serving {
             },
             instances: configs.instances().len() as u32,
             moment: 0,
+            absence: Absence::none(),
             tried: None,
             connections: Vec::new(alloc),
             next: Some(0),
@@ -93,22 +94,6 @@ impl Serving {
             counts: &self.counting.counts,
             dropped,
             moment: self.moment,
-        }
-    }
-
-    /// For how many milliseconds the sockets may wait for something to come, behind a turn: not at
-    /// all where something moved; for one where there are runs, which are to be asked, or where an
-    /// instance may rest.
-    fn patience<R: Runs>(&self, runs: &R, has_moved: bool) -> u64
-        ensures at_once { has_moved ≡ true → result ≡ 0 }
-        ensures bound { result ≤ 50 }
-    {
-        if has_moved {
-            0
-        } else if runs.count() > 0 || self.pace.may_rest() {
-            1
-        } else {
-            QUIET_TIME
         }
     }
 
@@ -180,7 +165,9 @@ impl Serving {
         ensures instances { self.new.instances ≡ self.old.instances }
         ensures opened { HasAllOpen self.new (S.happened sockets.new) }
     {
+        let before = self.moment;
         self.moment = sockets.now();
+        self.absence.look(before, self.moment);
         for instance in 0..self.instances {
             let _ = tell(&mut self.counting, runs, self.moment, instance, What::Tick);
         }
@@ -260,7 +247,7 @@ impl Serving {
     }
 
     /// Closes the connection of an instance that has been silent longest, if one may make room, for
-    /// the next that waits.
+    /// the next that waits. None does where the server was away just now: bytes may wait on it.
     fn make_room<S: Sockets, R: Runs>(&mut self, sockets: &mut S, runs: &mut R, instance: u32)
         requires one { instance < self.old.instances }
         requires opened { HasAllOpen self.old (S.happened sockets.old) }
@@ -273,7 +260,12 @@ impl Serving {
         ensures no_fault { R.faulted runs.new ≡ R.faulted runs.old }
         ensures instances { self.new.instances ≡ self.old.instances }
         ensures opened { HasAllOpen self.new (S.happened sockets.new) }
+        ensures away { IsCatchingUp self.old.moment self.old.absence
+            → self.new.connections ≡ self.old.connections }
     {
+        if self.absence.is_recent(self.moment) {
+            return;
+        }
         let found = longest_silent(
             &self.counting.server,
             &self.connections,
@@ -313,7 +305,7 @@ impl Serving {
         ensures instances { self.new.instances ≡ self.old.instances }
         ensures opened { HasAllOpen self.new (S.happened sockets.new) }
     {
-        self.pace.begin(sockets.passed(), is_due);
+        self.pace.begin(sockets, is_due);
         let end = self.connections.len();
         let moved = self.exchange_part(sockets, runs, 0, end);
         self.pace.choose();
@@ -441,7 +433,7 @@ impl Serving {
 /// was told. Where an instance has as many as it may have and another client comes, that client's
 /// is closed, and so is one of the others: the longest silent of those with no call in course that
 /// its client sent whole, from which no byte came for 60 seconds, or for 10 where the preface is
-/// not whole.
+/// not whole. For ten seconds behind an absence of the server of two or more none makes room.
 ///
 /// What an instance orders is carried out at once. In each turn the runs go on, one after another,
 /// for a millisecond at most; where all wait for programs or folders, 64 of them at most, once a
@@ -493,7 +485,7 @@ pub fn serve<S: Sockets, R: Runs, E: Write, W: Watch>(
         if !watch.look(&serving.sight(errors.dropped())) {
             return Ok(serving.tally());
         }
-        sockets.rest(serving.patience(runs, has_moved));
+        sockets.rest(serving.pace.patience(has_moved, runs.count() > 0));
     }
     Ok(serving.tally())
 }

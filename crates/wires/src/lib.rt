@@ -90,6 +90,16 @@ pub struct News {
     pub may_write: bool,
 }
 
+/// What a server had of its host's processors since its start, in microseconds. It rises by no more
+/// than the time that passes.
+#[derive(Clone, Copy)]
+pub struct ProcessorTime {
+    /// For how long it ran.
+    pub had: u64,
+    /// For how long it could have run, and had no processor; or less, where the host can't say.
+    pub lacked: u64,
+}
+
 /// What a server has of its host: doors, a clock, and whatever tells what came at them.
 pub trait Host: Drop {
     ghost use Rattle.wires.specs.declared.News.{News};
@@ -123,4 +133,7 @@ pub trait Host: Drop {
 
     /// The microseconds since the start.
     fn passed(&self) -> io::Result<u64>;
+
+    /// What the server had of processors meanwhile.
+    fn processor(&self) -> io::Result<ProcessorTime>;
 }

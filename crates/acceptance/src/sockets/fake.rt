@@ -2,7 +2,7 @@
 
 ghost use Rattle.std.specs.Prelude.{◌≤◌, length};
 
-use serve::{Socket, Sockets};
+use serve::{ProcessorTime, Socket, Sockets};
 use server_events::{Event, What};
 use std::alloc::Global;
 use std::io::{self, ErrorKind};
@@ -198,6 +198,14 @@ impl<'a> Sockets for Fake<'a> {
     /// The clock is read in each turn.
     fn passed(&self) -> u64 {
         self.moment.saturating_add(1).saturating_mul(1_000)
+    }
+
+    /// The server is never without a processor.
+    fn processor(&self) -> ProcessorTime {
+        ProcessorTime {
+            had: self.passed(),
+            lacked: 0,
+        }
     }
 
     fn accept(&mut self, socket: Socket) -> io::Result<()> {

@@ -7,7 +7,7 @@ use host_sockets::{HostSockets, ListenError};
 use host_wires::ThisHost;
 use mio::net::TcpStream;
 use program_status::{Fault, Output};
-use serve::{LoggedSockets, Socket, SocketRecord, Sockets};
+use serve::{LoggedSockets, ProcessorTime, Socket, SocketRecord, Sockets};
 use server_core::{Outputs, run};
 use server_events::{Configs, Event, What};
 use std::io::{self, Read, Write};
@@ -63,6 +63,10 @@ impl<'a> Sockets for WithPeers<'a> {
     /// The clients have a part of each turn.
     fn passed(&self) -> u64 {
         self.sockets.passed().saturating_add(1_000)
+    }
+
+    fn processor(&self) -> ProcessorTime {
+        self.sockets.processor()
     }
 
     fn accept(&mut self, socket: Socket) -> io::Result<()> {

@@ -4,8 +4,9 @@
 PROGRAM is the built `remoted`. Each part has a second team that notices nothing. `all` ends 8 runs and 1,000 jobs that
 wait, of one team, and a build of that team goes on at once; `some` ends those of one action, and those that nobody waits
 for; `bad` has lines without form, and files that cannot be taken; `launcher` ends what a launcher runs that does not
-end at once; `reasons` has runs fail, and looks at the lines that say why; `links` has runs leave links in output
-directories. A line for each thing that holds; it ends with status 1 at the first that does not.
+end at once; `reasons` has runs fail, and looks at the lines that say why; `rules` has outputs break a rule, and looks
+at the figures, too; `links` has runs leave links in output directories. A line for each thing that holds; it ends with
+status 1 at the first that does not.
 """
 
 import argparse
@@ -18,7 +19,7 @@ import time
 import messages as m
 from executing import Action, Peer
 from waiting_jobs import Alike
-from watched import Watched, expect, within
+from watched import Watched, expect, figures_of, key, within
 
 FAILED = (13, "run failed")
 CALLS = 100
@@ -202,27 +203,38 @@ def by_launcher(program):
             hears(server, "remoted: red: jobs ended by an operator: 1")
 
 
+def failing():
+    """Actions whose runs fail: with the word, the reason, and what is shown of the first word of the command."""
+    given = {"refused": b"#!/bin/sh\n", "folder": {}}
+    for words, why, shown in [
+        (["/no/such/program"], "no such program", "/no/such/program"),
+        (["no\n\x1b[0mremoted: run x"], "no such program", "no\\n\\x1b[0mremoted: run x"),
+        (["x" * 300], "no such program", "x" * 100),
+        (["./refused"], "Permission denied", "./refused"),
+        (["./folder"], "Permission denied", "./folder"),
+        (["refused"], "Permission denied", "refused"),
+        (["/bin/true", "x" * 140_000], "argument list too long", None),
+    ]:
+        yield Action(words, given, variables=[("PATH", "/no:.:/usr/bin")]), "start", why, shown
+    name = Action("rm -rf out; mkdir -p out/x && cd out && touch $(printf 'a\\377b')", directories=["out"])
+    yield name, "folder", "a name is not UTF-8", "/bin/sh"
+    deep = Action("true", folder="/".join(["d"] * 192))
+    yield deep, "folder", "a path has more than 191 directories", "/bin/sh"
+    deeper = Action("true", folder="/".join(["d"] * 100), paths=["/".join(["o"] * 93)])
+    yield deeper, "folder", "a path has more than 191 directories", "/bin/sh"
+    many = Action("true", paths=[f"o{at}" for at in range(20_001)])
+    yield many, "folder", "more than 20000 outputs are named", None
+
+
 def reasons(program):
     with two_teams(program, slots=1) as (server, red, blue, _):
         told = lambda job, word, why: (f"remoted: run red {job} failed: {word}", f"remoted: run red {job}: {why}")
-        for job, (words, word, why, shown) in enumerate(
-            [
-                (["/no/such/program"], "start", "no such program", "/no/such/program"),
-                (["no\n\x1b[0mremoted: run x"], "start", "no such program", "no\\n\\x1b[0mremoted: run x"),
-                (["x" * 300], "start", "no such program", "x" * 100),
-                (["/bin/true", "x" * 140_000], "start", "argument list too long", None),
-            ],
-            1,
-        ):
-            action = Action(words)
+        for job, (action, word, why, shown) in enumerate(failing(), 1):
             done = red.execute(action)
             expect((done.status.code, done.status.text) == FAILED, f"a run fails: {word}")
             hash = m.first(action.digest, 1).decode()[:6]
             hears(server, *told(job, word, f"{why}, action {hash}.." + ("" if shown is None else f", {shown}")))
-        action = Action("rm -rf out; mkdir -p out/x && cd out && touch $(printf 'a\\377b')", directories=["out"])
-        red.execute(action)
-        hash = m.first(action.digest, 1).decode()[:6]
-        hears(server, *told(5, "folder", f"a name is not UTF-8, action {hash}.., /bin/sh"))
+            time.sleep(0.1)  # Ten in a second are told.
         for _ in range(15):
             red.execute(Action(["/no/such/program"]))
         lines = server.said(True)[server.wanted :]
@@ -254,6 +266,48 @@ def links(program):
         blue.calls()
 
 
+def rules(program):
+    """Outputs that break a rule: the run fails, whatever its program's code, and counts as such."""
+    fill = "mkdir out; cd out; seq %d | xargs touch"
+    sink = "mkdir out; cd out; i=1; while [ $i -lt %d ]; do mkdir s; cd s; i=$((i+1)); done; : > f"
+    many = "an output directory has more than 10000 files and directories"
+    deep = "an output directory has more than 64 levels"
+    kind = "an output is a file, and a directory is asked for, or the other way round"
+    broken = [
+        (Action(fill % 10_001, paths=["out"]), many),
+        (Action(fill % 10_001 + "; exit 3", paths=["out"]), many),
+        (Action(sink % 65, directories=["out"]), deep),
+        (Action("mkdir out", files=["out"]), kind),
+        (Action("echo text > out", directories=["out"]), kind),
+        (Action("echo text > out", files=["out"], directories=["out"]), kind),
+    ]
+    kept = [Action(fill % 10_000, paths=["out"]), Action(sink % 64, directories=["out"])]
+    kept.append(Action("true", files=["out"], directories=["none"]))
+    with tempfile.TemporaryDirectory() as folder:
+        path = pathlib.Path(folder, "remoted.prom")
+        with two_teams(program, words=["--metrics", str(path)]) as (server, red, blue, _):
+            for job, (action, why) in enumerate(broken, 1):
+                done = red.execute(action)
+                expect((done.status.code, done.status.text) == FAILED, why)
+                expect(done.result is None and red.cached(action) is None, "nothing of it is answered or stored")
+                hash = m.first(action.digest, 1).decode()[:6]
+                run = f"remoted: run red {job}"
+                hears(server, f"{run} failed: folder", f"{run}: {why}, action {hash}.., /bin/sh")
+            for action in kept:
+                done = red.execute(action)
+                expect(done.status.code == 0 and done.result.code == 0, "what keeps the rules goes well")
+            blue.calls()
+            expect(not server.said(True)[server.wanted :], "and nothing else is said", server.said(True)[server.wanted :])
+            began = time.time() + 1
+            within(25, lambda: path.exists() and path.stat().st_mtime > began)
+            found = figures_of(path)
+        how = lambda word: found[key("jobs_ended_total", instance="red", how=word)]
+        counted = {word: how(word) for word in ["succeeded", "failed", "not_run"]}
+        expect(counted == {"succeeded": 3, "failed": 0, "not_run": 6}, "they count as runs that failed", counted)
+        faults = found[key("run_faults_total", instance="red", word="folder")]
+        expect(faults == 6, "by this word", faults)
+
+
 PARTS = {
     "all": all_jobs,
     "some": some_jobs,
@@ -261,6 +315,7 @@ PARTS = {
     "launcher": by_launcher,
     "reasons": reasons,
     "links": links,
+    "rules": rules,
 }
 
 

@@ -134,5 +134,6 @@ def not_started(report, program, folder):
     found = told(program, bare, before=lambda: os.chmod(bare, 0o644))
     expect(report, "one that may not be run", found, failed("start", "permission denied"))
     named = told(program, script(folder, "well", WELL), ("A=B", "x"))
-    wanted = failed("start", "invalid input parameter", ("A=B", "x"))
+    why = "the program has a = in its name, so a launcher would take it for a variable"
+    wanted = failed("start", why, ("A=B", "x"))
     expect(report, "a program that would be taken for a variable", named, wanted)

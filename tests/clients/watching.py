@@ -100,11 +100,12 @@ def known_actions(peer):
     """Actions of the instance blue, and how many ended how."""
     good, bad = Action("echo good > out", paths=["out"]), Action("exit 3")
     late, lost = Action("sleep 100", seconds=1), Action(["/no/such/program"])
-    for action in [good, bad, late, lost]:
+    many = Action("mkdir out; cd out; seq 10001 | xargs touch", paths=["out"])
+    for action in [good, bad, late, lost, many]:
         peer.store(action.blobs)
         peer.executed(action)
     expect(peer.executed(good).is_cached, "an action is answered from the cache")
-    return {"succeeded": 1, "failed": 1, "timed_out": 1, "not_run": 1}
+    return {"succeeded": 1, "failed": 1, "timed_out": 1, "not_run": 2}
 
 
 def of_instance(found, instance, names):
@@ -170,13 +171,13 @@ def compare(found, counts, stored, ended):
     faults = {name: value for name, value in found.items() if name[0] == "remoted_connections_closed_fault_total"}
     wanted = {key("connections_closed_fault_total", instance="red", code="FRAME_SIZE_ERROR"): 1}
     expect(faults == wanted, "a connection's fault is told by its code", faults)
-    wanted = {"execute_hits_total": 1, "execute_queued_total": 4, "jobs_waiting": 0, "jobs_running": 0}
+    wanted = {"execute_hits_total": 1, "execute_queued_total": 5, "jobs_waiting": 0, "jobs_running": 0}
     seen = of_instance(found, "blue", wanted)
     expect(seen == wanted, "the figures of actions are those of its calls", (seen, wanted))
     seen = {how: found[key("jobs_ended_total", instance="blue", how=how)] for how in ended}
     expect(seen == ended, "actions ended as they should", (seen, ended))
     seen = by_label(found, "remoted_run_faults_total", "word")
-    expect(seen == {"start": 1}, "what runs failed by is told by its word", seen)
+    expect(seen == {"start": 1, "folder": 1}, "what runs failed by is told by its word", seen)
     seen = by_label(found, "remoted_refused_total", "cause")
     expect(seen == {"quota exceeded": 1}, "what a limit ended is told by its cause", seen)
     ran = found[key("jobs_ran_seconds_total", instance="blue")]

@@ -50,6 +50,12 @@ fn opened(descriptor: i32) -> io::Result<Directory> {
     Ok(Directory { descriptor })
 }
 
+/// A name is none that an entry of a directory can have.
+fn no_entry() -> io::Error {
+    let words = "a name is empty, . or .., or has a / in it";
+    io::Error::new(ErrorKind::InvalidFilename, words)
+}
+
 /// Whether an entry of a directory can have this name: it leads to no other directory.
 fn is_of_entry(name: &[u8]) -> bool {
     !name.is_empty() && !is_dots(name) && !name.contains(&b'/')
@@ -69,7 +75,7 @@ impl Directory {
     /// The directory of this name in this one. A link is none.
     pub fn open_in(&self, name: &[u8]) -> io::Result<Directory> {
         if !is_of_entry(name) {
-            return Err(io::Error::from(ErrorKind::InvalidFilename));
+            return Err(no_entry());
         }
         opened(os::open_dir_at(self.descriptor, name))
     }
@@ -130,7 +136,7 @@ impl Directory {
     /// A path to what has this name in this directory, as long as that is open.
     pub fn path_of(&self, alloc: Global, name: &str) -> io::Result<String> {
         if !is_of_entry(name.as_bytes()) {
-            return Err(io::Error::from(ErrorKind::InvalidFilename));
+            return Err(no_entry());
         }
         let mut path = self.path(alloc)?;
         path.push_str(name)?;
@@ -153,7 +159,7 @@ impl Directory {
 
     fn path_of_bytes(&self, alloc: Global, name: &[u8]) -> io::Result<Vec<u8>> {
         if !is_of_entry(name) {
-            return Err(io::Error::from(ErrorKind::InvalidFilename));
+            return Err(no_entry());
         }
         let mut path = self.path(alloc)?.into_bytes();
         path.extend_from_slice(name)?;

@@ -7,6 +7,9 @@ use std::io::{self, ErrorKind};
 /// and what is taken of output directories have 64 levels at most.
 const MOST_NAMES: usize = 192;
 
+/// What is said of a path with more, of which the run's name is none for whoever reads that.
+const TOO_DEEP: &str = "a path has more than 191 directories";
+
 /// A directory below the folder of a start that was gone down to.
 #[derive(Drop)]
 pub struct Entered {
@@ -86,7 +89,7 @@ impl<'a> Entrance<'a> {
         path: &'b str,
     ) -> io::Result<(Directory, &'b str)> {
         if is_deep(path) {
-            return Err(io::Error::from(ErrorKind::InvalidFilename));
+            return Err(io::Error::new(ErrorKind::InvalidFilename, TOO_DEEP));
         }
         if let Some(
             Entered {

@@ -7,8 +7,12 @@ use std::io::{self, ErrorKind};
 /// How many outputs of a run are made room for.
 const MOST_OUTPUTS: u32 = 20_000;
 
+const TOO_MANY_OUTPUTS: &str = "more than 20000 outputs are named";
+
 /// How many entries of a run's output directories are listed, of all of them together.
 const MOST_ENTRIES: usize = 50_000;
+
+const TOO_MANY_ENTRIES: &str = "the output directories have more than 50000 files and directories";
 
 /// What was made room for and listed of a run.
 #[derive(Clone, Copy)]
@@ -54,7 +58,7 @@ impl Tallies {
         for tally in &mut self.runs {
             if tally.is_of(run) {
                 tally.outputs = tally.outputs.saturating_add(1);
-                return within(tally.outputs <= MOST_OUTPUTS);
+                return within(tally.outputs <= MOST_OUTPUTS, TOO_MANY_OUTPUTS);
             }
         }
         Ok(())
@@ -65,7 +69,7 @@ impl Tallies {
         for tally in &mut self.runs {
             if tally.is_of(run) {
                 tally.entries = tally.entries.saturating_add(count);
-                return within(tally.entries <= MOST_ENTRIES);
+                return within(tally.entries <= MOST_ENTRIES, TOO_MANY_ENTRIES);
             }
         }
         Ok(())
@@ -94,10 +98,11 @@ impl Tallies {
     }
 }
 
-fn within(is_within: bool) -> io::Result<()> {
+/// An error with these words, where a limit is passed.
+fn within(is_within: bool, words: &'static str) -> io::Result<()> {
     if is_within {
-        return Ok(());
+        Ok(())
+    } else {
+        Err(io::Error::new(ErrorKind::FileTooLarge, words))
     }
-    let words = "more outputs, or entries of output directories, than are taken";
-    Err(io::Error::new(ErrorKind::FileTooLarge, words))
 }

@@ -206,7 +206,8 @@ pub fn begin_work(
     }
     let whole = fs::canonicalize(rt, path)?;
     let Some(path) = whole.to_str() else {
-        return Err(WorkFault::Unusable(io::Error::from(ErrorKind::InvalidFilename)));
+        let words = "its path is not UTF-8";
+        return Err(WorkFault::Unusable(io::Error::new(ErrorKind::InvalidFilename, words)));
     };
     let directory = Directory::open(path)?;
     let Some(mark) = marked(rt, &directory)? else {

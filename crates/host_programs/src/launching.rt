@@ -56,9 +56,7 @@ impl Launcher {
         let Some(instance) = self.instances.get(place.run.instance as usize) else {
             return Err(io::Error::from(ErrorKind::InvalidInput));
         };
-        if !can_be_told(ordered) {
-            return Err(io::Error::from(ErrorKind::InvalidInput));
-        }
+        check_name(ordered)?;
         let words = launcher_words(
             alloc,
             self.program.as_str(),
@@ -139,12 +137,17 @@ fn add_copies(words: &mut Vec<String>, arguments: &[String]) -> Result<(), Alloc
     Ok(())
 }
 
-/// Whether a command can be told behind variables: a program with `=` in its name would be taken
+/// Refuses a program that cannot be told behind variables: one with `=` in its name would be taken
 /// for one of these.
-fn can_be_told(ordered: &Ordered) -> bool {
+fn check_name(ordered: &Ordered) -> io::Result<()> {
     match ordered.arguments.first() {
-        Some(program) => !program.as_str().contains('='),
-        None => false,
+        Some(program) if program.as_str().contains('=') => {
+            let words =
+                "the program has a = in its name, so a launcher would take it for a variable";
+            Err(io::Error::new(ErrorKind::InvalidInput, words))
+        }
+        Some(_) => Ok(()),
+        None => Err(io::Error::new(ErrorKind::InvalidInput, "no program is named")),
     }
 }
 
@@ -161,7 +164,8 @@ fn check_program<R: Files>(rt: &R, path: &str) -> io::Result<()> {
 pub fn launcher_path(rt: &HostRuntime, program: &str) -> io::Result<String> {
     let whole = fs::canonicalize(rt, program)?;
     let Some(path) = whole.to_str() else {
-        return Err(io::Error::from(ErrorKind::InvalidFilename));
+        let words = "its path is not UTF-8";
+        return Err(io::Error::new(ErrorKind::InvalidFilename, words));
     };
     check_program(rt, path)?;
     Ok(String::from_str(rt.alloc(), path)?)

@@ -14,7 +14,7 @@ use crate::children::reap;
 use crate::exec_size::check_size;
 use crate::host::has_sessions;
 use crate::launching::Launcher;
-use crate::search::{Search, search_from};
+use crate::search::{Progress, Search, search_from};
 use crate::sought::Sought;
 use crate::spawner::Spawner;
 use crate::started::{self, Started, StartedAs};
@@ -44,6 +44,11 @@ fn place_of(started: &[Started], run: RunKey) -> io::Result<usize>
 /// There is no program of the name that a command gives.
 fn missing() -> io::Error {
     io::Error::new(ErrorKind::NotFound, "no such program")
+}
+
+/// What has that name may not be executed, as the system says it.
+fn refused() -> io::Error {
+    io::Error::new(ErrorKind::PermissionDenied, "Permission denied")
 }
 
 /// Lets go of programs that have ended since, and sees to the shell.
@@ -150,11 +155,12 @@ impl<'a, R: Clock + Files<File = File> + AllocGlobal, S: Spawner> Table<'a, R, S
     {
         let alloc = self.rt.alloc();
         let directory = working_path(alloc, self.work.as_str(), place)?;
-        match search_from(self.rt, directory.as_str(), ordered, 0)? {
+        match search_from(self.rt, directory.as_str(), ordered, Progress::none())? {
             Search::Found => self.start_found(place.run, directory.as_str(), ordered),
             Search::Missing => Err(missing()),
-            Search::GoesOn(from) => {
-                let sought = Sought::new(alloc, place.run, ordered, directory, from)?;
+            Search::Refused => Err(refused()),
+            Search::GoesOn(progress) => {
+                let sought = Sought::new(alloc, place.run, ordered, directory, progress)?;
                 self.way.add(sought)?;
                 Ok(())
             }
@@ -218,6 +224,7 @@ impl<'a, R: Clock + Files<File = File> + AllocGlobal, S: Spawner> Table<'a, R, S
                 self.start_found(sought.run(), sought.directory(), sought.ordered())
             }
             Search::Missing => Err(missing()),
+            Search::Refused => Err(refused()),
             Search::GoesOn(_) => {
                 self.way.add(sought)?;
                 Ok(())

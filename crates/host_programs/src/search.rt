@@ -15,59 +15,106 @@ const MOST_FOLDERS: usize = 1_024;
 /// The most bytes of a path that the system takes.
 const MOST_PATH: usize = 4_095;
 
+/// Where the search for a program goes on, and what it has met.
+#[derive(Clone, Copy)]
+pub(crate) struct Progress {
+    /// From which byte of the search path on it was not looked yet.
+    from: usize,
+    /// Whether something was met that the system does not let the server execute.
+    is_refused: bool,
+}
+
+impl Progress {
+    /// Nothing was looked at yet.
+    pub(crate) fn none() -> Progress {
+        Progress {
+            from: 0,
+            is_refused: false,
+        }
+    }
+
+    /// What comes of a search that is over, and found no program.
+    fn over(self) -> Search {
+        if self.is_refused {
+            Search::Refused
+        } else {
+            Search::Missing
+        }
+    }
+}
+
 /// How far the search for a program has come.
 #[derive(Clone, Copy)]
 pub(crate) enum Search {
     Found,
     Missing,
-    /// It goes on with this byte of the search path.
-    GoesOn(usize),
+    /// What is there may not be executed.
+    Refused,
+    /// It is not over.
+    GoesOn(Progress),
 }
 
-/// Goes on with the search for a program that can be executed, from this byte of its search path
-/// on, in a bounded number of folders. A name with a slash in it is one from the working directory
-/// on; any other is looked for along the command's own `PATH`.
+/// What stands where a program is looked for.
+#[derive(Clone, Copy, PartialEq, Eq)]
+enum Place {
+    /// A file that may be executed.
+    Program,
+    /// Something that may not, or that the server may not look at.
+    Refused,
+    Nothing,
+}
+
+/// Goes on with the search for a program that can be executed, in a bounded number of folders. A
+/// name with a slash in it is one from the working directory on; any other is looked for along the
+/// command's own `PATH`.
 pub(crate) fn search_from<R: Files + AllocGlobal>(
     rt: &R,
     directory: &str,
     ordered: &Ordered,
-    from: usize,
+    progress: Progress,
 ) -> io::Result<Search> {
     let Some(program) = ordered.arguments.first() else {
         return Err(io::Error::from(ErrorKind::InvalidInput));
     };
     let program = program.as_str();
     if program.contains('/') {
-        let is_found = can_execute(rt, directory, "", program)?;
-        return Ok(if is_found {
-            Search::Found
-        } else {
-            Search::Missing
+        return Ok(match look(rt, directory, "", program)? {
+            Place::Program => Search::Found,
+            Place::Refused => Search::Refused,
+            Place::Nothing => Search::Missing,
         });
     }
     let path = search_path(ordered);
-    let mut next = from;
-    for folder in path.get(from..).unwrap_or("").split(':').take(MOST_FOLDERS) {
-        if can_execute(rt, directory, folder, program)? {
-            return Ok(Search::Found);
+    let mut next = progress;
+    for folder in path
+        .get(next.from..)
+        .unwrap_or("")
+        .split(':')
+        .take(MOST_FOLDERS)
+    {
+        match look(rt, directory, folder, program)? {
+            Place::Program => return Ok(Search::Found),
+            Place::Refused => next.is_refused = true,
+            Place::Nothing => {}
         }
-        next = next.saturating_add(folder.len()).saturating_add(1);
+        next.from = next.from.saturating_add(folder.len()).saturating_add(1);
     }
-    Ok(if next > path.len() {
-        Search::Missing
+    Ok(if next.from > path.len() {
+        next.over()
     } else {
         Search::GoesOn(next)
     })
 }
 
-fn can_execute<R: Files + AllocGlobal>(
+/// What stands in a folder under the name of a program.
+fn look<R: Files + AllocGlobal>(
     rt: &R,
     directory: &str,
     folder: &str,
     program: &str,
-) -> io::Result<bool> {
+) -> io::Result<Place> {
     if folder.len().saturating_add(program.len()) > MOST_PATH {
-        return Ok(false);
+        return Ok(Place::Nothing);
     }
     let mut path = String::new(rt.alloc());
     if !folder.starts_with('/') && !program.starts_with('/') {
@@ -79,10 +126,12 @@ fn can_execute<R: Files + AllocGlobal>(
         path.push('/')?;
     }
     path.push_str(program)?;
-    match fs::metadata(rt, path.as_str()) {
-        Ok(found) => Ok(is_executable(&found)),
-        Err(_) => Ok(false),
-    }
+    Ok(match fs::metadata(rt, path.as_str()) {
+        Ok(found) if is_executable(&found) => Place::Program,
+        Ok(_) => Place::Refused,
+        Err(error) if error.kind() == ErrorKind::PermissionDenied => Place::Refused,
+        Err(_) => Place::Nothing,
+    })
 }
 
 fn search_path(ordered: &Ordered) -> &str {

@@ -4,7 +4,7 @@ ghost use Rattle.std.specs.Prelude.{◌≡◌, IfOk, map, string_bytes};
 ghost use Rattle.run_calls.specs.Values.{command_shown, variable_shown};
 ghost use Rattle.host_programs.specs.Ways.{is_of, sought_shown};
 
-use crate::search::{Search, search_from};
+use crate::search::{Progress, Search, search_from};
 use run_calls::{Command as Ordered, RunKey, Variable};
 use std::alloc::{AllocError, Global};
 use std::io;
@@ -16,8 +16,7 @@ pub(crate) struct Sought {
     run: RunKey,
     ordered: Ordered,
     directory: String,
-    /// From which byte of the search path on it was not looked yet.
-    from: usize,
+    progress: Progress,
 }
 
 fn copy_of(alloc: Global, ordered: &Ordered) -> Result<Ordered, AllocError>
@@ -64,7 +63,7 @@ impl Sought {
         run: RunKey,
         ordered: &Ordered,
         directory: String,
-        from: usize,
+        progress: Progress,
     ) -> Result<Sought, AllocError>
         ensures run { IfOk result (λ sought. sought.run ≡ run) }
         ensures directory { IfOk result (λ sought. sought.directory ≡ directory) }
@@ -75,7 +74,7 @@ impl Sought {
             run,
             ordered: copy_of(alloc, ordered)?,
             directory,
-            from,
+            progress,
         })
     }
 
@@ -107,9 +106,9 @@ impl Sought {
     pub(crate) fn go_on<R: Files + AllocGlobal>(&mut self, rt: &R) -> io::Result<Search>
         ensures { sought_shown self.new ≡ sought_shown self.old }
     {
-        let found = search_from(rt, self.directory.as_str(), &self.ordered, self.from)?;
-        if let Search::GoesOn(from) = found {
-            self.from = from;
+        let found = search_from(rt, self.directory.as_str(), &self.ordered, self.progress)?;
+        if let Search::GoesOn(progress) = found {
+            self.progress = progress;
         }
         Ok(found)
     }

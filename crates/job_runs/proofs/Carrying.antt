@@ -161,7 +161,7 @@ becomes_lost text place stage (Err fault) kept f g p q is =
       programs = λ none. lost_adds fails.3 q _ fails.6.programs_asked (lost_adds p fails.3 _ fails.5.programs_asked none);
     }
 
-asked_lost : (text : ℕ → List ℕ) (key : RunKey) (r : Result (Option Outcome) RunFault) (old new : List Run) (f g : Option (List FolderCall)) (p q : Option (List ProgramCall)) → IsAsked text key r old new f g p q → StaysLost f g p q
+pub asked_lost : (text : ℕ → List ℕ) (key : RunKey) (r : Result (Option Outcome) RunFault) (old new : List Run) (f g : Option (List FolderCall)) (p q : Option (List ProgramCall)) → IsAsked text key r old new f g p q → StaysLost f g p q
 asked_lost text key r old new f g p q (inl h) = same_lost f g p q h.0.2 h.0.3
 asked_lost text key r old new f g p q (inr (inl h)) = ends_lost key (Some h.0) h.1.left f g p q h.1.by
 asked_lost text key r old new f g p q (inr (inr goes)) = becomes_lost text goes.place goes.stage r goes.kept f g p q goes.becomes

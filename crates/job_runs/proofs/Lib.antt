@@ -15,3 +15,4 @@ mod Linked
 mod Went
 mod Carrying
 mod Overseen
+mod Refused

@@ -1,4 +1,4 @@
--- Jobs that an operator ends.
+-- Jobs that an operator ends, and runs whose outputs break a rule.
 use Rattle.std.specs.Prelude.{◌≡◌, ◌⊎◌, true, List, Option, Some, None, IsSome, Result, Ok, Err}
 use Rattle.run_outcomes.specs.declared.outcome.Outcome.{Outcome}
 use Rattle.run_outcomes.specs.declared.outcome.Outcome.TheVariants.{Failed}
@@ -10,6 +10,7 @@ use Rattle.run_calls.specs.Calls.{FolderCall, ProgramCall}
 use Rattle.runner.specs.Runs.{HasNone, is_run_of}
 use Rattle.std.specs.List.{list_any}
 use Rattle.job_runs.specs.Keys.{has_key}
+use Rattle.job_runs.specs.OutputRules.{IsRefusal}
 use Rattle.job_runs.specs.Runs.{IsAnsweredFor, IsBegunIf, IsEnded}
 
 -- what is kept of runs and of those that are to begin, and what was asked for them
@@ -38,8 +39,20 @@ pub record IsAskedAsEver (lent : Option TaskValue) (run : RunKey)
   pub answered : list_any (is_run_of run) old.runs ≡ true → IsAnsweredFor lent run told
       old.runs new.runs old.folders new.folders old.programs new.programs
 
--- what is told of a run is its own, or that it failed, where an operator ended its job
+-- what a run gave breaks a rule of outputs, or memory was refused to see that, and a fault is told
+-- in its place
+pub record IsRefused (lent : Option TaskValue) (run : RunKey)
+    (told : Result (Option Outcome) RunFault) (old new : RunsThen) : Type 0 where
+  pub answer : Result (Option Outcome) RunFault
+  pub fault : RunFault
+  pub asked : IsAskedAsEver lent run answer old new
+  pub refusal : IsRefusal lent answer (Some fault)
+  pub told_so : told ≡ Err fault
+
+-- what is told of a run is its own, which breaks no rule; or a fault, where it breaks one; or that
+-- it failed, where an operator ended its job
 abbrev pub IsAskedOrFailed : Option TaskValue → RunKey → Result (Option Outcome) RunFault →
     RunsThen → RunsThen → Type 0
 IsAskedOrFailed lent run told old new =
-    IsAskedAsEver lent run told old new ⊎ IsFailedByOperator lent run told old new
+    (IsAskedAsEver lent run told old new × IsRefusal lent told None)
+    ⊎ (IsRefused lent run told old new ⊎ IsFailedByOperator lent run told old new)

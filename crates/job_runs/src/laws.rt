@@ -33,9 +33,9 @@ pub fn a_number_finds_the_text_of_its_digest()
 /// before. For each job of an instance, from the order to start it until it is over: all that is made
 /// stands in the folder of its run, and is the tree of its task, or a front of it; its program is
 /// started there, once at most, and is the command of its task; and what the server is told is what
-/// these folders and programs answered for it, or that it failed, as a fault or an operator ended
-/// it. Without such an order nothing is
-/// made and nothing started, and nothing is told.
+/// these folders and programs answered for it, or that it failed, as a fault, a rule of outputs or an
+/// operator ended it. Without such an order nothing is made and nothing started, and nothing is
+/// told.
 pub fn what_ran<F: Folder + Drop, P: Programs + Drop>(runs: &LoggedRuns<OperatedRuns<'_, F, P>>)
     ensures { (h : List RunEvent) (f : List FolderCall) (p : List ProgramCall)
         → runs_logged runs.now.log ≡ Some h

@@ -9,6 +9,7 @@ mod laws;
 mod lent;
 mod nodes;
 mod operated;
+mod output_rules;
 mod reasons;
 mod run_counts;
 mod span;

@@ -1,4 +1,5 @@
-//! Runs whose jobs an operator may end, and of whose faults it is known why they came.
+//! Runs whose jobs an operator may end, whose outputs are looked at, and of whose faults it is known
+//! why they came.
 
 ghost use Rattle.std.specs.Prelude.{◌≡◌, ◌≤◌, ◌<◌, ◌⊎◌, ◌+◌, ◌++◌, ◌∷◌, ◌||◌, [], true, false, Some, None, Ok, length, nat_lt, slice_get, vec_capacity, vec_len, IfOk, IfSome};
 ghost use Rattle.std.specs.List.{list_any};
@@ -15,9 +16,11 @@ ghost use Rattle.job_runs.specs.Spans.{IsAmong};
 ghost use Rattle.job_runs.specs.Keys.{AreOnce, IsToBegin, all_keys, asked_keys, count_of, has_key, next_in, turn_in, without_key};
 ghost use Rattle.job_runs.specs.Runs.{AreKilled, IsEnded};
 ghost use Rattle.job_runs.specs.Operated.{IsAskedOrFailed};
+ghost use Rattle.job_runs.specs.OutputRules.{IsJudged, IsRefusal};
 
 use crate::ended::EndedJobs;
 use crate::job_runner::JobRunner;
+use crate::output_rules::broken_rule;
 use crate::reasons::reason_of;
 use crate::run_counts::RunCounts;
 use run_calls::{Folder, Programs, RunKey};
@@ -56,7 +59,8 @@ impl Oversight {
 }
 
 /// Runs whose jobs an operator may end: one that is to be ended is told as failed as soon as it is
-/// asked, whether its run was begun or not, and its run is killed.
+/// asked, whether its run was begun or not, and its run is killed. An outcome whose outputs break a
+/// rule is told as a fault of folders.
 #[derive(Drop)]
 pub struct OperatedRuns<'a, F: Folder + Drop, P: Programs + Drop> {
     alloc: Global,
@@ -109,6 +113,50 @@ impl<'a, F: Folder + Drop, P: Programs + Drop> OperatedRuns<'a, F, P> {
         ensures left { result ≡ vec_len self.new.runs.runner.runs }
     {
         self.runs.end_all(configs, moment, errors)
+    }
+
+    /// What is told of a run that answered so, as a fault where its outputs break a rule. Faults are
+    /// counted.
+    fn judged(
+        &self,
+        run: RunKey,
+        task: Option<LentTask<'_>>,
+        answer: Result<Option<Outcome>, RunFault>,
+    ) -> Result<Option<Outcome>, RunFault>
+        ensures { IsJudged (option_map lent_shown task.entry) answer result }
+    {
+        if let Some(fault) = self.refusal(task, &answer) {
+            self.oversight.counts.add_fault(run, fault);
+            return Err(fault);
+        }
+        if let Err(fault) = &answer {
+            self.oversight.counts.add_fault(run, *fault);
+        }
+        answer
+    }
+
+    /// The fault that is told in the place of an outcome whose outputs break a rule, which is noted.
+    fn refusal(
+        &self,
+        task: Option<LentTask<'_>>,
+        answer: &Result<Option<Outcome>, RunFault>,
+    ) -> Option<RunFault>
+        ensures { IsRefusal (option_map lent_shown task.entry) answer.now result }
+    {
+        let Some(task) = task else {
+            return None;
+        };
+        let Ok(Some(Outcome::Exited(exited))) = answer else {
+            return None;
+        };
+        match broken_rule(self.alloc, task, &exited.outputs) {
+            Ok(None) => None,
+            Ok(Some(rule)) => {
+                self.oversight.failure.set(Some(rule.error()));
+                Some(RunFault::Folder)
+            }
+            Err(_) => Some(RunFault::NoMemory),
+        }
     }
 }
 
@@ -229,10 +277,7 @@ impl<'a, F: Folder + Drop, P: Programs + Drop> Runs for OperatedRuns<'a, F, P> {
             return Ok(Some(Outcome::Failed));
         }
         let answer = self.runs.ask(run, task);
-        if let Err(fault) = &answer {
-            self.oversight.counts.add_fault(run, *fault);
-        }
-        answer
+        self.judged(run, task, answer)
     }
 
     fn next_waits(&self) -> bool {

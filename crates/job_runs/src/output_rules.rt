@@ -1,0 +1,163 @@
+//! Rules that the outputs of a run may break, so that its job fails whatever its program says.
+
+ghost use Rattle.std.specs.Prelude.{◌≡◌, IfOk, map};
+ghost use Rattle.std.specs.List.{list_all};
+ghost use Rattle.actions.specs.Commands.{asked_outputs};
+ghost use Rattle.actions.specs.Shown.{asked_shown};
+ghost use Rattle.outcomes.specs.Asked.{are_asked, is_asked};
+ghost use Rattle.outcomes.specs.Trees.{is_shallow, level_behind};
+ghost use Rattle.run_outcomes.specs.Shown.{node_shown, nodes_shown, output_shown};
+ghost use Rattle.server_core.specs.Lent.{lent_shown};
+ghost use Rattle.job_runs.specs.OutputRules.{broken_by, broken_by_nodes, broken_of, first_broken};
+ghost use Rattle.job_runs.specs.Tasks.{command_for};
+
+use crate::commands::command_for;
+use actions::{AskedOutput, MOST_LEVELS, MOST_NODES, asked_outputs};
+use execution::read_task_command;
+use run_outcomes::{NodeKind, Output, OutputKind, OutputNode};
+use server_core::LentTask;
+use std::alloc::{AllocError, Global};
+use std::io::{self, ErrorKind};
+
+/// A rule of outputs.
+#[derive(Clone, Copy)]
+pub(crate) enum OutputRule {
+    /// Each is of the kind that is asked for.
+    Kind,
+    /// An output directory has 10,000 files and directories at most.
+    Nodes,
+    /// It has 64 levels at most.
+    Levels,
+}
+
+impl OutputRule {
+    /// What an operator is told where it is broken.
+    pub(crate) fn error(self) -> io::Error {
+        io::Error::new(ErrorKind::InvalidData, self.words())
+    }
+
+    fn words(self) -> &'static str {
+        match self {
+            OutputRule::Kind => {
+                "an output is a file, and a directory is asked for, or the other way round"
+            }
+            OutputRule::Nodes => "an output directory has more than 10000 files and directories",
+            OutputRule::Levels => "an output directory has more than 64 levels",
+        }
+    }
+}
+
+/// The level at which nodes go on behind a node.
+fn level_behind(node: &OutputNode) -> u64
+    ensures { result ≡ level_behind node.now.level (node_shown node.now).kind }
+{
+    let level = u64::from(node.level);
+    match &node.kind {
+        NodeKind::File { .. } => level,
+        NodeKind::Directory => level + 1,
+    }
+}
+
+/// Whether no directory has a level above the highest.
+fn are_shallow(nodes: &[OutputNode]) -> bool
+    ensures { result ≡ list_all is_shallow (nodes_shown nodes.now) }
+{
+    let mut left = nodes;
+    while let [first, rest @ ..] = left {
+        if level_behind(first) > MOST_LEVELS as u64 {
+            return false;
+        }
+        left = rest;
+    }
+    true
+}
+
+/// The rule that the nodes of an output directory break.
+fn broken_by_nodes(nodes: &[OutputNode]) -> Option<OutputRule>
+    ensures { result ≡ broken_by_nodes (nodes_shown nodes.now) }
+{
+    if nodes.len() > MOST_NODES {
+        Some(OutputRule::Nodes)
+    } else if are_shallow(nodes) {
+        None
+    } else {
+        Some(OutputRule::Levels)
+    }
+}
+
+/// The rule that an output breaks by itself.
+fn broken_by(output: &Output) -> Option<OutputRule>
+    ensures { result ≡ broken_by (output_shown output.now) }
+{
+    match &output.kind {
+        OutputKind::File { .. } => None,
+        OutputKind::Tree { nodes } => broken_by_nodes(nodes),
+    }
+}
+
+/// The rule that the first of these outputs breaks which breaks one.
+fn first_broken(outputs: &[Output]) -> Option<OutputRule>
+    ensures { result ≡ first_broken (map output_shown outputs.now) }
+{
+    let mut left = outputs;
+    while let [first, rest @ ..] = left {
+        if let Some(rule) = broken_by(first) {
+            return Some(rule);
+        }
+        left = rest;
+    }
+    None
+}
+
+/// Whether an output is the one that is asked for.
+fn is_asked(asked: &AskedOutput<'_>, output: &Output) -> bool
+    ensures { result ≡ is_asked (asked_shown asked.now) (output_shown output.now) }
+{
+    let may_be = match &output.kind {
+        OutputKind::File { .. } => asked.as_file,
+        OutputKind::Tree { .. } => asked.as_tree,
+    };
+    may_be && asked.path == output.path.as_str()
+}
+
+/// Whether outputs are some of those that are asked for, in their order, each as often at most.
+fn are_asked(asked: &[AskedOutput<'_>], outputs: &[Output]) -> bool
+    ensures { result ≡ are_asked (map asked_shown asked.now) (map output_shown outputs.now) }
+{
+    let mut left = outputs;
+    let mut asked_left = asked;
+    while let [output, next @ ..] = left {
+        let [first, rest @ ..] = asked_left else {
+            return false;
+        };
+        if is_asked(first, output) {
+            left = next;
+        }
+        asked_left = rest;
+    }
+    true
+}
+
+/// The rule that the outputs of a task break.
+///
+/// Err: a request for memory was refused.
+pub(crate) fn broken_rule(
+    alloc: Global,
+    task: LentTask<'_>,
+    outputs: &[Output],
+) -> Result<Option<OutputRule>, AllocError>
+    ensures { IfOk result (λ rule. rule ≡ broken_of
+        (asked_outputs (command_for (lent_shown task.entry).command))
+        (map output_shown outputs.now)) }
+{
+    if outputs.is_empty() {
+        return Ok(None);
+    }
+    let text = read_task_command(alloc, task.pool, task.task)?;
+    let command = command_for(alloc, &text)?;
+    let asked = asked_outputs(alloc, &command)?;
+    if !are_asked(&asked, outputs) {
+        return Ok(Some(OutputRule::Kind));
+    }
+    Ok(first_broken(outputs))
+}

@@ -215,7 +215,7 @@ def build_all(folder, options, started_by):
         if time.monotonic() - begun > 1:
             print(f"note: the last program ended {time.monotonic() - begun:.1f} s after Bazel did", flush=True)
         expect(not programs.settled(server.entries), f"folders are left: {server.entries()}")
-        expect(not programs.zombies(server.process.pid), "zombies are left")
+        expect(not programs.settled(lambda: programs.zombies(server.process.pid)), "zombies are left")
         expect(not server.said(), f"on standard error: {server.said()[:10]}")
         cpu, peak = server.cpu_seconds(), server.peak_megabytes()
         print(

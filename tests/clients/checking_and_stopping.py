@@ -62,7 +62,7 @@ def check(program):
             each.close()
     ends(["--port", str(port)], 4, f"remoted: cannot connect to {port}: Connection refused (os error 111)\n")
     ends(["--port", "1", "--host", "nowhere"], 2, "remoted: --host is no IPv4 or IPv6 address: nowhere\n")
-    ends(["--port", "1", "--instance", "n" * 65], 2, "remoted: --instance is longer than any name\n")
+    ends(["--port", "1", "--instance", "n" * 65], 2, "remoted: --instance is longer than any name: " + "n" * 65 + "\n")
     no_http2 = "it speaks no HTTP/2"
     for text, closes, why in [
         (b"HTTP/1.1 400 Bad Request\r\n\r\n", True, no_http2),

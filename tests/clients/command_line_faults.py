@@ -11,6 +11,8 @@ ends with `N passed, M failed`, and with status 1 where one failed.
 
 import argparse
 import os
+import pty
+import re
 import resource
 import shutil
 import signal
@@ -21,6 +23,7 @@ import tempfile
 import threading
 import time
 
+from bad_scripts import BAD_LINES
 from server import Server, free_ports
 
 PARTS = "it is not NAME:PORT:QUOTA:SLOTS[:PARENT]"
@@ -31,6 +34,8 @@ NAME = "the name is not 1 to 64 of a-z, 0-9 and -, or it is a word of resource n
 NAME_AGAIN = "an instance before it has the name"
 PARENT = "the parent is not another instance, or it has a parent itself"
 PORT_AGAIN = "an instance before it has the port"
+SPACE = "a space stands in it before {}: each instance is a word of its own"
+ITS_PARENT = "PARENT is blue: that has a parent itself, ci"
 
 # Words for instances, the one that is bad, why, and what stands on the line behind that.
 BAD_WORDS = [
@@ -58,33 +63,51 @@ BAD_WORDS = [
     (["blobs:1:100:0"], "blobs:1:100:0", NAME, "NAME is blobs"),
     (["n" * 65 + ":1:100:0"], "n" * 65 + ":1:100:0", NAME, "NAME is " + "n" * 65),
     (["red:1:100:0", "red:2:100:0"], "red:2:100:0", NAME_AGAIN, "NAME is red"),
-    (["red:1:100:0:blue"], "red:1:100:0:blue", PARENT, "PARENT is blue"),
+    (["red:1:100:0:blue"], "red:1:100:0:blue", PARENT, "PARENT is blue: no instance has this name"),
     (["red:1:100:0:"], "red:1:100:0:", PARENT, "PARENT is empty"),
     (["red:1"], "red:1", PARTS, "it has no QUOTA"),
-    (["red:1:100:0:red"], "red:1:100:0:red", PARENT, "PARENT is red"),
-    (["red:1:100:0:blue", "blue:2:100:0:ci", "ci:3:100:0"], "red:1:100:0:blue", PARENT, "PARENT is blue"),
+    (["red:1:100:0:red"], "red:1:100:0:red", PARENT, "PARENT is red: that is the instance itself"),
+    (["red:1:100:0:blue", "blue:2:100:0:ci", "ci:3:100:0"], "red:1:100:0:blue", PARENT, ITS_PARENT),
+    # A list in quotation marks is one word.
+    (["red:1:100:0 blue:2:100:0"], "red:1:100:0 blue:2:100:0", PARTS, SPACE.format("blue:2:100:0")),
+    (["red:1:100:0 blue"], "red:1:100:0 blue", SLOTS, SPACE.format("blue")),
+    (["red:1:100 :0"], "red:1:100 :0", QUOTA, SPACE.format(":0")),
+    (["red:1:100:0 "], "red:1:100:0 ", SLOTS, "a space stands at its end"),
     (["red:1:100:0", "blue:1:100:0"], "blue:1:100:0", PORT_AGAIN, "PORT is 1"),
     # What is told first where more is wrong.
     (["Red:1:100:0", "blue:0:1:0"], "blue:0:1:0", PORT, "PORT is 0"),
     (["Red:1:9999999999999:0"], "Red:1:9999999999999:0", NAME, "NAME is Red"),
     (["red:1:100:0:no", "blue:2:1099511627777:0"], "blue:2:1099511627777:0", QUOTA, "QUOTA is 1099511627777"),
-    (["red:1:100:0:no", "blue:1:100:0"], "red:1:100:0:no", PARENT, "PARENT is no"),
+    (["red:1:100:0:no", "blue:1:100:0"], "red:1:100:0:no", PARENT, "PARENT is no: no instance has this name"),
 ]
 
 
+# What is said of a file that is not there.
+NONE = "remoted: cannot read none\nremoted: none: No such file or directory (os error 2)\n"
+
 # The numbers of an operator: what is said of one that is none, and some that are none.
 BETWEEN = {
-    "--blobs": "error: invalid value '{0}' for '--blobs <N>': {0} is not in 1..=2147483648",
-    "--results": "error: invalid value '{0}' for '--results <N>': {0} is not in 0..=2147483648",
-    "--result-bytes": "error: --result-bytes is not a number of bytes from 4194304 to 2147483648, as 64M or 2G",
-    "--window": "error: --window is not a number of bytes from 65535 to 2147483647, as 64K or 4M",
+    "--blobs": "error: --blobs is not a number from 1 to 2147483648, as 65536, 64K or 1M: '{0}'",
+    "--results": "error: --results is not a number from 0 to 2147483648, as 10000 or 64K: '{0}'",
+    "--result-bytes": "error: --result-bytes is not a number of bytes from 4194304 to 2147483648, as 64M or 2G: '{0}'",
+    "--window": "error: --window is not a number of bytes from 65535 to 2147483647, as 64K or 4M: '{0}'",
+    "--turns": "error: --turns is not a number from 0 to 9223372036854775807, and not endless: '{0}'",
 }
 BAD_NUMBERS = {
-    "--blobs": ["0", "2147483649"],
-    "--results": ["2147483649"],
+    "--blobs": ["0", "0K", "2147483649", "3G", "1KB", ""],
+    "--results": ["2147483649", "2T", "many"],
     "--result-bytes": ["4194303", "3M", "2147483649", "3G", "64m", "64MB", "M", ""],
     "--window": ["65534", "63K", "2147483648", "2G", "1T", "4M4", "x"],
+    "--turns": ["9223372036854775808", "1K", "for ever", ""],
 }
+# Words of `check` that are wrong, and what is said of them.
+CHECKED = [
+    ([], "error: neither --port is given, nor --metrics"),
+    (["--port", "1", "--metrics", "a"], "error: --port and --metrics are given, and one of them is asked at a time"),
+    (["--port", "1", "--seconds", "0"], "error: invalid value '0' for '--seconds <N>': 0 is not in 1..=3600"),
+    (["--port", "1", "--host", "me"], "remoted: --host is no IPv4 or IPv6 address: me"),
+    (["--port", "1", "--instance", "n" * 65], "remoted: --instance is longer than any name: " + "n" * 65),
+]
 # What `--help` says that each costs.
 COSTS = {
     "--blobs": "some 570 bytes of memory for each blob that is there",
@@ -158,9 +181,24 @@ def numbers(checks):
     )
     for option, values in BAD_NUMBERS.items():
         for value in values:
-            done = run(*checks.serve("work", option, value, "red:1:100:0"))
+            done = run("serve", "--work", "work", option, value, "red:1:100:0")
             found = (done.returncode, done.stdout, done.stderr.split("\n")[0])
             checks.tell(f"{option} {value}", found, (2, "", BETWEEN[option].format(value)))
+    for option in ["--turns", "--window", "--blobs"]:
+        done = run("serve", "--work", "work", option, "-1", "red:1:100:0")
+        found = (done.returncode, "tip" in done.stderr, done.stderr.split("\n")[0])
+        checks.tell(f"{option} -1", found, (2, False, "error: unexpected argument '-1' found"))
+        checks.tell(f"{option} -1", ("\n\nUsage: " in done.stderr, "", ""), (True, "", ""))
+    done = run("serve", "--work", "work", "--quota", "5", "red:1:100:0")
+    found = (done.returncode, "tip" in done.stderr, done.stderr.split("\n")[0])
+    checks.tell("--quota", found, (2, False, "error: unexpected argument '--quota' found"))
+    done = run("serve", "--work", "work", "--blobs", "no", "red:1:100:0")
+    usage = "Usage: remoted serve [OPTIONS] --work <DIR>"
+    checks.tell("the usage of the command", (done.returncode, usage in done.stderr, ""), (2, True, ""))
+    for words, told in CHECKED:
+        done = run("check", *words)
+        found = (done.returncode, done.stdout, done.stderr.split("\n")[0])
+        checks.tell(" ".join(words), found, (2, "", told))
     told = {" ".join(line.split()) for line in run("serve", "--help").stdout.splitlines()}
     for option, cost in COSTS.items():
         checks.tell(f"{option} in --help", (0, f"{option} {cost}" in told, ""), (0, True, ""))
@@ -189,7 +227,15 @@ def folders(checks):
         (["--metrics", "a", "--end", "a.new"], "--end names a.new, which --metrics writes first"),
     ]:
         checks.ends(["serve", "--work", "none", *options, word()], 2, f"remoted: {told}\n")
+    for option in ["--stop", "--end"]:
+        for path, folder in [("none/in", "none"), ("/no/such/in", "/no/such")]:
+            told = f"remoted: {option} is looked for in {folder}: there is no such folder\n"
+            checks.ends(checks.serve("unmade", option, path, word()), 1, told)
+    made = os.path.lexists(os.path.join(checks.folder, "unmade"))
+    checks.tell("no folder was made", (0, made, ""), (0, False, ""))
     checks.file("file", "")
+    told = "remoted: --end is looked for in file: there is no such folder\n"
+    checks.ends(checks.serve("unmade", "--end", "file/in", word()), 1, told)
     checks.ends(checks.serve("file", word()), 1, "remoted: cannot make file: File exists (os error 17)\n")
     checks.ends(checks.serve("file/in", word()), 1, "remoted: cannot make file/in: Not a directory (os error 20)\n")
     long = "n" * 256
@@ -226,6 +272,12 @@ def launchers(checks):
     words = ["--launcher", "/usr/bin/env", f"red:{port}:100:1"]
     told = checks.begun(words[2], programs="by /usr/bin/env")
     checks.ends(checks.serve("launched", *words), 0, told, f"listening red {port}\n")
+    checks.file("needed", "")
+    path = checks.file("needy", "#!/bin/sh\n# needs: needed none - nobody makes it\n")
+    os.chmod(path, 0o755)
+    told = f"remoted: {os.path.realpath(path)} lacks none beside it, so each action will fail: nobody makes it\n"
+    told += checks.begun(words[2], programs=f"by {path}")
+    checks.ends(checks.serve("launched", "--launcher", path, words[2]), 0, told, f"listening red {port}\n")
 
 
 def what_is_lacking(checks):
@@ -322,35 +374,71 @@ def figures_in_words(checks):
         ([*ask, "--instance", "ci"], "ci: The most bytes of blobs that are stored: 8589934592\n"),
     ]:
         done = subprocess.run([checks.program, *words], capture_output=True, text=True, cwd=checks.folder)
-        all_its = len(words) == 3 or all(line.startswith(words[4] + ": ") for line in done.stdout.splitlines())
+        *lines, age = done.stdout.splitlines()
+        all_its = len(words) == 3 or all(line.startswith(words[4] + ": ") for line in lines)
         found = (done.returncode, wanted in done.stdout and all_its, done.stderr)
         checks.tell(" ".join(words), found, (0, True, ""))
+        young = int(age.removeprefix("Seconds since this was written: ")) <= 30
+        checks.tell("how old they are", (young, "", ""), (True, "", ""))
+    for moved, status, told in [
+        (-61, 4, r"remoted: figures was written 6\d s ago: no server writes it now\n"),
+        (-86400, 4, r"remoted: figures was written 864\d\d s ago: no server writes it now\n"),
+        (3600, 0, r"remoted: figures was written 3[56]\d\d s after this host's clock: how old it is cannot be told\n"),
+    ]:
+        moment = time.time() + moved
+        os.utime(path, (moment, moment))
+        old = subprocess.run([checks.program, *ask], capture_output=True, text=True, cwd=checks.folder)
+        is_told = bool(re.fullmatch(told, old.stderr)) and len(old.stdout.splitlines()) > 60
+        checks.tell(f"figures whose time is {moved} s from now", (old.returncode, is_told, ""), (status, True, ""))
+    os.utime(path)
     samples = [line for line in text.splitlines() if not line.startswith("#")]
-    checks.tell("all of them", (len(done.stdout.splitlines()) > 20, len(samples) > 60, ""), (True, True, ""))
+    checks.tell("all of them", (len(lines) > 20, len(samples) > 60, ""), (True, True, ""))
     checks.ends([*ask, "--instance", "blue"], 4, "remoted: figures has no figures of blue\n")
-    checks.ends(["check", "--metrics", "none"], 1, "remoted: cannot read none\n")
+    checks.ends(["check", "--metrics", "none"], 1, NONE)
 
 
 def scripts(checks):
     failed = "remoted: input or output failed\n"
-    checks.ends(["unary", "none"], 1, "remoted: cannot read none\n")
-    checks.ends(["replay", "."], 1, "remoted: cannot read .\n")
-    checks.ends(["probe", "--port", "1", "--send", "none", "--want", "1"], 1, "remoted: cannot read none\n")
+    checks.ends(["unary", "none"], 1, NONE)
+    checks.ends(["replay", "."], 1, "remoted: cannot read .\nremoted: .: is a directory\n")
+    checks.ends(["probe", "--port", "1", "--send", "none", "--want", "1"], 1, NONE)
     checks.file("bad", "instance a 100\nput a 616263\n\nno line\n")
-    checks.ends(["unary", "bad"], 3, "remoted: bad line 4\n")
+    told = "remoted: bad line 4\nremoted: line 4: it begins with none of instance, put and call\n"
+    checks.ends(["unary", "bad"], 3, told)
     checks.file("worse", "instance a 100 0\nopen 0 0 7\nopen 1 0 eight\n")
-    checks.ends(["replay", "worse"], 3, "remoted: bad line 3\n")
+    checks.ends(["replay", "worse"], 3, "remoted: bad line 3\nremoted: line 3: C is not a number below 2^32\n")
     with open(os.path.join(checks.folder, "bad")) as text:
-        checks.ends([], 3, "remoted: bad line 4\n", stdin=text)
+        checks.ends([], 3, told, stdin=text)
+    for command, texts in BAD_LINES.items():
+        for text, why in texts:
+            checks.file("bad", text)
+            number = len(text.removesuffix("\n").split("\n"))
+            checks.ends([command, "bad"], 3, f"remoted: bad line {number}\nremoted: line {number}: {why}\n")
+    at_a_terminal(checks)
     checks.file("sent", "PRI")
     port = free_ports(1)[0]
-    checks.ends(["probe", "--port", str(port), "--send", "sent", "--want", "1"], 1, failed)
+    refused = f"remoted: cannot connect to {port}: Connection refused (os error 111)\n"
+    checks.ends(["probe", "--port", str(port), "--send", "sent", "--want", "1"], 1, refused + failed)
     with socket.socket() as closing:
         closing.bind(("127.0.0.1", 0))
         closing.listen()
         words = ["probe", "--port", str(closing.getsockname()[1]), "--send", "sent", "--want", "3"]
         threading.Thread(target=answer_two, args=(closing,), daemon=True).start()
         checks.ends(words, 4, "remoted: 2 bytes came\n")
+
+
+def at_a_terminal(checks):
+    """Without a command and at a terminal the program says what it waits for."""
+    other, terminal = pty.openpty()
+    errors = subprocess.PIPE
+    with subprocess.Popen([checks.program], stdin=terminal, stdout=errors, stderr=errors, text=True) as program:
+        os.close(terminal)
+        line = program.stderr.readline()
+        os.write(other, b"instance a 100\nput a 616263\n\x04")
+        found = (program.wait(30 * checks.slow), program.stdout.read(), line + program.stderr.read())
+    os.close(other)
+    told = "remoted: reads a script of calls from this terminal, up to Ctrl-D; other commands are in remoted --help\n"
+    checks.tell("a terminal", found, (0, "stored\n", told))
 
 
 def answer_two(listening):

@@ -13,6 +13,7 @@ import argparse
 import contextlib
 import os
 import pathlib
+import re
 import tempfile
 import time
 
@@ -22,6 +23,7 @@ from waiting_jobs import Alike
 from watched import Watched, expect, figures_of, key, within
 
 FAILED = (13, "run failed")
+WITHOUT = "remoted: failed runs without a line: "
 CALLS = 100
 
 
@@ -163,13 +165,15 @@ def some_jobs(program):
 
 def bad_lines(program):
     with two_teams(program) as (server, red, blue, path):
-        put(path, b"red 12345\nred abandoned now\n\ngreen\n\xff\nred 12345G\x1b[0m\n red \t abandoned \r\nblue")
+        odd = b"red 12345\nred abandoned now\n\ngreen\n\xff\nred 12345G\x1b[0m\n red \t abandoned \r\nblue\n"
+        put(path, odd + b"red 1F0C5D")
         form, name = "it is not NAME, NAME HASH or NAME abandoned", "no instance has this name"
-        faults = {1: form, 2: form, 4: name, 5: form, 6: form}
+        few, more = "HASH has fewer than 6 digits", "a word stands behind NAME and HASH"
+        faults = {1: few, 2: more, 4: name, 5: form, 6: form, 9: "HASH has capitals, and is written in lower case"}
         bad = [f"remoted: {path}: bad line {number}: {fault}" for number, fault in faults.items()]
         good = [f"remoted: {name}: jobs ended by an operator: 0" for name in ("red", "blue")]
-        hears(server, *bad, *good)
-        put(path, "\n".join(f"no {number}" for number in range(1000)))
+        hears(server, *bad[:-1], *good, bad[-1])
+        put(path, "\n".join(f"no x{number}" for number in range(1000)))
         hears(server, *[f"remoted: {path}: bad line {number}: {form}" for number in range(1, 11)])
         put(path, "")
         expect(within(3, lambda: not path.exists()), "an empty file is taken, and nothing said")
@@ -237,20 +241,29 @@ def reasons(program):
             time.sleep(0.1)  # Ten in a second are told.
         for _ in range(15):
             red.execute(Action(["/no/such/program"]))
+        time.sleep(2.5)
         lines = server.said(True)[server.wanted :]
-        expect(len(lines) <= 40 and len(lines) % 2 == 0, f"lines come in twos: {len(lines)}", lines)
+        sums = [int(line.removeprefix(WITHOUT)) for line in lines if line.startswith(WITHOUT)]
+        runs = [line for line in lines if line.startswith("remoted: run red ")]
+        expect(len(runs) <= 30 and len(runs) % 2 == 0, f"lines come in twos: {len(runs)}", lines)
+        expect(len(runs) // 2 + sum(sums) == 15, f"and of the others it is told how many: {sums}", lines)
+        others = [line for line in lines if line not in runs and not line.startswith(WITHOUT)]
+        dropped = [line for line in others if re.fullmatch(r"remoted: \d+ lines were dropped", line)]
+        expect(dropped == others, "no more is said", others)
         blue.calls()
 
 
 def links(program):
     make = "mkdir -p out/in; echo text > out/in/file; ln -s file out/in/link; ln -s in out/there"
-    counted = "remoted: red: runs with links in their output directories, the last is 1: 1"
+    counted = "remoted: red: runs with links in their output directories, which are not stored, the last is 1{}: 1"
     with two_teams(program) as (server, red, blue, _):
-        done = red.execute(Action(make, directories=["out"]))
+        action = Action(make, directories=["out"])
+        hash = m.first(action.digest, 1).decode()[:6]
+        done = red.execute(action)
         expect(done.status.code == 0 and done.result.code == 0, "a run that leaves links goes well")
         tree = red.tree(done.result.trees["out"])
         expect(set(tree) == {"in"} and set(tree["in"]) == {"file"}, "without them", tree)
-        hears(server, counted)
+        hears(server, counted.format(f", action {hash}.."))
         blue.calls()
         expect(not server.said(True)[server.wanted :], "and that is said once", server.said(True)[server.wanted :])
     with two_teams(program, words=["--links", "fail"]) as (server, red, blue, _):
@@ -260,7 +273,7 @@ def links(program):
         expect(red.cached(action) is None, "and nothing is stored")
         hash = m.first(action.digest, 1).decode()[:6]
         why = f"remoted: run red 1: a symbolic link in an output directory, action {hash}.., /bin/sh"
-        hears(server, "remoted: run red 1 failed: folder", why, counted)
+        hears(server, "remoted: run red 1 failed: folder", why, counted.format(""))
         done = red.execute(Action("mkdir out; echo text > out/file", directories=["out"]))
         expect(done.status.code == 0, "a run without links goes well")
         blue.calls()
@@ -272,27 +285,29 @@ def rules(program):
     sink = "mkdir out; cd out; i=1; while [ $i -lt %d ]; do mkdir s; cd s; i=$((i+1)); done; : > f"
     many = "an output directory has more than 10000 files and directories"
     deep = "an output directory has more than 64 levels"
-    kind = "an output is a file, and a directory is asked for, or the other way round"
+    kind = "an output is not of the kind that is asked for"
+    far = "d" * 70 + "/" + "e" * 70
     broken = [
-        (Action(fill % 10_001, paths=["out"]), many),
-        (Action(fill % 10_001 + "; exit 3", paths=["out"]), many),
-        (Action(sink % 65, directories=["out"]), deep),
-        (Action("mkdir out", files=["out"]), kind),
-        (Action("echo text > out", directories=["out"]), kind),
-        (Action("echo text > out", files=["out"], directories=["out"]), kind),
+        (Action(fill % 10_001, paths=["out"]), many, "out"),
+        (Action(fill % 10_001 + "; exit 3", paths=["out"]), many, "out"),
+        (Action(sink % 65, directories=["out"]), deep, "out"),
+        (Action("mkdir out", files=["out"]), kind, "out is a directory"),
+        (Action("echo text > out", directories=["out"]), kind, "out is a file"),
+        (Action("echo text > out", files=["out"], directories=["out"]), kind, "out is a file"),
+        (Action(f"mkdir {far}", files=[far]), kind, f"..{far[-100:]} is a directory"),
     ]
     kept = [Action(fill % 10_000, paths=["out"]), Action(sink % 64, directories=["out"])]
     kept.append(Action("true", files=["out"], directories=["none"]))
     with tempfile.TemporaryDirectory() as folder:
         path = pathlib.Path(folder, "remoted.prom")
         with two_teams(program, words=["--metrics", str(path)]) as (server, red, blue, _):
-            for job, (action, why) in enumerate(broken, 1):
+            for job, (action, why, which) in enumerate(broken, 1):
                 done = red.execute(action)
                 expect((done.status.code, done.status.text) == FAILED, why)
                 expect(done.result is None and red.cached(action) is None, "nothing of it is answered or stored")
                 hash = m.first(action.digest, 1).decode()[:6]
                 run = f"remoted: run red {job}"
-                hears(server, f"{run} failed: folder", f"{run}: {why}, action {hash}.., /bin/sh")
+                hears(server, f"{run} failed: folder", f"{run}: {why}, action {hash}.., /bin/sh, output {which}")
             for action in kept:
                 done = red.execute(action)
                 expect(done.status.code == 0 and done.result.code == 0, "what keeps the rules goes well")
@@ -303,9 +318,29 @@ def rules(program):
             found = figures_of(path)
         how = lambda word: found[key("jobs_ended_total", instance="red", how=word)]
         counted = {word: how(word) for word in ["succeeded", "failed", "not_run"]}
-        expect(counted == {"succeeded": 3, "failed": 0, "not_run": 6}, "they count as runs that failed", counted)
+        expect(counted == {"succeeded": 3, "failed": 0, "not_run": 7}, "they count as runs that failed", counted)
         faults = found[key("run_faults_total", instance="red", word="folder")]
-        expect(faults == 6, "by this word", faults)
+        expect(faults == 7, "by this word", faults)
+
+
+def over_quota(program):
+    """A run that gives more than the quota: its client is told so, and a line and a figure say it to the operator."""
+    with tempfile.TemporaryDirectory() as folder:
+        path = pathlib.Path(folder, "remoted.prom")
+        with two_teams(program, words=["--metrics", str(path)]) as (server, red, blue, _):
+            large = Action("head -c 60000000 /dev/urandom > a; head -c 60000000 /dev/urandom > b", files=["a", "b"])
+            small = Action("head -c 60000000 /dev/urandom > a", files=["a"])
+            done = red.execute(large)
+            expect((done.status.code, done.status.text) == (8, "quota exceeded"), "more than the quota is not stored")
+            done = red.execute(small)
+            expect(done.status.code == 0 and done.result.code == 0, "less goes well")
+            says = "runs that gave more than the quota of 100000000 bytes, raise QUOTA: 1"
+            blue.calls()
+            within(25, lambda: path.exists() and figures_of(path)[key("runs_over_quota_total", instance="red")] > 0)
+            counted = figures_of(path)[key("runs_over_quota_total", instance="red")]
+            expect(counted == 1, "it is counted, and one that fits is not", counted)
+            told = [line for line in server.said(True) if "quota" in line]
+            expect(told == [f"remoted: red: {says}"], "and said once", told)
 
 
 PARTS = {
@@ -316,6 +351,7 @@ PARTS = {
     "reasons": reasons,
     "links": links,
     "rules": rules,
+    "quota": over_quota,
 }
 
 

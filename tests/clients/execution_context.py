@@ -1,5 +1,7 @@
 """What the checks of `executions.py` stand on: a server, what it is to say, and `Fault`."""
 
+import time
+
 import programs
 from executing import PATH, Action, Peer
 
@@ -50,11 +52,13 @@ class Context:
         return peer.stream_text(self.ran(peer, what, code, **more).result.stdout)
 
     def failed(self, peer, what, word=None, name="main"):
-        """An action whose run has to fail, with a line on standard error where a word is given."""
+        """An action whose run has to fail, with a line on standard error where a word is given. Ten lines a second are told."""
+        time.sleep(0.11)
         done = peer.execute(self.made(what))
         expect((done.status.code, done.status.text, done.result), (13, "run failed", None), "a run that fails")
         if word:
             line = f"remoted: run {name} {done.name.rpartition('/')[2]} failed: {word}"
             self.lines.append(line)
             programs.settled(lambda: line not in self.server.said(), 2)
-            expect(self.server.said()[-1:], [line], "on standard error")
+            # What is counted may be told behind it.
+            expect(line in self.server.said()[-2:], True, f"on standard error: {self.server.said()[-2:]}")

@@ -37,8 +37,7 @@ def outputs(c):
         tree = peer.tree(older.trees["o"])
         expect(sorted(tree), ["d", "file", "none", "odd", "run"], "links and FIFOs of a tree are left out")
         expect(tree["odd"], (m.digest(b"x"), True), "who may run what")
-        done = peer.execute(c.action(shell("mkdir a; echo > b", files=["a"], directories=["b"])))
-        expect((done.status.code, done.status.text), (13, "run failed"), "a directory for a file")
+        c.failed(peer, shell("mkdir a; echo > b", files=["a"], directories=["b"]), "folder")
     return "output files, modes, trees; what is missing, a link or a FIFO is left out; another kind is 13 `run failed`"
 
 
@@ -60,12 +59,10 @@ def output_trees(c):
             paths=["u", "t"],
         )
         expect(len(peer.tree(c.ran(peer, many).result.trees["t"])), 10_000, "a tree of 10,000 files")
-        done = peer.execute(c.action(shell("mkdir t; cd t; seq 10001 | xargs touch", paths=["t"])))
-        expect((done.status.code, done.status.text), (13, "run failed"), "a tree of 10,001 files")
+        c.failed(peer, shell("mkdir t; cd t; seq 10001 | xargs touch", paths=["t"]), "folder")
         levels = "mkdir t; cd t; i=1; while [ $i -lt %d ]; do mkdir s; cd s; i=$((i+1)); done; : > f"
         c.ran(peer, shell(levels % 64, paths=["t"]))
-        done = peer.execute(c.action(shell(levels % 65, paths=["t"])))
-        expect((done.status.code, done.status.text), (13, "run failed"), "65 levels")
+        c.failed(peer, shell(levels % 65, paths=["t"]), "folder")
     return "trees of 10,000 nodes and 64 levels; one more of either is 13 `run failed`"
 
 
@@ -138,6 +135,7 @@ def over_quota(c):
     with c.peer(2) as peer:
         done = peer.execute(c.action("head -c 30000 /dev/zero"))
         expect((done.status.code, done.status.text, done.result), (8, "quota exceeded", None), "outputs over the quota")
+        c.lines.append("remoted: small: runs that gave more than the quota of 20000 bytes, raise QUOTA: 1")
         expect(c.said(peer, shell("printf fits")), b"fits", "outputs that fit")
     with c.peer(3) as peer:
         peer.store([b"x"])

@@ -36,7 +36,7 @@ SLOTS, QUOTA, CLIENTS = 6, 60_000_000, 6
 LONGEST = 4
 LINE = re.compile(r"remoted: run (wild|calm) [1-9]\d* failed: (folder|start|too large|memory)")
 # The quota is small, so what it drops was used a moment ago; clients are cut off, and lines are ten a second.
-OF_OPERATORS = re.compile(r"remoted: (wild|calm): .+|remoted: \d+ lines were dropped")
+OF_OPERATORS = re.compile(r"remoted: (wild|calm): .+|remoted: \d+ lines were dropped|remoted: failed runs .+")
 
 SCRIPTS = [
     "printf abc",

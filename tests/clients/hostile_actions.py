@@ -58,6 +58,7 @@ CASES = [
     removal.deep_paths,
     removal.many_outputs,
     removal.links_listed,
+    removal.emptied_directories,
     removal.files_of_pieces,
     removal.large_directory,
     removal.dear_although_little,

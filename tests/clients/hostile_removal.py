@@ -115,6 +115,30 @@ for directory in range(10):
     return "directories full of links are gathered, and one of 15,001 entries is refused"
 
 
+# Makes so many files in a directory, and removes all but one of them.
+EMPTIED = """import os, sys
+os.mkdir("d")
+names = [f"d/{number}" + 200 * "x" for number in range(int(sys.argv[1]))]
+for name in names:
+    os.close(os.open(name, os.O_CREAT | os.O_WRONLY))
+for name in names[1:]:
+    os.remove(name)
+os.write(1, str(os.stat("d").st_size).encode())
+"""
+
+
+def emptied_directories(stage):
+    """An output directory takes much room on the disk for files that are gone, which the system may all go through."""
+    with stage.serve() as (server, red):
+        grown = int(red.stream_text(stage.runs(red, python(EMPTIED, 1_000), directories=["d"]).stdout))
+        if grown < 200_000:
+            raise Skipped("directories of this disk get smaller again")
+        stage.fails(server, red, "folder", python(EMPTIED, 100_000), directories=["d"])
+        stage.nothing_left(server, 120)
+        stage.blue_runs(server)
+    return "one of some kilobytes is gathered, and one of more than 16 MiB is refused"
+
+
 # Makes files of a thousand pieces each, in directories that may not be entered, and makes its standard error such a file.
 # To remove one takes a disk seconds.
 PIECES = """import ctypes, os, sys

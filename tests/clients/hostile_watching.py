@@ -17,7 +17,7 @@ from executing import Peer
 from server import free_ports
 from watched import Watched, expect, within
 
-LAST = re.compile(r'\nremoted_jobs_ended_by_operator_total{[^\n]*instance="blue"} 0\n\Z')
+LAST = re.compile(r'\nremoted_runs_over_quota_total{[^\n]*instance="blue"} 0\n\Z')
 
 
 class Team:
@@ -207,8 +207,10 @@ def hostile_stops(program):
             expect((done.returncode, done.stderr) == (1, told), "no server begins where it stands", done)
     with attacked() as (common, _, _):
         print("-- a file in the place of the folder of stop", flush=True)
-        common.joinpath("inner").touch()
+        common.joinpath("inner").mkdir()
         with two_teams(program, "--stop", str(common / "inner" / "stop")) as server:
+            common.joinpath("inner").rmdir()
+            common.joinpath("inner").touch()
             time.sleep(3)
             expect(server.is_running() and server.said() == [], "the server goes on", server.said())
 

@@ -129,10 +129,11 @@ def words_of_others(report, program, folder):
 def not_started(report, program, folder):
     """Launchers that were there when the server started."""
     gone = script(folder, "gone", WELL)
-    expect(report, "one that is gone", told(program, gone, before=lambda: os.remove(gone)), failed("start", GONE))
+    expect(report, "one that is gone", told(program, gone, before=lambda: os.remove(gone)), failed("start", f"the launcher {os.path.realpath(gone)}: {GONE}"))
     bare = script(folder, "bare", WELL)
     found = told(program, bare, before=lambda: os.chmod(bare, 0o644))
-    expect(report, "one that may not be run", found, failed("start", "permission denied"))
+    why = f"the launcher {os.path.realpath(bare)}: permission denied"
+    expect(report, "one that may not be run", found, failed("start", why))
     named = told(program, script(folder, "well", WELL), ("A=B", "x"))
     why = "the program has a = in its name, so a launcher would take it for a variable"
     wanted = failed("start", why, ("A=B", "x"))

@@ -1,4 +1,4 @@
-// share PORT INSTANCE SECONDS call|write N : loads over raw HTTP/2 and gRPC
+// load PORT INSTANCE SECONDS call|write|read|tree N [HASH SIZE]: loads over raw HTTP/2 and gRPC
 #define _GNU_SOURCE
 #include <arpa/inet.h>
 #include <errno.h>
@@ -13,10 +13,10 @@
 #include <sys/socket.h>
 #include <time.h>
 #include <unistd.h>
-static int port, seconds; static char *inst; static double until;
+static int port, seconds; static char *inst, *hash_of, *size_of; static double until;
 static _Atomic long bytes_done, calls_done;
 static double now(void){struct timespec t;clock_gettime(CLOCK_MONOTONIC,&t);return t.tv_sec+t.tv_nsec/1e9;}
-struct conn{int fd;unsigned char buf[1<<18];int have;long cwin,swin;int stream;int ended;};
+struct conn{int fd;unsigned char buf[1<<18];int have;long cwin,swin;int stream;int ended;long got,all;};
 static void die(const char*s){perror(s);exit(1);}
 static void sendall(int fd,const void*p,size_t n){const char*c=p;while(n){ssize_t k=send(fd,c,n,MSG_NOSIGNAL);if(k<=0)die("send");c+=k;n-=k;}}
 static int head(unsigned char*o,int len,int kind,int flags,int stream){o[0]=len>>16;o[1]=len>>8;o[2]=len;o[3]=kind;o[4]=flags;o[5]=stream>>24;o[6]=stream>>16;o[7]=stream>>8;o[8]=stream;return 9;}
@@ -29,7 +29,7 @@ static void take(struct conn*c){ssize_t k=recv(c->fd,c->buf+c->have,sizeof c->bu
   if(f[3]==8){uint32_t w=f[9]<<24|f[10]<<16|f[11]<<8|f[12];if(st==0)c->cwin+=w;else if(st==c->stream)c->swin+=w;}
   else if(f[3]==7){fprintf(stderr,"goaway %d\n",f[16]);exit(1);}
   else if((f[3]==1||f[3]==3)&&st==c->stream&&(f[3]==3||f[4]&1))c->ended=1;
-  else if(f[3]==0&&st==c->stream){bytes_done+=0;}
+  else if(f[3]==0&&st==c->stream){c->got+=len;c->all+=len;}
   at+=9+len;}
  memmove(c->buf,c->buf+at,c->have-at);c->have-=at;}
 static int varint(unsigned char*o,uint64_t v){int n=0;while(v>127){o[n++]=v|128;v>>=7;}o[n++]=v;return n;}
@@ -49,6 +49,18 @@ static void*writer(void*arg){struct conn*c=calloc(1,sizeof*c);copen(c);unsigned 
   while(!c->ended)take(c);
   c->stream+=2;}
  return 0;}
+// one call after another, of which many bytes come back
+static void ask(struct conn*c,const char*path,const unsigned char*message,int size){unsigned char o[1024],b[300];int m=0,bn=block(b,path);
+ m+=head(o,bn,1,4,c->stream);memcpy(o+m,b,bn);m+=bn;m+=head(o+m,5+size,0,1,c->stream);memset(o+m,0,4);m+=4;o[m++]=size;memcpy(o+m,message,size);m+=size;
+ c->ended=0;sendall(c->fd,o,m);while(!c->ended)take(c);c->stream+=2;
+ if(c->all>1<<29){unsigned char w[13];int n=head(w,4,8,0,0);w[n++]=c->all>>24;w[n++]=c->all>>16;w[n++]=c->all>>8;w[n++]=c->all;sendall(c->fd,w,n);c->all=0;}}
+static void*reader(void*arg){struct conn*c=calloc(1,sizeof*c);copen(c);char name[200];unsigned char message[256];int n=0,l=sprintf(name,"%s/blobs/%s/%s",inst,hash_of,size_of);
+ message[n++]=0x0a;message[n++]=l;memcpy(message+n,name,l);n+=l;
+ while(now()<until){c->got=0;ask(c,"/google.bytestream.ByteStream/Read",message,n);if(now()<until)bytes_done+=c->got;}return arg;}
+static void*trees(void*arg){struct conn*c=calloc(1,sizeof*c);copen(c);unsigned char message[256],digest[100];int n=0,d=0,il=strlen(inst);
+ digest[d++]=0x0a;digest[d++]=64;memcpy(digest+d,hash_of,64);d+=64;digest[d++]=0x10;d+=varint(digest+d,atol(size_of));
+ message[n++]=0x0a;message[n++]=il;memcpy(message+n,inst,il);n+=il;message[n++]=0x12;message[n++]=d;memcpy(message+n,digest,d);n+=d;
+ while(now()<until){ask(c,"/build.bazel.remote.execution.v2.ContentAddressableStorage/GetTree",message,n);calls_done++;}return arg;}
 static int cmp(const void*a,const void*b){double x=*(double*)a,y=*(double*)b;return x<y?-1:x>y;}
 static void caller(int n){struct conn*c=calloc(1,sizeof*c);copen(c);double*t=malloc(sizeof(double)*20000000);long k=0;double begun=now();
  unsigned char o[600],b[300];int bn=block(b,"/build.bazel.remote.execution.v2.Capabilities/GetCapabilities");int il=strlen(inst);
@@ -57,4 +69,7 @@ static void caller(int n){struct conn*c=calloc(1,sizeof*c);copen(c);double*t=mal
  double took=now()-begun;qsort(t,k,sizeof*t,cmp);printf("call/s %.0f p50 %.0f us p99 %.0f us max %.1f ms\n",k/took,t[k/2]*1e6,t[(long)(k*.99)]*1e6,t[k-1]*1e3);}
 int main(int argc,char**argv){port=atoi(argv[1]);inst=argv[2];seconds=atoi(argv[3]);until=now()+seconds;int n=atoi(argv[5]);
  if(!strcmp(argv[4],"call")){caller(n);return 0;}
- pthread_t th[64];for(int i=0;i<n;i++)pthread_create(&th[i],0,writer,(void*)(uintptr_t)(i+1));for(int i=0;i<n;i++)pthread_join(th[i],0);printf("write %.1f MB/s\n",bytes_done/1e6/seconds);}
+ if(argc>7){hash_of=argv[6];size_of=argv[7];}
+ int is_write=!strcmp(argv[4],"write"),is_tree=!strcmp(argv[4],"tree");void*(*of)(void*)=is_write?writer:is_tree?trees:reader;
+ pthread_t th[64];for(int i=0;i<n;i++)pthread_create(&th[i],0,of,(void*)(uintptr_t)(i+1));for(int i=0;i<n;i++)pthread_join(th[i],0);
+ if(is_tree)printf("tree/s %.1f\n",(double)calls_done/seconds);else printf("%s %.1f MB/s\n",argv[4],bytes_done/1e6/seconds);}

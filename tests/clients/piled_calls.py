@@ -2,10 +2,11 @@
 """piled_calls.py PROGRAM [--megabytes N] [--slow FACTOR]: what many dear calls at once cost another team.
 
 PROGRAM is the built `remoted`. Red stores a blob of N million bytes (10), of which GetTree has to read all before it
-is refused. It sends many such calls at once: 64 on one connection, 4 on each of 16, and one on each of 60. Meanwhile
-blue makes calls of GetCapabilities one after another. The longest of those may take as long as six of red's calls, and
-half a second. A line for each says what was found; it ends with status 1 where a limit is passed or an answer is not
-the right one.
+is refused. It sends many such calls at once: 64 on one connection, 4 on each of 16, and one on each of 60. Then it
+sends 51 on a connection but for the last byte of each, is quiet for so long that the server knows it for long pieces
+no more, and ends them all by 510 bytes. Meanwhile blue makes calls of GetCapabilities one after another. The longest
+of those may take as long as six of red's calls, and half a second. A line for each says what was found; it ends with
+status 1 where a limit is passed or an answer is not the right one.
 """
 
 import argparse
@@ -20,6 +21,10 @@ from server import Server
 # How many connections, and how many calls on each.
 PILES = [(1, 64), (16, 4), (60, 1)]
 
+# How many calls are ended by one packet, and for how many seconds red is quiet before that.
+PRIMED = 51
+QUIET = 62
+
 
 class Pile:
     """A connection on which calls are sent at once."""
@@ -32,6 +37,17 @@ class Pile:
     def send(self, path, message):
         framed = b"\0" + len(message).to_bytes(4, "big") + message
         one = lambda stream: frame(1, 4, stream, block(path)) + frame(0, 1, stream, framed)
+        self.socket.sendall(b"".join(one(2 * number + 1) for number in range(self.count)))
+
+    def prime(self, path, message):
+        """Sends the calls but for the last byte of each."""
+        framed = b"\0" + len(message).to_bytes(4, "big") + message
+        one = lambda stream: frame(1, 4, stream, block(path)) + frame(0, 0, stream, framed[:-1])
+        self.socket.sendall(b"".join(one(2 * number + 1) for number in range(self.count)))
+
+    def end(self, message):
+        """Sends the last byte of each."""
+        one = lambda stream: frame(0, 1, stream, message[-1:])
         self.socket.sendall(b"".join(one(2 * number + 1) for number in range(self.count)))
 
     def ended(self):
@@ -68,13 +84,27 @@ def pile(port, connections, calls, request):
     return taken
 
 
-def beside(ports, connections, calls, request):
+def primed(port, calls, request):
+    """Seconds until all calls were answered that one packet ended."""
+    time.sleep(3)
+    one = Pile(port, calls)
+    one.prime(m.CAS + "GetTree", request)
+    time.sleep(QUIET)
+    begun = time.perf_counter()
+    one.end(request)
+    one.ended()
+    taken = time.perf_counter() - begun
+    one.socket.close()
+    return taken
+
+
+def beside(ports, attack, *words):
     """Seconds until all calls were answered, and the longest that one of blue's took meanwhile."""
     ready, stop, longest = multiprocessing.Event(), multiprocessing.Event(), multiprocessing.Value("d", 0.0)
     blue = multiprocessing.Process(target=time_calls, args=(ports[1], ready, stop, longest))
     blue.start()
     ready.wait()
-    taken = pile(ports[0], connections, calls, request)
+    taken = attack(ports[0], *words)
     stop.set()
     blue.join()
     return taken, longest.value
@@ -96,9 +126,11 @@ def main():
             raise SystemExit("GetTree was not refused")
         one = time.perf_counter() - begun
         limit = words.slow * (6 * one + 0.5)
-        for connections, calls in PILES:
-            taken, longest = beside(server.ports, connections, calls, request)
-            told = f"{connections} x {calls} calls in {taken:.1f} s, one in {one:.2f} s"
+        attacks = [(f"{each[0]} x {each[1]} calls", pile, *each) for each in PILES]
+        attacks.append((f"{PRIMED} calls ended by a packet", primed, PRIMED))
+        for name, attack, *counts in attacks:
+            taken, longest = beside(server.ports, attack, *counts, request)
+            told = f"{name} in {taken:.1f} s, one in {one:.2f} s"
             print(f"{'ok' if longest <= limit else 'FAULT'} {told}: blue waits {longest:.2f} s at most", flush=True)
             if longest > limit:
                 raise SystemExit(1)

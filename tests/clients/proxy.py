@@ -1,7 +1,8 @@
 #!/usr/bin/env python3
 """proxy.py PROGRAM: calls through HAProxy with TLS and the file deploy/haproxy.cfg: one certificate may write and have
 actions run, one may read, one is revoked, and others get no connection. Uploads of five clients at once, of which the
-server refuses some, are all taken through the proxy.
+server refuses some, are all taken through the proxy. Through a second proxy at the client, where the line that bounds
+calls stands at the server's alone, some may be refused, and all are taken when they are tried again.
 
 PROGRAM is the built `remoted`. Certificates are made by openssl, in a folder that is removed. A line for each thing
 that holds; it ends with status 1 at the first that does not. Debian: haproxy, openssl, python3-grpcio; run it by
@@ -26,6 +27,8 @@ from server import Server, free_ports
 
 PIECE = 1_000_000
 CLIENTS, UPLOADS = 5, 20
+# Uploads of one client through two proxies, and how long it may take until each was taken.
+OUTPUTS, SECONDS = 120, 120
 
 CONFIG = pathlib.Path(__file__).resolve().parents[2] / "deploy/haproxy.cfg"
 
@@ -45,8 +48,9 @@ def make_certificates(folder):
         openssl(*new, "-subj", f"/CN={name}", "-keyout", f"{name}.key", "-out", f"{name}.csr")
         sign = ["x509", "-req", "-in", f"{name}.csr", "-CA", "ca.pem", "-CAkey", "ca.key", "-CAcreateserial"]
         openssl(*sign, "-days", "2", "-extfile", "names", "-out", f"{name}.pem")
-    with open(os.path.join(folder, "server-both.pem"), "wb") as both:
-        both.write(bytes_of(folder, "server.pem") + bytes_of(folder, "server.key"))
+    for name in ["server", "ci"]:
+        with open(os.path.join(folder, f"{name}-both.pem"), "wb") as both:
+            both.write(bytes_of(folder, f"{name}.pem") + bytes_of(folder, f"{name}.key"))
     told = ["openssl", "x509", "-in", "gone.pem", "-noout", "-serial"]
     serial = subprocess.run(told, cwd=folder, check=True, capture_output=True, text=True).stdout
     with open(os.path.join(folder, "revoked"), "w") as revoked:
@@ -73,6 +77,26 @@ def config_here(folder, port, server):
             raise SystemExit(f"{CONFIG} has not one {old!r}")
         told = told.replace(old, new)
     return told
+
+
+def config_of_client(folder, port, server):
+    """A proxy at a client, without a line that bounds its calls."""
+    return f"""
+global
+    maxconn 256
+    tune.h2.initial-window-size 16777216
+defaults
+    mode http
+    timeout connect 5s
+    timeout client 1d
+    timeout server 1d
+frontend cache
+    bind 127.0.0.1:{port} proto h2
+    default_backend cache
+backend cache
+    http-reuse always
+    server cache 127.0.0.1:{server} ssl crt {folder}/ci-both.pem ca-file {folder}/ca.pem verify required verifyhost localhost alpn h2
+"""
 
 
 def bytes_of(folder, name):
@@ -163,6 +187,36 @@ def many_uploads(folder, port, server):
     expect(count == 0, "none is refused through the proxy")
 
 
+def through_two(folder, port):
+    """Each of many uploads at once through a proxy at the client and the server's is taken, perhaps when it is tried again."""
+    own = free_ports(1)[0]
+    path = os.path.join(folder, "client.cfg")
+    with open(path, "w") as config:
+        config.write(config_of_client(folder, own, port))
+    proxy = subprocess.Popen(["haproxy", "-f", path], stderr=subprocess.DEVNULL)
+    end = time.time() + SECONDS
+
+    def until_taken(calls, blob):
+        tries = 1
+        while code(lambda: write(calls, blob, piece=16_384)) != "OK" and time.time() < end:
+            tries += 1
+            time.sleep(0.5)
+        return tries
+
+    try:
+        time.sleep(1)
+        blobs = [os.urandom(1_500_000) for _ in range(OUTPUTS)]
+        with grpc.insecure_channel(f"127.0.0.1:{own}") as calls:
+            with concurrent.futures.ThreadPoolExecutor(OUTPUTS) as threads:
+                tries = list(threads.map(lambda blob: until_taken(calls, blob), blobs))
+            names = [m.digest(blob) for blob in blobs]
+            missing = calls.unary_unary(m.FIND_MISSING)(m.find_missing("red", names), timeout=60)
+    finally:
+        proxy.terminate()
+        proxy.wait()
+    expect(missing == b"", f"{OUTPUTS} uploads through two proxies are all taken, in {max(tries)} tries at most")
+
+
 def main():
     if len(sys.argv) != 2:
         raise SystemExit(__doc__)
@@ -178,6 +232,7 @@ def main():
             time.sleep(3)
             calls_through(folder, port)
             many_uploads(folder, port, server.ports[0])
+            through_two(folder, port)
         finally:
             proxy.terminate()
             proxy.wait()

@@ -40,6 +40,8 @@ CODES = """OK CANCELLED UNKNOWN INVALID_ARGUMENT DEADLINE_EXCEEDED NOT_FOUND ALR
     UNAUTHENTICATED""".split()
 DROPPED = "remoted: red: blobs dropped, the youngest used 0 s before: "
 LONG_MESSAGES = "uploads refused, their messages are too long"
+LARGER = "uploads refused, larger than the quota of 1000 bytes, raise QUOTA"
+TOGETHER = "uploads refused, alone or together larger than the quota of 1000 bytes, raise QUOTA or have fewer at once"
 ALWAYS = ["GetActionResult", "Execute", "Read", "Write"]
 
 
@@ -375,15 +377,21 @@ def notices(program):
             name = m.write_name(f"{number}", hashlib.sha256(b"x" * 15).hexdigest(), 15)
             status = peer.call(m.WRITE, m.write(name, 0, b"x"))[1]
         expect(status[0] == 8, f"an upload more than 64 is refused: {status[1]}", status)
-        hears(server, "remoted: red: uploads refused, 64 are unfinished: 1")
+        hears(server, "remoted: red: uploads refused, 64 are unfinished, bound them in Bazel or in the proxy: 1")
         peer.close()
     with Watched(program, [("red", 1_000)], [], heard=True) as server, Peer(server.ports[0]) as peer:
         server.wanted = 0
-        for number, line in [(2_000, "uploads refused by the quota"), (1 << 22, LONG_MESSAGES)]:
+        for number, line in [(2_000, LARGER), (1 << 22, LONG_MESSAGES)]:
             name = m.write_name(f"{number}", hashlib.sha256(b"").hexdigest(), number)
             status = peer.call(m.WRITE, m.write(name, 0, b"x" * number))[1]
             expect(status[0] == 8, f"an upload is refused: {status[1]}", status)
             hears(server, f"remoted: red: {line}: 1")
+        name = m.write_name("first", hashlib.sha256(b"x" * 900).hexdigest(), 900)
+        peer.call(m.WRITE, m.write(name, 0, b"x" * 800))
+        name = m.write_name("second", hashlib.sha256(b"y" * 900).hexdigest(), 900)
+        status = peer.call(m.WRITE, m.write(name, 0, b"y" * 800))[1]
+        expect(status[0] == 8, f"two uploads together are more than the quota: {status[1]}", status)
+        hears(server, f"remoted: red: {TOGETHER}: 1")
     with Watched(program, [("red", 1_000)], [], heard=True) as server, Peer(server.ports[0]) as peer:
         server.wanted = 0
         peer.store([os.urandom(400) for _ in range(3)])

@@ -56,19 +56,13 @@ lasting_rule = record (long_option (codes "turns")) { defaults = codes "10000000
 abbrev pub listen_rule : Rule
 listen_rule = record (long_option (codes "listen")) { defaults = codes "127.0.0.1" ∷ [] }
 
--- from 1 to 2^31
+-- what the numbers of all instances may be is said where they are read
 abbrev pub blobs_rule : Rule
-blobs_rule =
-    record (long_option (codes "blobs"))
-    { parser = Some (Unsigned 1 2147483648); defaults = codes "65536" ∷ [] }
+blobs_rule = record (long_option (codes "blobs")) { defaults = codes "65536" ∷ [] }
 
--- from 0 to 2^31
 abbrev pub results_rule : Rule
-results_rule =
-    record (long_option (codes "results"))
-    { parser = Some (Unsigned 0 2147483648); defaults = codes "10000" ∷ [] }
+results_rule = record (long_option (codes "results")) { defaults = codes "10000" ∷ [] }
 
--- what `--result-bytes` and `--window` may be is said where they are read
 abbrev pub result_bytes_rule : Rule
 result_bytes_rule =
     record (long_option (codes "result-bytes")) { defaults = codes "67108864" ∷ [] }
@@ -201,9 +195,9 @@ port_of number = if nat_lt number (2 ^ 16) then Some number else None
 abbrev pub count_of : ℕ → Option ℕ
 count_of number = if nat_lt number (2 ^ 63) then Some number else None
 
--- the number of bytes that was given under a name, if it is at most 2^63 - 1
-abbrev pub bytes_of : Text → List Row → Option ℕ
-bytes_of name given =
+-- how much was given under a name, with a unit or none, if it is at most 2^63 - 1
+abbrev pub amount_of : Text → List Row → Option ℕ
+amount_of name given =
     option_and_then count_of (option_and_then size_of (first_of name given))
 
 -- the numbers may be chosen for an instance: those of `IsLimits`
@@ -227,14 +221,14 @@ limits_given given =
       result_bytes = result_bytes;
       window = window;
     }))
-    (bytes_of (codes "window") given)) (bytes_of (codes "result-bytes") given))
-    (number_of (codes "results") given)) (number_of (codes "blobs") given)
+    (amount_of (codes "window") given)) (amount_of (codes "result-bytes") given))
+    (amount_of (codes "results") given)) (amount_of (codes "blobs") given)
 
 abbrev pub probe_of : List Row → Option InvocationValue
 probe_of given =
     option_and_then (λ port. option_and_then (λ send. option_and_then (λ want.
     option_map (λ turns. probe port send want turns) (number_of (codes "turns") given))
-    (bytes_of (codes "want") given)) (first_of (codes "send") given))
+    (amount_of (codes "want") given)) (first_of (codes "send") given))
     (option_and_then port_of (number_of (codes "port") given))
 
 abbrev pub question_of : List Row → Option InvocationValue

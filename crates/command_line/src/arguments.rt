@@ -206,9 +206,7 @@ pub(crate) fn blobs<'a>(alloc: Global) -> Arg<'a>
 {
     let help = "How many blobs each instance stores at most, 1 to 2147483648. Each that is there \
                 takes some 570 bytes of memory beside its own";
-    long_option(alloc, "blobs", "N", help, false)
-        .value_parser(value_parser!(u64).range(1..=2_147_483_648))
-        .default_value("65536")
+    long_option(alloc, "blobs", "N", help, false).default_value("65536")
 }
 
 /// The most results of an instance.
@@ -217,9 +215,7 @@ pub(crate) fn results<'a>(alloc: Global) -> Arg<'a>
 {
     let help = "How many results of actions each instance keeps at most, 0 to 2147483648. Each \
                 that is there takes some 250 bytes of memory beside its own";
-    long_option(alloc, "results", "N", help, false)
-        .value_parser(value_parser!(u64).range(0..=2_147_483_648))
-        .default_value("10000")
+    long_option(alloc, "results", "N", help, false).default_value("10000")
 }
 
 /// The most bytes of the results of an instance.

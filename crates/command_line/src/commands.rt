@@ -1,6 +1,6 @@
 //! The commands, with what each takes and what its help says.
 
-ghost use Rattle.std.specs.Prelude.{◌≡◌, IfOk};
+ghost use Rattle.std.specs.Prelude.{◌≡◌, IfOk, codes};
 ghost use Rattle.clap.specs.Words.{App, Shape, app_of, new_app, with_subcommand};
 ghost use Rattle.command_line.specs.CommandLine.{command_line, with_limits, with_ways, script_command, probe_command, check_command, serve_command};
 ghost use Rattle.command_line.specs.Shown.{HasApp, HasShape, IsLocal};
@@ -56,6 +56,18 @@ fn script_command<'a>(
 {
     let command = with_limits(alloc, described(alloc, name, about, after))?;
     command.arg(file(alloc, lines))
+}
+
+fn unary<'a>(alloc: Global) -> Result<Command<'a>, AllocError>
+    ensures { IfOk result (HasShape (script_command (codes "unary"))) }
+{
+    script_command(alloc, "unary", UNARY_ABOUT, UNARY_LINES, UNARY_AFTER)
+}
+
+fn replay<'a>(alloc: Global) -> Result<Command<'a>, AllocError>
+    ensures { IfOk result (HasShape (script_command (codes "replay"))) }
+{
+    script_command(alloc, "replay", REPLAY_ABOUT, REPLAY_LINES, REPLAY_AFTER)
 }
 
 fn probe<'a>(alloc: Global) -> Result<Command<'a>, AllocError>
@@ -135,15 +147,25 @@ fn with_command<'a>(
     }
 }
 
+/// A command by itself, with the program's name before its own, as its users write it.
+pub(crate) fn lone_command<'a>(alloc: Global, name: &str) -> Result<Command<'a>, AllocError> {
+    let (command, whole) = match name {
+        "probe" => (probe(alloc)?, "remoted probe"),
+        "check" => (check(alloc)?, "remoted check"),
+        "serve" => (serve(alloc)?, "remoted serve"),
+        "replay" => (replay(alloc)?, "remoted replay"),
+        _ => (unary(alloc)?, "remoted unary"),
+    };
+    command.bin_name(whole)
+}
+
 /// The program's command line.
 pub(crate) fn command<'a>(alloc: Global) -> Result<Command<'a>, AllocError>
     ensures { IfOk result (λ c. app_of c ≡ command_line) }
 {
     let command = described(alloc, "remoted", ABOUT, AFTER).version(VERSION);
-    let unary = script_command(alloc, "unary", UNARY_ABOUT, UNARY_LINES, UNARY_AFTER);
-    let command = with_command(Ok(command), unary);
-    let replay = script_command(alloc, "replay", REPLAY_ABOUT, REPLAY_LINES, REPLAY_AFTER);
-    let command = with_command(command, replay);
+    let command = with_command(Ok(command), unary(alloc));
+    let command = with_command(command, replay(alloc));
     let command = with_command(command, probe(alloc));
     let command = with_command(command, check(alloc));
     with_command(command, serve(alloc))

@@ -4,14 +4,14 @@ pub(crate) const ABOUT: &str =
     "A remote build cache for Bazel. Without a command it carries out the script on standard input";
 
 pub(crate) const AFTER: &str =
-    "A number of bytes in an option may have a unit behind it: K, M, G or T, powers of 1,024.\n\
+    "A number of bytes, blobs or results in an option may have a unit: K, M, G or T, powers of 1,024.\n\
     8G is 8589934592, 500M is 524288000. In a word for an instance it is digits alone.\n\n\
     Statuses:\n  \
     0  done\n  \
     1  something cannot be read, written, made, opened or begun\n  \
     2  the command line is wrong\n  \
     3  unary, replay: a line of the script is wrong, and nothing was carried out\n  \
-    4  probe: too few bytes came; check: the server does not answer\n  \
+    4  probe: too few bytes came; check: the server does not answer, or its figures are old\n  \
     5  out of memory\n\
     Standard error says why, in lines that begin with `remoted: ` or `error: `.\n\n\
     Examples:\n  \
@@ -81,8 +81,8 @@ pub(crate) const CHECK_AFTER: &str =
     0  it answers, or its figures are told\n  \
     1  FILE cannot be read, or standard output cannot be written\n  \
     2  the command line is wrong\n  \
-    4  it does not answer, not in time, or refuses, or FILE has no such instance; standard error \
-    says which\n  \
+    4  it does not answer, not in time, or refuses; FILE has no such instance, or was written more \
+    than 60 seconds ago; standard error says which\n  \
     5  out of memory\n\n\
     Examples:\n  \
     remoted check --port 8980\n  \

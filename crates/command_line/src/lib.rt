@@ -7,15 +7,16 @@ mod help_texts;
 
 ghost use Rattle.std.specs.Prelude.{◌≡◌, ◌≢◌, ◌⊎◌, ℕ, List, Some, None, true, map, string_bytes, IfOk, IfErr, option_map};
 ghost use Rattle.clap.specs.Words.{all_of, app_of, first_of, found_of, kind_of, rows_of, subcommand_rows_of};
-ghost use Rattle.clap.specs.declared.error.kind.ErrorKind.TheVariants.{DisplayHelp, DisplayVersion};
-ghost use Rattle.command_line.specs.CommandLine.{command_line, bytes_of, limits_given, number_of, probe_of, check_of, question_of, lasting_of, serve_of, file_or_peer_by, invocation_by, invocation_of};
+ghost use Rattle.clap.specs.declared.error.kind.ErrorKind.TheVariants.{DisplayHelp, DisplayVersion, ValueValidation};
+ghost use Rattle.command_line.specs.CommandLine.{command_line, amount_of, limits_given, number_of, probe_of, check_of, question_of, lasting_of, serve_of, file_or_peer_by, invocation_by, invocation_of};
 ghost use Rattle.instance_limits.specs.Shown.{limits_value};
 ghost use Rattle.command_line.specs.Shown.{invocation_value, invocation_asked, HasNoFault, IsFaultOf, IsFrom};
 
 use crate::arguments::INSTANCES;
-use crate::commands::command;
+use crate::commands::{command, lone_command};
+pub use clap::Error;
 use clap::error::ErrorKind;
-use clap::{ArgMatches, Command, Error};
+use clap::{ArgMatches, Command};
 use instance_limits::Limits;
 use sizes::size;
 use std::alloc::{AllocError, Global};
@@ -110,22 +111,22 @@ fn number(found: &ArgMatches<'_>, name: &str) -> Option<u64>
     found.get_one::<u64>(name)
 }
 
-/// The number of bytes that was given under a name, from 0 to 2^63 - 1.
-fn bytes(found: &ArgMatches<'_>, name: &str) -> Option<u64>
-    ensures { result ≡ bytes_of name.now (rows_of (found_of found.now)) }
+/// How much was given under a name, with a unit or none, from 0 to 2^63 - 1.
+fn amount(found: &ArgMatches<'_>, name: &str) -> Option<u64>
+    ensures { result ≡ amount_of name.now (rows_of (found_of found.now)) }
 {
-    let bytes = size(text(found, name)?.as_bytes())?;
-    if bytes <= MOST { Some(bytes) } else { None }
+    let amount = size(text(found, name)?.as_bytes())?;
+    if amount <= MOST { Some(amount) } else { None }
 }
 
 /// The numbers of all instances.
 fn limits(found: &ArgMatches<'_>) -> Option<Limits>
     ensures { option_map limits_value result ≡ limits_given (rows_of (found_of found.now)) }
 {
-    let blobs = number(found, "blobs")?;
-    let results = number(found, "results")?;
-    let result_bytes = bytes(found, "result-bytes")?;
-    let window = bytes(found, "window")?;
+    let blobs = amount(found, "blobs")?;
+    let results = amount(found, "results")?;
+    let result_bytes = amount(found, "result-bytes")?;
+    let window = amount(found, "window")?;
     Limits::new(blobs, results, result_bytes, u32::try_from(window).ok()?)
 }
 
@@ -136,7 +137,7 @@ fn requested_probe<'a>(found: &ArgMatches<'a>) -> Option<Invocation<'a>>
     Some(Invocation::Probe {
         port: u16::try_from(port).ok()?,
         send: text(found, "send")?,
-        want: bytes(found, "want")?,
+        want: amount(found, "want")?,
         turns: number(found, "turns")?,
     })
 }
@@ -312,39 +313,129 @@ const BAD_TURNS: &str = "--turns is not a number from 0 to 9223372036854775807, 
 const BAD_WANT: &str =
     "--want is not a number of bytes from 0 to 9223372036854775807, as 1000, 64K, 500M or 8G";
 
-const BAD_CHECK: &str = "either --port is given, or --metrics";
+const NO_CHECK: &str = "neither --port is given, nor --metrics";
+
+const BAD_CHECK: &str = "--port and --metrics are given, and one of them is asked at a time";
+
+const BAD_BLOBS: &str = "--blobs is not a number from 1 to 2147483648, as 65536, 64K or 1M";
+
+const BAD_RESULTS: &str = "--results is not a number from 0 to 2147483648, as 10000 or 64K";
 
 const BAD_RESULT_BYTES: &str =
     "--result-bytes is not a number of bytes from 4194304 to 2147483648, as 64M or 2G";
 
 const BAD_WINDOW: &str = "--window is not a number of bytes from 65535 to 2147483647, as 64K or 4M";
 
-/// Whether so many bytes of results may be given to an instance.
-fn are_result_bytes(bytes: u64) -> bool {
-    let usual = Limits::usual();
-    Limits::new(usual.blobs(), usual.results(), bytes, usual.window()).is_some()
+/// What is told of a value, of the command to which it was given, and the value, where it is one.
+#[derive(Clone, Copy)]
+struct BadValue<'a> {
+    command: &'static str,
+    text: &'static str,
+    value: Option<&'a str>,
 }
 
-/// What is told of a value that `clap` does not look at: a server's turns, the bytes of a probe,
-/// bytes for instances, or what is checked.
-fn bad_value_text(matches: &ArgMatches<'_>) -> &'static str {
-    match matches.subcommand() {
-        Some(("probe", _)) => BAD_WANT,
-        Some(("check", _)) => BAD_CHECK,
-        Some(("serve", found)) if lasting_turns(found).is_none() => BAD_TURNS,
-        Some((_, found)) => match bytes(found, "result-bytes") {
-            Some(bytes) if are_result_bytes(bytes) => BAD_WINDOW,
-            _ => BAD_RESULT_BYTES,
-        },
-        None => BAD_WANT,
+/// Whether what was given under a name may be that number of an instance.
+fn may_be_chosen(found: &ArgMatches<'_>, name: &str) -> bool {
+    let Some(amount) = amount(found, name) else {
+        return false;
+    };
+    let usual = Limits::usual();
+    let (blobs, results) = (usual.blobs(), usual.results());
+    let (bytes, window) = (usual.result_bytes(), usual.window());
+    let limits = match name {
+        "blobs" => Limits::new(amount, results, bytes, window),
+        "results" => Limits::new(blobs, amount, bytes, window),
+        _ => Limits::new(blobs, results, amount, window),
+    };
+    limits.is_some()
+}
+
+/// What was given to a command under a name, and what is told of it.
+fn bad_option<'a>(
+    command: &'static str,
+    found: &ArgMatches<'a>,
+    name: &str,
+    told: &'static str,
+) -> BadValue<'a> {
+    BadValue {
+        command,
+        text: told,
+        value: text(found, name),
     }
 }
 
+/// The first of the numbers of all instances that may not be chosen; the last, if no other is.
+fn bad_limit<'a>(command: &'static str, found: &ArgMatches<'a>) -> BadValue<'a> {
+    if !may_be_chosen(found, "blobs") {
+        return bad_option(command, found, "blobs", BAD_BLOBS);
+    }
+    if !may_be_chosen(found, "results") {
+        return bad_option(command, found, "results", BAD_RESULTS);
+    }
+    if !may_be_chosen(found, "result-bytes") {
+        return bad_option(command, found, "result-bytes", BAD_RESULT_BYTES);
+    }
+    bad_option(command, found, "window", BAD_WINDOW)
+}
+
+/// What is wrong with what `check` is asked for.
+fn bad_check<'a>(found: &ArgMatches<'a>) -> BadValue<'a> {
+    let text = match text(found, "port") {
+        Some(_) => BAD_CHECK,
+        None => NO_CHECK,
+    };
+    BadValue {
+        command: "check",
+        text,
+        value: None,
+    }
+}
+
+/// A value that `clap` does not look at: a server's turns, the bytes of a probe, the numbers of
+/// instances, or what is checked.
+fn bad_value<'a>(matches: &ArgMatches<'a>) -> BadValue<'a> {
+    match matches.subcommand() {
+        Some(("probe", found)) => bad_option("probe", found, "want", BAD_WANT),
+        Some(("check", found)) => bad_check(found),
+        Some(("serve", found)) if lasting_turns(found).is_none() => {
+            bad_option("serve", found, "turns", BAD_TURNS)
+        }
+        Some(("serve", found)) => bad_limit("serve", found),
+        Some(("replay", found)) => bad_limit("replay", found),
+        Some((_, found)) => bad_limit("unary", found),
+        None => BadValue {
+            command: "unary",
+            text: BAD_BLOBS,
+            value: None,
+        },
+    }
+}
+
+/// A text, and behind it the value that it is about.
+fn with_value(alloc: Global, bad: BadValue<'_>) -> Result<String, AllocError> {
+    let text = bad.text;
+    match bad.value {
+        Some(value) => format!(in alloc; "{text}: '{value}'"),
+        None => String::from_str(alloc, text),
+    }
+}
+
+/// The error of a command for a value that `clap` does not look at.
+fn value_error(alloc: Global, bad: BadValue<'_>) -> Result<Error, AllocError>
+    ensures { IfOk result (λ error. kind_of error ≡ ValueValidation) }
+{
+    let told = with_value(alloc, bad)?;
+    let mut command = lone_command(alloc, bad.command)?;
+    let error = command.error(ErrorKind::ValueValidation, told.as_str());
+    drop(command);
+    error
+}
+
 /// The fault of a value that `clap` does not look at.
-fn bad_value(command: &mut Command<'_>, text: &str) -> CommandLineError
+fn value_fault(alloc: Global, bad: BadValue<'_>) -> CommandLineError
     ensures { (words : List (List ℕ)) → invocation_asked words ≡ None → IsFaultOf words result }
 {
-    match command.error(ErrorKind::ValueValidation, text) {
+    match value_error(alloc, bad) {
         Ok(error) => CommandLineError::from(error),
         Err(_) => CommandLineError::NoMemory,
     }
@@ -367,11 +458,11 @@ fn asked<'a>(
         Err(error) => return Err(CommandLineError::from(error)),
     };
     let requested = requested(alloc, &matches);
-    let text = bad_value_text(&matches);
+    let bad = bad_value(&matches);
     drop(matches);
     match requested? {
         Some(invocation) => Ok(invocation),
-        None => Err(bad_value(command, text)),
+        None => Err(value_fault(alloc, bad)),
     }
 }
 

@@ -1,12 +1,15 @@
 //! The calls on one connection.
 
-ghost use Rattle.std.specs.Prelude.{◌≡◌, ◌≢◌, ◌++◌, ◌∷◌, ◌<◌, [], List, ℕ, IfOk, OnOk, OnSome, length, filter, take, drop};
+ghost use Rattle.std.specs.Prelude.{◌≡◌, ◌≢◌, ◌++◌, ◌∷◌, ◌<◌, [], List, ℕ, IfOk, OnOk, OnSome, length, count_by, filter, take, drop};
+ghost use Rattle.std.specs.List.{list_any};
 ghost use Rattle.std.specs.Option.{option_to_list};
 ghost use Rattle.grpc_messages.specs.Reader.{bytes_left};
 ghost use Rattle.grpc_messages.specs.declared.error.MessagesError.{MessagesError};
 ghost use Rattle.conn_core.specs.Calls.{messages_of, events_of_content, events_at_end, message_refusal};
+ghost use Rattle.conn_core.specs.CallsInCourse.{is_near_end, is_near_end_on, is_kept_half};
 ghost use Rattle.conn_core.specs.StandsFor.{calls_kept, has_live_stream, live_numbers};
 ghost use Rattle.conn_core.specs.CallSteps.{TakesAll, TakesOn, BeginsCall, call_place, without_call, cancel_if, has_call};
+ghost use Rattle.conn_core.specs.declared.call.Call.{Call};
 ghost use Rattle.conn_core.specs.declared.event.CallEvent.TheVariants.{Fault};
 
 use crate::event::CallEvent;
@@ -16,6 +19,9 @@ use http2_streams::{Stream, is_live};
 use rpc::Refusal;
 use std::alloc::{AllocError, Global};
 use std::collections::VecDeque;
+
+/// So many bytes of a connection are few: they are carried out in one piece.
+const FEW_BYTES: usize = 512;
 
 /// A call on a live stream, and the text of its request.
 #[derive(Drop)]
@@ -33,6 +39,13 @@ impl Call {
             stream,
             messages: Messages::new(alloc),
         }
+    }
+
+    /// Whether a message came in part that few more bytes may end.
+    fn is_near_end(&self) -> bool
+        ensures { result ≡ is_near_end self.now.messages }
+    {
+        self.messages.may_end_in(FEW_BYTES)
     }
 
     /// Appends the events that more of the request's data brings. After a fault nothing follows.
@@ -234,4 +247,45 @@ pub(crate) fn pop_live_call(calls: &mut Vec<Call>, live: &[Stream]) -> Option<u3
         }
     }
     None
+}
+
+/// How many of these streams have a call that their client did not end, and of which few bytes may
+/// end a message that came in part.
+pub(crate) fn count_half(calls: &[Call], live: &[Stream]) -> usize
+    ensures { result ≡ count_by (is_kept_half calls.now) live.now }
+{
+    // Mostly there is none, or one.
+    if !is_any_near_end(calls) {
+        return 0;
+    }
+    live.iter().filter(|stream| is_half(calls, stream)).count()
+}
+
+/// Whether few bytes may end a message of one of these calls that came in part.
+fn is_any_near_end(calls: &[Call]) -> bool
+    ensures { result ≡ list_any (λ (c : Call). is_near_end c.messages) calls.now }
+{
+    calls.iter().any(|call| call.is_near_end())
+}
+
+/// Whether the client did not end a stream, and few bytes may end a message of its call that came in
+/// part.
+fn is_half(calls: &[Call], stream: &Stream) -> bool
+    ensures { result ≡ is_kept_half calls.now stream.now }
+{
+    !stream.ended_by_client && is_near_end_on(calls, stream.number)
+}
+
+/// Whether few bytes may end a message of the stream's call that came in part, if it has one.
+fn is_near_end_on(calls: &[Call], stream: u32) -> bool
+    ensures { result ≡ is_near_end_on stream calls.now }
+{
+    let mut left = calls;
+    'calls: while let [call, rest @ ..] = left {
+        if call.stream == stream {
+            return call.is_near_end();
+        }
+        left = rest;
+    }
+    false
 }

@@ -1,6 +1,6 @@
 //! One connection: what it keeps, and what it is asked for.
 
-ghost use Rattle.std.specs.Prelude.{◌≡◌, ◌≢◌, ◌≤◌, ◌<◌, ◌&&◌, not, [], option_to_list, IsTrue, true, IfOk, OnOk, OnErr, OnSome, None, Err, length, take, drop};
+ghost use Rattle.std.specs.Prelude.{◌≡◌, ◌≢◌, ◌≤◌, ◌<◌, ◌&&◌, not, [], option_to_list, IsTrue, true, IfOk, OnOk, OnErr, OnSome, None, Err, length, count_by, take, drop, if◌then◌else◌};
 ghost use Rattle.std.specs.List.{list_any};
 ghost use Rattle.http2_streams.specs.declared.stream.Stream.{Stream};
 ghost use Rattle.grpc_messages.specs.Wire.{message_length_limit};
@@ -9,6 +9,7 @@ ghost use Rattle.grpc_sending.specs.SortedQueues.{AreSorted};
 ghost use Rattle.grpc_sending.specs.Bytes.{most_untaken};
 ghost use Rattle.grpc_sending.specs.StoredSending.{SourceTexts, QueuesEndWithin, Tells, KeepsFit, KeepsFitWith, KeepsSources, HoldsMore, HasFewSources, sources_of};
 ghost use Rattle.grpc_sending.specs.Owed.{Headed, Message};
+ghost use Rattle.conn_core.specs.CallsInCourse.{is_kept_half};
 ghost use Rattle.conn_core.specs.Past.{new_past, with_bytes, with_taken};
 ghost use Rattle.conn_core.specs.StandsFor.{IsConnection, Becomes, Owes, OwesRange, Pumps, PopsOne, ReadsOneFrame, calls_kept, unread_length, live_calls};
 
@@ -17,7 +18,7 @@ mod failing;
 mod frames;
 mod greeting;
 
-use crate::call::{Call, drop_closed_if_fewer, pop_live_call};
+use crate::call::{Call, count_half, drop_closed_if_fewer, pop_live_call};
 use crate::event::CallEvent;
 use crate::floods;
 use greeting::greet;
@@ -321,6 +322,19 @@ impl Connection {
             && list_any (λ (s : Stream). s.ended_by_client) self.now.streams.live) }
     {
         !self.ended && is_any_whole(self.streams.live())
+    }
+
+    /// How many calls are in course that their client did not end yet, and of which 512 bytes may end
+    /// a message that came in part. After an error of the connection there are none.
+    pub fn half_calls(&self) -> usize
+        ensures { result ≡ (if self.now.ended then 0
+            else count_by (is_kept_half self.now.calls) self.now.streams.live) }
+    {
+        if self.ended {
+            0
+        } else {
+            count_half(&self.calls, self.streams.live())
+        }
     }
 
     /// Gives up the first of the calls on live streams, and gives its stream. After an error of the

@@ -9,7 +9,10 @@ use run_calls::RunKey;
 /// Why a run fails whose launcher is lost, as it is written to the errors.
 pub const LAUNCHER: &str = "launcher";
 
-/// What a launcher that is lost said last, as it is written there.
+/// The same where a call of its program fails.
+pub const START: &str = "start";
+
+/// What the programs say of either, as it is written there.
 const LAST_WORDS: &str = "it is \\\"lost\\\"\\n\\xff";
 
 /// What a client is sent where this run fails, or none.
@@ -61,7 +64,7 @@ fn line(wrong: Option<Deed>, word: &str, output: &mut Output) -> String {
         _ => return String::new(alloc),
     };
     let name = NAMES.get(instance as usize).copied().unwrap_or("");
-    if word == LAUNCHER {
+    if word == LAUNCHER || word == START {
         return output.string(format!(in alloc;
             "remoted: run {name} {job} failed: {word}\nremoted: run {name} {job}: {LAST_WORDS}\n"
         ));

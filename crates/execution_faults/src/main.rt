@@ -21,7 +21,7 @@ mod slow_errors;
 use crate::case::{Fake, NAMES, carry_out, cut_short_each};
 use crate::counting::CallFault::{Fails, IsTooLong};
 use crate::counting::{CallFault, Deed, Failing};
-use crate::judging::{Judge, LAUNCHER};
+use crate::judging::{Judge, LAUNCHER, START};
 use crate::slow_errors::write_lines;
 use hex::FromHexError;
 use program_status::{Fault, Output, Status, read_all};
@@ -44,7 +44,7 @@ type Pass = (&'static str, Fake, CallFault, &'static str);
 static PASSES: [Pass; 7] = [
     ("folders fail", Fake::Folder, Fails(OTHER), "folder"),
     ("folders lack memory", Fake::Folder, Fails(LACK), "memory"),
-    ("programs fail", Fake::Programs, Fails(OTHER), "start"),
+    ("programs fail", Fake::Programs, Fails(OTHER), START),
     (
         "launchers are lost",
         Fake::Programs,

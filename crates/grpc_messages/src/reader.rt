@@ -4,7 +4,7 @@ ghost use Rattle.std.specs.Prelude.{◌≡◌, ◌≢◌, ◌↔◌, IsTrue, ◌
 ghost use Rattle.grpc_messages.specs.declared.error.MessagesError.{MessagesError};
 ghost use Rattle.grpc_messages.specs.Wire.{end_of_rest};
 ghost use Rattle.grpc_messages.specs.Reading.{split, whole_at};
-ghost use Rattle.grpc_messages.specs.Reader.{AreMessages, bytes_left, with_more_bytes, messages_in, split_left};
+ghost use Rattle.grpc_messages.specs.Reader.{AreMessages, bytes_left, may_end_in, missing_of, with_more_bytes, messages_in, split_left};
 ghost use Rattle.grpc_messages.specs.Step.{TakesMessage, ends_at, after_end};
 
 use crate::error::MessagesError;
@@ -212,6 +212,18 @@ impl Messages {
         self.refusal.is_some() || self.prefix.is_empty()
     }
 
+    /// Whether a message has begun that so many more bytes may end. A reader that refused keeps
+    /// none.
+    pub fn may_end_in(&self, more: usize) -> bool
+        ensures { result ≡ may_end_in more (bytes_left self.now) }
+    {
+        if self.is_empty() {
+            return false;
+        }
+        let unread = behind_given(&self.behind, self.given);
+        missing_of(self.prefix.as_slice(), unread) <= more
+    }
+
     fn finish(&mut self) -> Result<(), MessagesError>
         ensures answer { result ≡ ends_at MESSAGE_LIMIT self.old }
         ensures after { self.new ≡ after_end result self.old }
@@ -358,6 +370,19 @@ fn whole_at(prefix: &[u8], behind: &[u8]) -> Result<Option<usize>, MessagesError
         return Ok(None);
     }
     Ok(Some(size))
+}
+
+/// How many bytes are missing of the message that begins so: of its prefix, where that is not whole.
+fn missing_of(prefix: &[u8], behind: &[u8]) -> usize
+    requires few { length prefix.now ≤ 5 }
+    requires none { length prefix.now < 5 → behind.now ≡ [] }
+    ensures { result ≡ missing_of (prefix.now ++ behind.now) }
+{
+    if prefix.len() < PREFIX_LENGTH {
+        return PREFIX_LENGTH - prefix.len();
+    }
+    let size = BigEndian::read_u32(&prefix[1..]) as usize;
+    size.saturating_sub(behind.len())
 }
 
 /// Takes the message behind the prefix, which has `size` bytes, and begins the next prefix with

@@ -1,5 +1,5 @@
 -- The folders in which runs work.
-use Rattle.std.specs.Prelude.{ℕ, List, [], ◌∷◌, ◌++◌, codes}
+use Rattle.std.specs.Prelude.{◌≡◌, ◌<◌, ◌⊎◌, ℕ, List, [], ◌∷◌, ◌++◌, codes, get_or, length}
 use Rattle.std.specs.Fmt.{decimal}
 use Rattle.run_calls.specs.Values.{PlaceValue}
 use Rattle.run_calls.specs.declared.task.RunKey.{RunKey}
@@ -38,3 +38,12 @@ node_path run names = below_all (root_name run.instance run.job) names
 abbrev pub left_path : PlaceValue → List ℕ → List (List ℕ) → List ℕ
 left_path place path names =
     below_all (below (below (root_name place.run.instance place.run.job) place.directory) path) names
+
+-- no slash is in a text
+abbrev pub HasNoSlash : List ℕ → Type 0
+HasNoSlash text = (at : ℕ) → at < length text → get_or text at 0 ≡ 47 → ⊥
+
+-- a path is what is above, a slash, and a name that has none; or it is such a name alone
+abbrev pub IsParted : List ℕ → List ℕ → List ℕ → Type 0
+IsParted path above name = HasNoSlash name
+    × ((path ≡ above ++ 47 ∷ name) ⊎ ((above ≡ []) × (path ≡ name)))

@@ -7,7 +7,7 @@ ghost use Rattle.std.specs.Prelude.{◌≡◌, ◌++◌, IfOk, OnOk, codes, map,
 ghost use Rattle.std.specs.Option.{option_map_or};
 ghost use Rattle.std.specs.Rc.{rc_str_bytes};
 ghost use Rattle.run_calls.specs.Values.{place_shown};
-ghost use Rattle.host_files.specs.Folders.{aside_name, below, below_all, left_path, node_path, root_name, root_path, working_path};
+ghost use Rattle.host_files.specs.Folders.{IsParted, aside_name, below, below_all, left_path, node_path, root_name, root_path, working_path};
 
 use run_calls::{Place, RunKey};
 use std::alloc::{AllocError, Global};
@@ -110,8 +110,13 @@ pub fn working_path(alloc: Global, work: &str, place: &Place) -> Result<String, 
 }
 
 /// The path of what a path leads to is in, and its name there.
-pub fn parted(path: &str) -> (&str, &str) {
-    path.rsplit_once('/').unwrap_or(("", path))
+pub fn parted(path: &str) -> (&str, &str)
+    ensures { IsParted path.now result.0.now result.1.now }
+{
+    match path.rsplit_once('/') {
+        Some(parts) => parts,
+        None => ("", path),
+    }
 }
 
 fn add(whole: &mut String, path: &str) -> Result<(), AllocError>

@@ -28,7 +28,7 @@ impl<'a> HostFolder<'a> {
     /// failed is noted.
     pub fn new(
         rt: &'a HostRuntime,
-        work: Work,
+        work: Work<'a>,
         links: Links,
         counts: &'a FolderCounts,
         failure: &'a Cell<Option<io::Error>>,

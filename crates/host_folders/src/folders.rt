@@ -3,28 +3,24 @@
 ghost use Rattle.std.specs.Prelude.{◌≡◌, ◌≤◌, IfOk, length};
 
 use crate::counts::FolderCounts;
+use crate::entrance::Entrance;
+use crate::opener::{Opener, Target};
 use crate::remover::Remover;
 use crate::tallies::Tallies;
 use crate::work::Work;
-use host_directories::{
-    COMMON_MODE, Directory, Entered, Entrance, Kept, Listed, Opener, PRIVATE_MODE, Removal, Target,
-    kept_file, list_in, look_in, open_to_add, open_to_read,
-};
-use host_files::{
-    aside_name, file_path, found_at, is_absence, left_path, node_path, parted, read_part, root_name,
-};
+use host_files::{aside_name, file_path, left_path, node_path, parted, root_name};
 use host_shells::Removing;
+use host_system::{HostDirectory, HostFile};
 use run_calls::{Entry, FileFacts, Found, Place, RunKey};
-use std::fs::{File, OpenOptions, Permissions};
-use std::io::{self, ErrorKind, Write};
-use std::os::unix::fs::{OpenOptionsExt, PermissionsExt, symlink};
+use run_folders::{
+    Entered, Kept, Listed, PRIVATE_MODE, entry_name, is_absence, kept_file, list_in, look_in,
+    make_node, open_to_add, open_to_read, read_part, remove, remove_some,
+};
+use std::alloc::Global;
+use std::io::{self, ErrorKind};
 use std::rc::RcStr;
+use system::{Directory, OpenFile};
 use tree_nodes::NodeKind;
-
-/// How a file, and one that may be executed, can be used.
-const FILE_MODE: u32 = 0o644;
-
-const EXECUTABLE_MODE: u32 = 0o755;
 
 /// What becomes of symbolic links in the output directories of runs.
 #[derive(Clone, Copy, Debug, PartialEq, Eq)]
@@ -39,7 +35,7 @@ pub enum Links {
 #[derive(Drop)]
 pub(crate) struct Folders<'a> {
     rt: &'a HostRuntime,
-    work: Work,
+    work: Work<'a>,
     links: Links,
     counts: &'a FolderCounts,
     entrance: Entrance<'a>,
@@ -47,9 +43,9 @@ pub(crate) struct Folders<'a> {
     opener: Option<Opener<'a>>,
     /// The file that was made last. It is closed before a program starts, as one that is open to be
     /// written cannot be executed.
-    made: Option<Kept>,
+    made: Option<Kept<HostFile>>,
     /// The file of which a part was read last, or is to be read next.
-    read: Option<Kept>,
+    read: Option<Kept<HostFile>>,
     /// Why the file that is to be read next could not be opened, if it could not.
     unopened: Option<io::Error>,
     remover: Remover<'a>,
@@ -59,27 +55,46 @@ pub(crate) struct Folders<'a> {
     tallies: Tallies,
 }
 
-fn make_file(rt: &HostRuntime, path: &str, is_executable: bool) -> io::Result<File> {
-    let mode = if is_executable {
-        EXECUTABLE_MODE
-    } else {
-        FILE_MODE
-    };
-    let file: File = OpenOptions::new()
-        .append(true)
-        .create_new(true)
-        .mode(mode)
-        .open(rt, path)?;
-    // Whatever the process's own mask takes away.
-    file.set_permissions(Permissions::from_mode(mode))?;
-    Ok(file)
+/// Makes the folder of a run in that of a start.
+fn make_root_in(alloc: Global, start: &HostDirectory<'_>, run: RunKey) -> io::Result<()> {
+    let root = root_name(alloc, run)?;
+    start.make_dir(entry_name(root.as_str())?, PRIVATE_MODE)
+}
+
+/// Makes a node in a directory, under this name. A file is open then, to be written.
+fn make_node_in<'a>(
+    directory: &HostDirectory<'a>,
+    name: &str,
+    kind: &NodeKind<usize>,
+) -> io::Result<Option<HostFile>> {
+    make_node(directory, entry_name(name)?, kind)
+}
+
+/// Opens the file of this name in a directory, to add to it.
+fn add_in<'a>(directory: &HostDirectory<'a>, name: &str) -> io::Result<HostFile> {
+    open_to_add(directory, entry_name(name)?)
+}
+
+/// What has this name in a directory.
+fn look_at<'a>(directory: &HostDirectory<'a>, name: &str) -> io::Result<Found> {
+    look_in(directory, entry_name(name)?)
+}
+
+/// Opens the file of this name in a directory, to read it.
+#[tactic(auto, using(run_folders::proofs::Nowhere::may_take))]
+fn read_in<'a>(
+    directory: &HostDirectory<'a>,
+    name: &str,
+    aside: &HostDirectory<'a>,
+) -> io::Result<HostFile> {
+    open_to_read(directory, entry_name(name)?, aside)
 }
 
 impl<'a> Folders<'a> {
     /// Folders where a start has its place.
     pub(crate) fn new(
         rt: &'a HostRuntime,
-        work: Work,
+        work: Work<'a>,
         links: Links,
         counts: &'a FolderCounts,
     ) -> Folders<'a> {
@@ -130,11 +145,11 @@ impl<'a> Folders<'a> {
         let alloc = self.rt.alloc();
         let start = self.work.start()?;
         let aside = aside_name(alloc, run)?;
-        start.make_dir(alloc, aside.as_str(), PRIVATE_MODE)?;
-        let root = root_name(alloc, run)?;
-        let answer = start.make_dir(alloc, root.as_str(), PRIVATE_MODE);
+        let aside = entry_name(aside.as_str())?;
+        start.make_dir(aside, PRIVATE_MODE)?;
+        let answer = make_root_in(alloc, start, run);
         if answer.is_err() {
-            start.remove_dir(aside.as_bytes())?;
+            start.remove_dir(aside)?;
         }
         answer
     }
@@ -150,35 +165,12 @@ impl<'a> Folders<'a> {
         let path = node_path(self.rt.alloc(), run, names)?;
         let (above, name) = parted(path.as_str());
         let entered = self.entrance.enter(self.work.start()?, above)?;
-        let answer = self.make_node_in(&entered.directory, name, kind);
+        let answer = make_node_in(&entered.directory, name, kind);
         self.entrance.keep(entered);
         if let Some(file) = answer? {
             self.made = Some(Kept::new(path, file));
         }
         Ok(())
-    }
-
-    /// Makes a node in a directory. A file is open then, to be written.
-    fn make_node_in(
-        &self,
-        directory: &Directory,
-        name: &str,
-        kind: &NodeKind<usize>,
-    ) -> io::Result<Option<File>> {
-        let alloc = self.rt.alloc();
-        match kind {
-            NodeKind::Directory { .. } => directory.make_dir(alloc, name, COMMON_MODE)?,
-            NodeKind::Symlink { target } => {
-                let path = directory.path_of(alloc, name)?;
-                let target: &str = target;
-                symlink(self.rt, target, path.as_str())?;
-            }
-            NodeKind::File { is_executable, .. } => {
-                let path = directory.path_of(alloc, name)?;
-                return Ok(Some(make_file(self.rt, path.as_str(), *is_executable)?));
-            }
-        }
-        Ok(None)
     }
 
     /// Adds to a file that was made.
@@ -194,10 +186,10 @@ impl<'a> Folders<'a> {
     }
 
     /// Opens a file that was made, to add to it.
-    fn open_made(&mut self, path: &str) -> io::Result<File> {
+    fn open_made(&mut self, path: &str) -> io::Result<HostFile> {
         let (above, name) = parted(path);
         let entered = self.entrance.enter(self.work.start()?, above)?;
-        let answer = open_to_add(self.rt, &entered.directory, name);
+        let answer = add_in(&entered.directory, name);
         self.entrance.keep(entered);
         answer
     }
@@ -220,12 +212,12 @@ impl<'a> Folders<'a> {
     /// Makes a directory and those above it, where they are not there. It is not kept: the program
     /// that starts next may put another one in its place.
     fn make_directory(&mut self, path: &str) -> io::Result<()> {
-        let _made: Entered = self.entrance.make(self.work.start()?, path)?;
+        let _made: Entered<HostDirectory<'a>> = self.entrance.make(self.work.start()?, path)?;
         Ok(())
     }
 
     /// The directory at a path, unless something on the way is not there or no directory.
-    fn entered(&mut self, path: &str) -> io::Result<Option<Entered>> {
+    fn entered(&mut self, path: &str) -> io::Result<Option<Entered<HostDirectory<'a>>>> {
         match self.entrance.enter(self.work.start()?, path) {
             Ok(entered) => Ok(Some(entered)),
             Err(error) if is_absence(&error) => Ok(None),
@@ -245,7 +237,7 @@ impl<'a> Folders<'a> {
         let Some(entered) = self.entered(above)? else {
             return Ok(Found::Nothing);
         };
-        let answer = look_in(self.rt, &entered.directory, name);
+        let answer = look_at(&entered.directory, name);
         self.entrance.keep(entered);
         answer
     }
@@ -273,7 +265,7 @@ impl<'a> Folders<'a> {
     ) -> io::Result<Vec<Entry>> {
         let path = left_path(self.rt.alloc(), place, path, names)?;
         let entered = self.entrance.enter(self.work.start()?, path.as_str())?;
-        let answer = list_in(self.rt, &entered.directory, most);
+        let answer = list_in(self.rt.alloc(), &entered.directory, most);
         self.entrance.keep(entered);
         let Listed { entries, has_links } = answer?;
         if has_links {
@@ -372,12 +364,13 @@ impl<'a> Folders<'a> {
     }
 
     /// Opens a file that a run left, to read it, unless it is to be asked for again.
-    fn open_left(&mut self, run: RunKey, path: &str) -> io::Result<Option<File>> {
+    fn open_left(&mut self, run: RunKey, path: &str) -> io::Result<Option<HostFile>> {
         let alloc = self.rt.alloc();
         let (above, name) = parted(path);
         let start = self.work.start()?;
         let entered = self.entrance.enter(start, above)?;
-        let aside = start.open_in(aside_name(alloc, run)?.as_bytes())?;
+        let aside = aside_name(alloc, run)?;
+        let aside = start.open_in(entry_name(aside.as_str())?)?;
         let answer = match &mut self.opener {
             Some(opener) => opener.open(Target {
                 run,
@@ -386,7 +379,7 @@ impl<'a> Folders<'a> {
                 name,
                 aside: &aside,
             }),
-            None => open_to_read(self.rt, &entered.directory, name, &aside).map(Some),
+            None => read_in(&entered.directory, name, &aside).map(Some),
         };
         self.entrance.keep(entered);
         answer
@@ -423,20 +416,24 @@ impl<'a> Folders<'a> {
 
     /// Removes some of the folder of a run, which has this name, where no shell can, or what a
     /// shell has left. Whether nothing is left.
+    #[tactic(auto, using(run_folders::proofs::Nowhere::may_take, run_folders::proofs::Nowhere::may_take_below))]
     fn remove_some(&mut self, run: RunKey, root: &str) -> io::Result<bool> {
         let alloc = self.rt.alloc();
         let start = self.work.start()?;
         let aside = aside_name(alloc, run)?;
-        let mut removal = Removal {
-            alloc,
-            start,
-            aside: aside.as_str(),
-            moved: &mut self.moved,
-        };
-        let path = start.path_of(alloc, root)?;
-        match found_at(self.rt, path.as_str())? {
-            Some(_) => removal.remove(start, root),
-            None => removal.remove_some(),
+        let aside = entry_name(aside.as_str())?;
+        match look_at(start, root)? {
+            Found::Nothing => remove_some(alloc, start, aside, &mut self.moved),
+            Found::Other | Found::Directory | Found::File(_) => {
+                remove(
+                    alloc,
+                    start,
+                    aside,
+                    start,
+                    entry_name(root)?,
+                    &mut self.moved,
+                )
+            }
         }
     }
 }

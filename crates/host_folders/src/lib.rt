@@ -2,8 +2,10 @@
 #![tactic(auto)]
 
 mod counts;
+mod entrance;
 mod folder;
 mod folders;
+mod opener;
 mod remover;
 mod starts;
 mod tallies;

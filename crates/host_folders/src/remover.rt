@@ -35,7 +35,7 @@ impl<'a> Remover<'a> {
     }
 
     /// Whether a folder may be made for a run of this instance.
-    pub(crate) fn has_room(&mut self, work: &Work, instance: u32) -> bool {
+    pub(crate) fn has_room(&mut self, work: &Work<'_>, instance: u32) -> bool {
         let Some(paths) = work.paths() else {
             return true;
         };
@@ -58,7 +58,7 @@ impl<'a> Remover<'a> {
     }
 
     /// Goes on with the removal of the folder of a run, which has this name.
-    pub(crate) fn remove(&mut self, work: &Work, run: RunKey, name: &str) -> Removing {
+    pub(crate) fn remove(&mut self, work: &Work<'_>, run: RunKey, name: &str) -> Removing {
         let Some(paths) = work.paths() else {
             return Removing::Alone;
         };

@@ -1,9 +1,11 @@
 //! The folders of starts in a directory.
 
-use host_directories::{Directory, PRIVATE_MODE};
+use host_system::HostDirectory;
+use run_folders::{Names, PRIVATE_MODE, entry_name};
 use std::alloc::{AllocError, Global};
 use std::io::{self, ErrorKind};
 use std::time::{SystemTime, UNIX_EPOCH};
+use system::Directory;
 
 /// What the name of a start's folder begins with. A decimal number follows.
 const START: &str = "start-";
@@ -20,12 +22,12 @@ fn start_name(alloc: Global, number: u64) -> Result<String, AllocError> {
 }
 
 /// The names of the folders of starts that are in a directory.
-pub(crate) fn starts_in(alloc: Global, directory: &Directory) -> io::Result<Vec<String>> {
+pub(crate) fn starts_in(alloc: Global, directory: &HostDirectory<'_>) -> io::Result<Vec<String>> {
     let listed = directory.again()?;
-    let mut names = listed.names(alloc)?;
+    let mut names = Names::new(alloc)?;
     let mut starts = Vec::new(alloc);
     for _ in 0..u64::MAX {
-        let Some(name) = names.next()? else {
+        let Some(name) = names.next(&listed)? else {
             break;
         };
         if let Ok(name) = String::from_utf8(name) {
@@ -66,16 +68,16 @@ pub(crate) fn number_after(rt: &HostRuntime, former: &[String]) -> io::Result<u6
 
 /// Makes the folder of a start in a directory, with this number or one that follows it, and opens
 /// it.
-pub(crate) fn make_start(
+pub(crate) fn make_start<'a>(
     alloc: Global,
-    directory: &Directory,
+    directory: &HostDirectory<'a>,
     number: u64,
-) -> io::Result<(String, Directory)> {
+) -> io::Result<(String, HostDirectory<'a>)> {
     for more in 0..MOST_TRIED {
         let name = start_name(alloc, number.saturating_add(more))?;
-        match directory.make_dir(alloc, name.as_str(), PRIVATE_MODE) {
+        match directory.make_dir(entry_name(name.as_str())?, PRIVATE_MODE) {
             Ok(()) => {
-                let start = directory.open_in(name.as_bytes())?;
+                let start = directory.open_in(entry_name(name.as_str())?)?;
                 return Ok((name, start));
             }
             Err(error) if error.kind() == ErrorKind::AlreadyExists => {}

@@ -1,17 +1,21 @@
 //! The directory for the work of actions, and the folder of a start in it.
 
+ghost use Rattle.std.specs.Prelude.{IsTrue};
+ghost use Rattle.system.specs.Names.{is_name};
+
 use crate::starts::{make_start, number_after, starts_in};
-use host_directories::{Directory, PRIVATE_MODE, Removal, open_regular};
 use host_shells::{Removing, RemovingShells};
+use host_system::{HostDirectory, HostFile};
+use run_folders::{Names, PRIVATE_MODE, entry_name, open_regular, remove_some, set_aside};
 use std::alloc::Global;
-use std::fs::{self, File, OpenOptions, Permissions, TryLockError};
-use std::io::{self, ErrorKind, Write};
-use std::os::unix::fs::{MetadataExt, OpenOptionsExt, PermissionsExt};
-use std::thread;
+use std::io::{self, ErrorKind};
+use std::os::unix::fs::MetadataExt;
 use std::time::{Duration, Instant};
+use std::{fs, thread};
+use system::{Access, Directory, OpenFile};
 
 /// The file that marks a directory as remoted's. The server that works there holds it locked.
-const MARK: &str = "remoted.lock";
+const MARK: &[u8] = b"remoted.lock";
 
 const MARK_TEXT: &str =
     "The actions of a remoted server have their folders here. It removes what it \
@@ -39,7 +43,7 @@ const FORMER_FROM_START: &str = "../former";
 const MOVED_OF_START: u64 = 1_000_000;
 
 /// A folder that is made in order to see whether one can be made and removed.
-const TRIAL: &str = "trial";
+const TRIAL: &[u8] = b"trial";
 
 /// For how long a start removes what former ones left, before it goes on.
 const CLEARING_SECONDS: u64 = 1;
@@ -58,18 +62,18 @@ pub(crate) struct Paths<'a> {
 
 /// Where the runs of a start have their folders.
 #[derive(Drop)]
-pub struct Work {
+pub struct Work<'a> {
     path: String,
-    held: Option<Held>,
+    held: Option<Held<'a>>,
 }
 
 /// The folder of a start, in a directory that is held.
 #[derive(Drop)]
-struct Held {
-    directory: Directory,
-    start: Directory,
+struct Held<'a> {
+    directory: HostDirectory<'a>,
+    start: HostDirectory<'a>,
     /// Others are kept from the directory until this is closed.
-    mark: File,
+    mark: HostFile,
     /// A path to the folder of the start, as long as it is open.
     shown: String,
     /// What removes what is left of former starts.
@@ -112,9 +116,9 @@ pub enum Complaint {
     Shared,
 }
 
-impl Work {
+impl<'a> Work<'a> {
     /// No place: each run fails that asks for one.
-    pub fn nowhere(rt: &HostRuntime) -> Work {
+    pub fn nowhere(rt: &'a HostRuntime) -> Work<'a> {
         Work {
             path: String::new(rt.alloc()),
             held: None,
@@ -126,7 +130,7 @@ impl Work {
         self.path.as_str()
     }
 
-    pub(crate) fn start(&self) -> io::Result<&Directory> {
+    pub(crate) fn start(&self) -> io::Result<&HostDirectory<'a>> {
         match &self.held {
             Some(held) => Ok(&held.start),
             None => Err(io::Error::from(ErrorKind::NotFound)),
@@ -154,7 +158,7 @@ impl Work {
     }
 }
 
-impl Held {
+impl<'a> Held<'a> {
     /// Goes on with the removal of what former starts left. Whether it is to be waited for that.
     /// The folder of this start has this path.
     fn clear_some(&mut self, rt: &HostRuntime, path: &str) -> io::Result<bool> {
@@ -165,8 +169,7 @@ impl Held {
         if self.clearing.remove(rt, places, 0, FORMER_FROM_START) == Removing::Waits {
             return Ok(true);
         }
-        let mut removal = former_in(rt.alloc(), &self.directory, &mut self.moved);
-        let answer = removal.remove_some();
+        let answer = remove_former(rt.alloc(), &self.directory, &mut self.moved);
         self.is_clear = !matches!(answer, Ok(false));
         answer.map(|_| false)
     }
@@ -195,11 +198,11 @@ impl Held {
 /// which still runs knows no path into it. Former starts' folders are removed by a shell, for which
 /// it is waited for a second. Where none can be had, some is removed now, and some more with each
 /// run that begins and ends. What cannot be removed stays, and is in nobody's way.
-pub fn begin_work(
-    rt: &HostRuntime,
+pub fn begin_work<'a>(
+    rt: &'a HostRuntime,
     path: &str,
     complaints: &mut Vec<Complaint>,
-) -> Result<Work, WorkFault> {
+) -> Result<Work<'a>, WorkFault> {
     match fs::create_dir_all(rt, path) {
         Ok(()) => {}
         Err(error) => return Err(WorkFault::Unmade(error)),
@@ -209,14 +212,14 @@ pub fn begin_work(
         let words = "its path is not UTF-8";
         return Err(WorkFault::Unusable(io::Error::new(ErrorKind::InvalidFilename, words)));
     };
-    let directory = Directory::open(path)?;
-    let Some(mark) = marked(rt, &directory)? else {
+    let directory = HostDirectory::open(rt, path)?;
+    let Some(mark) = marked(rt.alloc(), &directory)? else {
         return Err(WorkFault::Foreign);
     };
     match mark.try_lock() {
-        Ok(()) => {}
-        Err(TryLockError::WouldBlock) => return Err(WorkFault::InUse),
-        Err(TryLockError::Error(error)) => push(complaints, Complaint::Unlocked(error))?,
+        Ok(true) => {}
+        Ok(false) => return Err(WorkFault::InUse),
+        Err(error) => push(complaints, Complaint::Unlocked(error))?,
     }
     Ok(begin_in(rt, path, directory, mark, complaints)?)
 }
@@ -227,13 +230,11 @@ fn push(complaints: &mut Vec<Complaint>, complaint: Complaint) -> io::Result<()>
 
 /// The file that marks a directory, which gets one if it is empty. None where it is not, and has no
 /// mark.
-fn marked(rt: &HostRuntime, directory: &Directory) -> Result<Option<File>, WorkFault> {
-    let alloc = rt.alloc();
-    let path = directory.path_of(alloc, MARK)?;
-    match open_regular(rt, path.as_str(), OpenOptions::new().read(true).write(true)) {
+fn marked(alloc: Global, directory: &HostDirectory<'_>) -> Result<Option<HostFile>, WorkFault> {
+    match open_regular(directory, MARK, Access::ReadAndWrite) {
         Ok(mark) => {
             // One of a former version. Where it is another user's, it stays as it is.
-            let _ = mark.set_permissions(Permissions::from_mode(MARK_MODE));
+            let _ = mark.allow(MARK_MODE);
             return Ok(Some(mark));
         }
         Err(error) if error.kind() == ErrorKind::NotFound => {}
@@ -243,21 +244,17 @@ fn marked(rt: &HostRuntime, directory: &Directory) -> Result<Option<File>, WorkF
     if !is_empty(alloc, directory)? {
         return Ok(None);
     }
-    let mut mark: File = OpenOptions::new()
-        .write(true)
-        .create_new(true)
-        .mode(MARK_MODE)
-        .open(rt, path.as_str())?;
+    let mut mark = directory.make_file(MARK, MARK_MODE)?;
     mark.write_all(MARK_TEXT.as_bytes())?;
     Ok(Some(mark))
 }
 
 /// Whether nothing is in a directory but what the root of a file system has from the start.
-fn is_empty(alloc: Global, directory: &Directory) -> io::Result<bool> {
+fn is_empty(alloc: Global, directory: &HostDirectory<'_>) -> io::Result<bool> {
     let listed = directory.again()?;
-    let mut names = listed.names(alloc)?;
+    let mut names = Names::new(alloc)?;
     for _ in 0..2 {
-        match names.next()? {
+        match names.next(&listed)? {
             None => return Ok(true),
             Some(name) if name.as_slice() == LOST_AND_FOUND.as_bytes() => {}
             Some(_) => return Ok(false),
@@ -266,24 +263,42 @@ fn is_empty(alloc: Global, directory: &Directory) -> io::Result<bool> {
     Ok(false)
 }
 
-/// The removal of what former starts left in a directory.
-fn former_in<'a>(alloc: Global, directory: &'a Directory, moved: &'a mut u64) -> Removal<'a> {
-    Removal {
+/// Removes some of what former starts left in a directory. Whether nothing is left of it.
+#[tactic(auto, using(run_folders::proofs::Nowhere::may_take_below))]
+fn remove_former(
+    alloc: Global,
+    directory: &HostDirectory<'_>,
+    moved: &mut u64,
+) -> io::Result<bool> {
+    remove_some(alloc, directory, FORMER.as_bytes(), moved)
+}
+
+/// Moves the folder of a former start to what is removed.
+#[tactic(auto, using(run_folders::proofs::Nowhere::may_take, run_folders::proofs::Nowhere::may_take_below))]
+fn set_former_aside(
+    alloc: Global,
+    directory: &HostDirectory<'_>,
+    name: &str,
+    moved: &mut u64,
+) -> io::Result<()> {
+    set_aside(
         alloc,
-        start: directory,
-        aside: FORMER,
+        directory,
+        FORMER.as_bytes(),
+        directory,
+        entry_name(name)?,
         moved,
-    }
+    )
 }
 
 /// Begins in a directory that is held.
-fn begin_in(
-    rt: &HostRuntime,
+fn begin_in<'a>(
+    rt: &'a HostRuntime,
     path: &str,
-    directory: Directory,
-    mark: File,
+    directory: HostDirectory<'a>,
+    mark: HostFile,
     complaints: &mut Vec<Complaint>,
-) -> io::Result<Work> {
+) -> io::Result<Work<'a>> {
     let alloc = rt.alloc();
     let former = starts_in(alloc, &directory)?;
     let number = number_after(rt, &former)?;
@@ -295,7 +310,7 @@ fn begin_in(
         answer => answer?,
     };
     for name in former.iter() {
-        match former_in(alloc, &directory, &mut moved).set_aside(&directory, name.as_str()) {
+        match set_former_aside(alloc, &directory, name.as_str(), &mut moved) {
             Err(error) if error.kind() != ErrorKind::NotFound => {
                 complain(alloc, path, name.as_str(), error, complaints)?;
             }
@@ -309,7 +324,7 @@ fn begin_in(
     let mut held = Held {
         shown: start.shown_path(alloc, ".")?,
         clearing: RemovingShells::new(alloc),
-        is_clear: is_missing(&directory, FORMER),
+        is_clear: is_missing(&directory, FORMER.as_bytes()),
         directory,
         start,
         mark,
@@ -336,26 +351,28 @@ fn is_shared(rt: &HostRuntime, path: &str, start: &str) -> io::Result<bool> {
 }
 
 /// Whether nothing has this name in a directory.
-fn is_missing(directory: &Directory, name: &str) -> bool {
-    match directory.open_in(name.as_bytes()) {
+fn is_missing(directory: &HostDirectory<'_>, name: &[u8]) -> bool
+    requires name { IsTrue (is_name name.now) }
+{
+    match directory.open_in(name) {
         Ok(_) => false,
         Err(error) => error.kind() == ErrorKind::NotFound,
     }
 }
 
 /// Makes the folder of this start, if a folder can be made and removed in it.
-fn tried_start(
+fn tried_start<'a>(
     alloc: Global,
-    directory: &Directory,
+    directory: &HostDirectory<'a>,
     number: u64,
-) -> io::Result<(String, Directory)> {
+) -> io::Result<(String, HostDirectory<'a>)> {
     let (name, start) = make_start(alloc, directory, number)?;
-    let answer = start.make_dir(alloc, TRIAL, PRIVATE_MODE);
+    let answer = start.make_dir(TRIAL, PRIVATE_MODE);
     if let Err(error) = answer {
-        directory.remove_dir(name.as_bytes())?;
+        directory.remove_dir(entry_name(name.as_str())?)?;
         return Err(error);
     }
-    start.remove_dir(TRIAL.as_bytes())?;
+    start.remove_dir(TRIAL)?;
     Ok((name, start))
 }
 
@@ -368,19 +385,19 @@ fn is_full(error: &io::Error) -> bool {
 }
 
 /// The same on a full disk: what former starts left is removed until there is room.
-fn start_in_full(
+fn start_in_full<'a>(
     rt: &HostRuntime,
-    directory: &Directory,
+    directory: &HostDirectory<'a>,
     number: u64,
     former: &[String],
     moved: &mut u64,
-) -> io::Result<(String, Directory)> {
+) -> io::Result<(String, HostDirectory<'a>)> {
     let began = Instant::now(rt)?;
     if let Some(made) = start_once_cleared(rt, directory, number, moved, began)? {
         return Ok(made);
     }
     for name in former {
-        if becomes_former(rt.alloc(), directory, name.as_str()) {
+        if becomes_former(directory, name.as_str()) {
             if let Some(made) = start_once_cleared(rt, directory, number, moved, began)? {
                 return Ok(made);
             }
@@ -391,26 +408,28 @@ fn start_in_full(
 
 /// Has the folder of a former start be that of what is removed, unless there is one: it could not
 /// be made. Whether it is.
-fn becomes_former(alloc: Global, directory: &Directory, name: &str) -> bool {
-    let name = name.as_bytes();
+fn becomes_former(directory: &HostDirectory<'_>, name: &str) -> bool {
+    let Ok(name) = entry_name(name) else {
+        return false;
+    };
     directory.open_in(name).is_ok()
         && directory
-            .move_into(alloc, name, directory, FORMER.as_bytes())
+            .move_into(name, directory, FORMER.as_bytes())
             .is_ok()
 }
 
 /// Removes what stands in the folder for that until the folder of this start can be made; none
 /// where nothing is left there, or the time is over.
-fn start_once_cleared(
+fn start_once_cleared<'a>(
     rt: &HostRuntime,
-    directory: &Directory,
+    directory: &HostDirectory<'a>,
     number: u64,
     moved: &mut u64,
     began: Instant,
-) -> io::Result<Option<(String, Directory)>> {
+) -> io::Result<Option<(String, HostDirectory<'a>)>> {
     let alloc = rt.alloc();
     for _ in 0..u64::MAX {
-        let is_left = matches!(former_in(alloc, directory, moved).remove_some(), Ok(false));
+        let is_left = matches!(remove_former(alloc, directory, moved), Ok(false));
         match tried_start(alloc, directory, number) {
             Err(error) if is_full(&error) => {}
             answer => return Ok(Some(answer?)),

@@ -40,6 +40,15 @@ impl Launcher {
         check_program(rt, self.program.as_str())
     }
 
+    /// Why it cannot be started any more, where that is so, with its path.
+    pub(crate) fn absence<R: Files + AllocGlobal>(&self, rt: &R) -> io::Result<Vec<u8>> {
+        let path = self.program.as_str();
+        match self.check(rt) {
+            Ok(()) => Ok(Vec::new(rt.alloc())),
+            Err(error) => Ok(format!(in rt.alloc(); "the launcher {path}: {error}")?.into_bytes()),
+        }
+    }
+
     /// The command that starts it for a program of the run with this folder. It is in no directory
     /// and has no variables of an action.
     pub(crate) fn command(

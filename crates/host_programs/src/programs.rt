@@ -1,12 +1,12 @@
 //! Programs of this host.
 
-ghost use Rattle.std.specs.Prelude.{◌≡◌, ◌<◌, ◌≤◌, ◌+◌, [], None, Ok, Some, IfOk, IfSome, OnOk, find, length, string_bytes, vec_capacity, vec_len};
+ghost use Rattle.std.specs.Prelude.{◌≡◌, ◌<◌, ◌≤◌, ◌+◌, [], true, None, Ok, Some, IfOk, IfSome, OnOk, find, length, string_bytes, vec_capacity, vec_len};
 ghost use Rattle.run_calls.specs.Calls.{Adds, bytes_of, called, end_asked, forget_asked, kill_asked, killed_of, length_asked, length_of, program_done, read_asked, start_asked, started_of, state_of};
 ghost use Rattle.run_calls.specs.Failures.{Counts};
 ghost use Rattle.run_calls.specs.Values.{IsInRange, command_shown, place_shown};
 ghost use Rattle.host_files.specs.Folders.{root_path};
 ghost use Rattle.host_programs.specs.Launching.{StartsLauncher};
-ghost use Rattle.host_programs.specs.Known.{HasEndedWith, IsOfAt, KnowsOneMore, started_as};
+ghost use Rattle.host_programs.specs.Known.{HasEndedWith, IsOfAt, KnowsOneMore, OthersStay, is_known, is_known_or_sought, started_as};
 ghost use Rattle.host_programs.specs.Spawning.{IsAlike, StartsBy, StartsItself};
 ghost use Rattle.host_programs.specs.Ways.{AddsAtMost, AddsNone, KeepsWay, StartsFor, StartsFound, is_of, launcher_of, sought_for, sought_of, sought_shown};
 
@@ -107,6 +107,8 @@ impl<'a, R: Clock + Files<File = File> + AllocGlobal, S: Spawner> Table<'a, R, S
             result (S.started self.old.spawner) (S.started self.new.spawner) }
         ensures known { KnowsOneMore place.now.run (started_as self.old.way)
             self.old.started.items self.new.started.items }
+        ensures kept { OnOk result (is_known_or_sought place.now.run self.new.started.items
+            self.new.way ≡ true) }
         ensures sought { AddsAtMost (sought_for self.old (place_shown place.now)
             (command_shown ordered.now)) self.old.way self.new.way }
         ensures same { KeepsWay self.old self.new }
@@ -149,6 +151,8 @@ impl<'a, R: Clock + Files<File = File> + AllocGlobal, S: Spawner> Table<'a, R, S
             (S.started self.new.spawner) }
         ensures known { KnowsOneMore place.now.run StartedAs.Itself
             self.old.started.items self.new.started.items }
+        ensures kept { OnOk result (is_known_or_sought place.now.run self.new.started.items
+            self.new.way ≡ true) }
         ensures sought { AddsAtMost (sought_for self.old (place_shown place.now)
             (command_shown ordered.now)) self.old.way self.new.way }
         ensures same { KeepsWay self.old self.new }
@@ -174,6 +178,7 @@ impl<'a, R: Clock + Files<File = File> + AllocGlobal, S: Spawner> Table<'a, R, S
             (S.started self.new.spawner) }
         ensures known { KnowsOneMore run StartedAs.Itself
             self.old.started.items self.new.started.items }
+        ensures kept { OnOk result (is_known run self.new.started.items ≡ true) }
         ensures way { self.new.way ≡ self.old.way }
         ensures same { KeepsWay self.old self.new }
     {
@@ -194,10 +199,12 @@ impl<'a, R: Clock + Files<File = File> + AllocGlobal, S: Spawner> Table<'a, R, S
             (S.started self.new.spawner) }
         ensures known { KnowsOneMore run started_as self.old.started.items
             self.new.started.items }
+        ensures kept { OnOk result (is_known run self.new.started.items ≡ true) }
         ensures way { self.new.way ≡ self.old.way }
         ensures same { KeepsWay self.old self.new }
     {
         make_room(&mut self.started, &mut self.left)?;
+        let begun = Instant::now(self.rt)?;
         let started = started::start(
             self.rt,
             self.work.as_str(),
@@ -205,6 +212,7 @@ impl<'a, R: Clock + Files<File = File> + AllocGlobal, S: Spawner> Table<'a, R, S
             started_as,
             &mut self.spawner,
             command,
+            begun,
         )?;
         self.started.push_reserved(started);
         Ok(())
@@ -265,6 +273,7 @@ impl<'a, R: Clock + Files<File = File> + AllocGlobal, S: Spawner> Table<'a, R, S
         ensures spawner { self.new.spawner ≡ self.old.spawner }
         ensures sought { AddsNone self.old.way self.new.way }
         ensures same { KeepsWay self.old self.new }
+        ensures others { OthersStay run self.old.started.items self.new.started.items }
     {
         refresh(
             self.rt,
@@ -277,14 +286,13 @@ impl<'a, R: Clock + Files<File = File> + AllocGlobal, S: Spawner> Table<'a, R, S
         }
         let has_sessions = self.has_sessions;
         let now = Instant::now(self.rt)?;
-        let place = self.started.iter().position(|started| started.is_of(run));
-        let Some(at) = place else {
+        let Ok(at) = place_of(&self.started, run) else {
             return Ok(true);
         };
-        match self.started.get_mut(at) {
-            None => Ok(true),
-            Some(started) if has_sessions => started.end(&mut self.sessions, now),
-            Some(started) => started.kill(),
+        if has_sessions {
+            self.started[at].end(&mut self.sessions, now)
+        } else {
+            self.started[at].kill()
         }
     }
 
@@ -292,6 +300,7 @@ impl<'a, R: Clock + Files<File = File> + AllocGlobal, S: Spawner> Table<'a, R, S
         ensures spawner { self.new.spawner ≡ self.old.spawner }
         ensures way { self.new.way ≡ self.old.way }
         ensures same { KeepsWay self.old self.new }
+        ensures others { OthersStay run self.old.started.items self.new.started.items }
     {
         let at = place_of(&self.started, run)?;
         let length = self.started[at].length()?;
@@ -304,6 +313,7 @@ impl<'a, R: Clock + Files<File = File> + AllocGlobal, S: Spawner> Table<'a, R, S
         ensures spawner { self.new.spawner ≡ self.old.spawner }
         ensures way { self.new.way ≡ self.old.way }
         ensures same { KeepsWay self.old self.new }
+        ensures started { self.new.started ≡ self.old.started }
     {
         let alloc = self.rt.alloc();
         let at = place_of(&self.started, run)?;
@@ -313,24 +323,23 @@ impl<'a, R: Clock + Files<File = File> + AllocGlobal, S: Spawner> Table<'a, R, S
     fn last_words(&self, run: RunKey, most: u32) -> io::Result<Vec<u8>>
         ensures { IfOk result (λ bytes. length bytes.items ≤ most) }
     {
-        let at = place_of(&self.started, run)?;
-        self.started[at].last_words(self.rt.alloc(), most)
+        match place_of(&self.started, run) {
+            Ok(at) => self.started[at].last_words(self.rt, self.work.as_str(), most),
+            Err(_) => self.way.absence(self.rt, most),
+        }
     }
 
     fn forget(&mut self, run: RunKey)
         ensures spawner { self.new.spawner ≡ self.old.spawner }
         ensures sought { AddsNone self.old.way self.new.way }
         ensures same { KeepsWay self.old self.new }
+        ensures others { OthersStay run self.old.started.items self.new.started.items }
     {
         drop(self.way.take(run));
-        let place = self.started.iter().position(|started| started.is_of(run));
-        let Some(at) = place else {
+        let Ok(at) = place_of(&self.started, run) else {
             return;
         };
-        if at >= self.started.len() {
-            return;
-        }
-        let child = self.started.swap_remove(at).child();
+        let child = self.started.remove(at).child();
         // There is room for it since it was started.
         let _ = self.left.push(child);
         reap(&mut self.left);
@@ -393,6 +402,8 @@ impl<'a, R: Clock + Files<File = File> + AllocGlobal, S: Spawner> Programs
             (S.started self.new.table.spawner) }
         ensures known { KnowsOneMore place.now.run (started_as self.old.table.way)
             self.old.table.started.items self.new.table.started.items }
+        ensures kept { OnOk result (is_known_or_sought place.now.run
+            self.new.table.started.items self.new.table.way ≡ true) }
         ensures sought { AddsAtMost (sought_for self.old.table (place_shown place.now)
             (command_shown command.now)) self.old.table.way self.new.table.way }
         ensures same { KeepsWay self.old.table self.new.table }
@@ -427,6 +438,8 @@ impl<'a, R: Clock + Files<File = File> + AllocGlobal, S: Spawner> Programs
         ensures spawner { self.new.table.spawner ≡ self.old.table.spawner }
         ensures sought { AddsNone self.old.table.way self.new.table.way }
         ensures same { KeepsWay self.old.table self.new.table }
+        ensures others { OthersStay run self.old.table.started.items
+            self.new.table.started.items }
     {
         let answer = self.table.kill(run);
         count(&mut self.faults, self.failure, &answer);
@@ -439,6 +452,8 @@ impl<'a, R: Clock + Files<File = File> + AllocGlobal, S: Spawner> Programs
         ensures spawner { self.new.table.spawner ≡ self.old.table.spawner }
         ensures way { self.new.table.way ≡ self.old.table.way }
         ensures same { KeepsWay self.old.table self.new.table }
+        ensures others { OthersStay run self.old.table.started.items
+            self.new.table.started.items }
     {
         let answer = self.table.length(run);
         count(&mut self.faults, self.failure, &answer);
@@ -452,6 +467,7 @@ impl<'a, R: Clock + Files<File = File> + AllocGlobal, S: Spawner> Programs
         ensures spawner { self.new.table.spawner ≡ self.old.table.spawner }
         ensures way { self.new.table.way ≡ self.old.table.way }
         ensures same { KeepsWay self.old.table self.new.table }
+        ensures started { self.new.table.started ≡ self.old.table.started }
     {
         let answer = self.table.read(run, stream, from, most);
         count(&mut self.faults, self.failure, &answer);
@@ -464,6 +480,8 @@ impl<'a, R: Clock + Files<File = File> + AllocGlobal, S: Spawner> Programs
         ensures spawner { self.new.table.spawner ≡ self.old.table.spawner }
         ensures sought { AddsNone self.old.table.way self.new.table.way }
         ensures same { KeepsWay self.old.table self.new.table }
+        ensures others { OthersStay run self.old.table.started.items
+            self.new.table.started.items }
     {
         self.table.forget(run);
     }

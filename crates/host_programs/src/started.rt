@@ -1,11 +1,12 @@
 //! Programs that were started, and what they write.
 
-ghost use Rattle.std.specs.Prelude.{◌≡◌, ◌≤◌, [], None, Ok, IfOk, IfSome, IsErrAnd, OnOk, length};
+ghost use Rattle.std.specs.Prelude.{◌≡◌, ◌≤◌, ◌-◌, [], None, Ok, IfOk, IfSome, IsErrAnd, IsSomeAnd, OnOk, length, min};
 ghost use Rattle.std.specs.IoError.{error_kind};
 ghost use Rattle.std.specs.Process.{child_status, exit_code};
 ghost use Rattle.std.specs.declared.io.ErrorKind.TheVariants.{ConnectionAborted};
 ghost use Rattle.run_calls.specs.Values.{IsInRange};
-ghost use Rattle.host_programs.specs.Known.{IsCodeOf};
+ghost use Rattle.host_programs.specs.Known.{IsCodeOf, told_code};
+ghost use Rattle.host_programs.specs.Streams.{end_of, length_of};
 ghost use Rattle.host_programs.specs.Spawning.{IsAlike, StartsBy};
 ghost use Rattle.host_programs.specs.Ways.{is_run};
 ghost use Rattle.host_programs.specs.declared.started.StartedAs.TheVariants.{Launcher};
@@ -70,6 +71,8 @@ pub(crate) struct Started {
     said: Option<File>,
     /// How much of the streams counts, once that was measured: who writes there still adds nothing.
     measured: Option<Lengths>,
+    /// A moment before it was started.
+    begun: Instant,
     /// How far its session is ended.
     progress: Progress,
     /// Whether it was waited for, so that the system may give its number to another process.
@@ -86,7 +89,7 @@ struct Lengths {
 /// How many bytes of a stream may be read at most from a place on, where so many are wanted, and so
 /// many count.
 fn most_from(end: u64, from: u64, most: u32) -> u32
-    ensures { result ≤ most }
+    ensures { result ≡ min most (end - from) }
 {
     let left = end.saturating_sub(from);
     if left < u64::from(most) {
@@ -136,6 +139,25 @@ pub(crate) fn check_room<R: Files<File = File> + AllocGlobal>(
     stream_file(rt, work, run, ROOM_ENDING)?.write_all(&[0; ROOM])
 }
 
+/// That there is no room on the disk, in at most so many bytes; nothing where there is.
+fn full_disk_words<R: Files<File = File> + AllocGlobal>(
+    rt: &R,
+    work: &str,
+    run: RunKey,
+    most: u32,
+) -> io::Result<Vec<u8>>
+    ensures { IfOk result (λ bytes. length bytes.items ≤ most) }
+{
+    let mut words = Vec::new(rt.alloc());
+    if let Err(error) = check_room(rt, work, run) {
+        if let ErrorKind::StorageFull | ErrorKind::QuotaExceeded = error.kind() {
+            words.extend_from_slice(b"the disk of --work is full")?;
+            words.truncate(most as usize);
+        }
+    }
+    Ok(words)
+}
+
 /// Makes a program write into these files, and read nothing.
 fn set_streams(command: &mut Command, stdout: &File, stderr: &File) -> io::Result<()>
     ensures { OnOk result (IsAlike command.old command.new) }
@@ -147,7 +169,7 @@ fn set_streams(command: &mut Command, stdout: &File, stderr: &File) -> io::Resul
     Ok(())
 }
 
-/// Starts a command that lacks its streams.
+/// Starts a command that lacks its streams, after this moment.
 pub(crate) fn start<R: Files<File = File> + AllocGlobal, S: Spawner>(
     rt: &R,
     work: &str,
@@ -155,6 +177,7 @@ pub(crate) fn start<R: Files<File = File> + AllocGlobal, S: Spawner>(
     started_as: StartedAs,
     spawner: &mut S,
     command: &mut Command,
+    begun: Instant,
 ) -> io::Result<Started>
     ensures starts { StartsBy (IsAlike command.old) result (S.started spawner.old)
         (S.started spawner.new) }
@@ -173,6 +196,7 @@ pub(crate) fn start<R: Files<File = File> + AllocGlobal, S: Spawner>(
         stderr,
         said,
         measured: None,
+        begun,
         progress: Progress::Alive,
         is_reaped: false,
     })
@@ -183,6 +207,7 @@ pub(crate) fn start<R: Files<File = File> + AllocGlobal, S: Spawner>(
 fn code_of(started_as: StartedAs, status: ExitStatus) -> io::Result<i32>
     ensures range { IfOk result IsInRange }
     ensures own { IfSome (exit_code status) (λ code. result ≡ Ok code) }
+    ensures told { IfOk result (λ code. code ≡ told_code status) }
     ensures lost { exit_code status ≡ None → started_as ≡ Launcher →
         IsErrAnd result (λ error. error_kind error ≡ ConnectionAborted) }
 {
@@ -242,7 +267,9 @@ impl Started {
     }
 
     /// Waits for it, where it has ended. Whether that was done.
-    fn reap(&mut self) -> io::Result<bool> {
+    fn reap(&mut self) -> io::Result<bool>
+        ensures run { self.new.run ≡ self.old.run }
+    {
         if !self.is_reaped {
             self.is_reaped = is_reaped(&mut self.child)?;
         }
@@ -250,13 +277,17 @@ impl Started {
     }
 
     /// Ends it alone, where there are no sessions. Whether that is done.
-    pub(crate) fn kill(&mut self) -> io::Result<bool> {
+    pub(crate) fn kill(&mut self) -> io::Result<bool>
+        ensures run { self.new.run ≡ self.old.run }
+    {
         kill_child(&mut self.child)?;
         self.reap()
     }
 
     /// Does the next of what is to be done to end its session. Whether that is done.
-    pub(crate) fn end(&mut self, sessions: &mut Sessions<'_>, now: Instant) -> io::Result<bool> {
+    pub(crate) fn end(&mut self, sessions: &mut Sessions<'_>, now: Instant) -> io::Result<bool>
+        ensures run { self.new.run ≡ self.old.run }
+    {
         let number = self.child.id();
         match self.next(now)? {
             Next::Tell => self.progress = sessions.tell(number, now)?,
@@ -266,8 +297,11 @@ impl Started {
                     // Before it has a session of its own it would not be found in one.
                     kill_child(&mut self.child)?;
                 }
-                let is_reaped = self.is_reaped;
-                let session = Session { number, is_reaped };
+                let session = Session {
+                    number,
+                    is_reaped: self.is_reaped,
+                    begun: self.begun,
+                };
                 self.progress = sessions.end(session, self.progress, now)?;
             }
         }
@@ -277,7 +311,9 @@ impl Started {
         }
     }
 
-    fn next(&mut self, now: Instant) -> io::Result<Next> {
+    fn next(&mut self, now: Instant) -> io::Result<Next>
+        ensures run { self.new.run ≡ self.old.run }
+    {
         if self.started_as == StartedAs::Launcher && !self.reap()? {
             Ok(next_for_launcher(self.progress, now))
         } else {
@@ -286,7 +322,11 @@ impl Started {
     }
 
     /// How many bytes it wrote to both its streams. From then on no others count.
-    pub(crate) fn length(&mut self) -> io::Result<u64> {
+    pub(crate) fn length(&mut self) -> io::Result<u64>
+        ensures counted { IfOk result (λ length. IsSomeAnd self.new.measured
+            (λ lengths. length ≡ length_of lengths)) }
+        ensures run { self.new.run ≡ self.old.run }
+    {
         let output = self.stdout.metadata()?.len();
         let error = self.stderr.metadata()?.len();
         self.measured = Some(Lengths { output, error });
@@ -301,7 +341,9 @@ impl Started {
         from: u64,
         most: u32,
     ) -> io::Result<Vec<u8>>
-        ensures { IfOk result (λ bytes. length bytes.items ≤ most) }
+        ensures within { IfOk result (λ bytes. length bytes.items ≤ most) }
+        ensures counted { IfOk result (λ bytes. IfSome self.now.measured
+            (λ lengths. length bytes.items ≤ end_of stream lengths - from)) }
     {
         let (file, end) = match (stream, self.measured) {
             (Stream::Output, Some(lengths)) => (&self.stdout, lengths.output),
@@ -312,19 +354,30 @@ impl Started {
         read_part(alloc, file, from, most_from(end, from, most))
     }
 
-    /// The last bytes of what its launcher says, at most so many. Without a launcher nothing is said,
-    /// whatever the program writes.
-    pub(crate) fn last_words(&self, alloc: Global, most: u32) -> io::Result<Vec<u8>>
+    /// The last bytes of what its launcher says, at most so many; where that says nothing, that the
+    /// disk is full, if it is. Without a launcher nothing is said, whatever the program writes.
+    pub(crate) fn last_words<R: Files<File = File> + AllocGlobal>(
+        &self,
+        rt: &R,
+        work: &str,
+        most: u32,
+    ) -> io::Result<Vec<u8>>
         ensures within { IfOk result (λ bytes. length bytes.items ≤ most) }
         ensures own { self.now.said ≡ None → IfOk result (λ bytes. bytes.items ≡ []) }
     {
-        match &self.said {
-            Some(file) => {
-                let length = file.metadata()?.len();
-                read_part(alloc, file, length.saturating_sub(u64::from(most)), most)
-            }
-            None => Ok(Vec::new(alloc)),
+        let Some(file) = &self.said else {
+            return Ok(Vec::new(rt.alloc()));
+        };
+        let length = file.metadata()?.len();
+        if length == 0 {
+            return full_disk_words(rt, work, self.run, most);
         }
+        read_part(
+            rt.alloc(),
+            file,
+            length.saturating_sub(u64::from(most)),
+            most,
+        )
     }
 
     /// What is to be waited for.

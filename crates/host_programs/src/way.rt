@@ -1,12 +1,14 @@
 //! How the programs of a server are started.
 
-ghost use Rattle.std.specs.Prelude.{◌≡◌, ◌<◌, [], ◌∷◌, ◌++◌, None, IfSome, OnErr, OnOk, find, length, option_map, position};
+ghost use Rattle.std.specs.Prelude.{◌≡◌, ◌<◌, ◌≤◌, [], ◌∷◌, ◌++◌, None, IfOk, IfSome, OnErr, OnOk, find, length, option_map, position};
 ghost use Rattle.host_programs.specs.Ways.{AddsNone, is_of, launcher_of, sought_of, sought_shown};
 
 use crate::launching::Launcher;
 use crate::sought::Sought;
 use run_calls::RunKey;
 use std::alloc::{AllocError, Global};
+use std::io;
+use std::rt::Files;
 
 /// How programs are started.
 #[derive(Drop)]
@@ -51,6 +53,21 @@ impl Way {
                 Ok(())
             }
             Way::By(_) => unreachable!(),
+        }
+    }
+
+    /// Why a launcher cannot be started any more, in at most so many bytes; nothing where it can, or
+    /// where there is none.
+    pub(crate) fn absence<R: Files + AllocGlobal>(&self, rt: &R, most: u32) -> io::Result<Vec<u8>>
+        ensures { IfOk result (λ bytes. length bytes.items ≤ most) }
+    {
+        match self {
+            Way::By(launcher) => {
+                let mut words = launcher.absence(rt)?;
+                words.truncate(most as usize);
+                Ok(words)
+            }
+            Way::AsTheyAre(_) => Ok(Vec::new(rt.alloc())),
         }
     }
 

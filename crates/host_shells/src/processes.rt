@@ -3,9 +3,27 @@
 use std::fs::{self, DirEntry, File, ReadDir};
 use std::io::{self, ErrorKind, Read};
 use std::os::unix::fs::DirEntryExt;
+use std::time::{Duration, Instant};
 
 /// Where the system shows a directory for each process.
 const PROCESSES: &str = "/proc";
+
+/// Where it shows which number it gave last to a process or a thread, and below which one all are.
+/// It gives them in order, and begins anew behind the last.
+const LAST_NUMBER: &str = "/proc/sys/kernel/ns_last_pid";
+
+const MOST_NUMBER: &str = "/proc/sys/kernel/pid_max";
+
+/// How many numbers a host gives in a millisecond at most, with all of its processors: it gives one
+/// after the other, and each takes more than a microsecond.
+const MOST_GIVEN: u64 = 1_000;
+
+/// How many numbers are looked at one by one. To list all processes would take longer for some
+/// hundreds of them.
+const MOST_NEAR: u32 = 4_096;
+
+/// How often it is looked whether the system gave further ones meanwhile.
+const MOST_ROUNDS: u32 = 16;
 
 /// What the system shows of a process begins within so many bytes with its state and its numbers.
 const MOST_SHOWN: usize = 512;
@@ -99,7 +117,7 @@ impl<'a> Processes<'a> {
             Err(error) if is_gone(&error) => return Ok(None),
             Err(error) => return Err(error),
         };
-        let session = match self.session_of(process, inode) {
+        let session = match self.known_session(process, inode) {
             Some(session) => session,
             None => match status_of(self.rt, process)? {
                 Some(status) => status.session,
@@ -114,7 +132,7 @@ impl<'a> Processes<'a> {
     }
 
     /// In which session a process was found before.
-    fn session_of(&self, process: u32, inode: u64) -> Option<u32> {
+    fn known_session(&self, process: u32, inode: u64) -> Option<u32> {
         let found = self
             .known
             .binary_search_by_key(&process, |known| known.process);
@@ -130,18 +148,116 @@ impl<'a> Processes<'a> {
     pub(crate) fn alive_in(&self, session: u32) -> io::Result<Vec<u32>> {
         let mut alive = Vec::new(self.rt.alloc());
         for known in self.known.iter() {
-            if known.session != session {
-                continue;
-            }
-            match status_of(self.rt, known.process)? {
-                Some(status) if status.is_alive && status.session == session => {
-                    alive.push(known.process)?;
-                }
-                _ => {}
+            if known.session == session && is_alive_in(self.rt, known.process, session)? {
+                alive.push(known.process)?;
             }
         }
         Ok(alive)
     }
+}
+
+/// What is alive in a session whose first process was started behind this moment, threads too. All
+/// of it got a number behind that process's, so that no others are looked at. `None` where these are
+/// many, where the system may have begun anew with its numbers since then, or where it does not
+/// tell.
+pub(crate) fn alive_since(
+    rt: &HostRuntime,
+    session: u32,
+    begun: Instant,
+) -> io::Result<Option<Vec<u32>>> {
+    let circle = shortest_circle(rt);
+    if Instant::now(rt)?.duration_since(begun) >= circle {
+        return Ok(None);
+    }
+    let alive = alive_behind(rt, session)?;
+    // The server may have been stopped meanwhile.
+    if Instant::now(rt)?.duration_since(begun) >= circle {
+        return Ok(None);
+    }
+    Ok(alive)
+}
+
+/// What of a session is alive among the processes that have its number or one behind that, where
+/// these are few.
+///
+/// Who starts another one meanwhile is alive when its number is looked at, or the other one's is
+/// given before that, and is looked at in the next round.
+fn alive_behind(rt: &HostRuntime, session: u32) -> io::Result<Option<Vec<u32>>> {
+    let mut alive = Vec::new(rt.alloc());
+    let mut next = session;
+    for _ in 0..MOST_ROUNDS {
+        let last = match number_in(rt, LAST_NUMBER) {
+            Some(last) if last >= session && last - session < MOST_NEAR => last,
+            _ => return Ok(None),
+        };
+        if last < next {
+            return Ok(Some(alive));
+        }
+        if !add_alive(rt, session, next, last, &mut alive)? {
+            return Ok(None);
+        }
+        next = last.saturating_add(1);
+    }
+    Ok(None)
+}
+
+/// Adds those of these numbers that are alive in a session. Whether the system told it of all.
+fn add_alive(
+    rt: &HostRuntime,
+    session: u32,
+    from: u32,
+    to: u32,
+    alive: &mut Vec<u32>,
+) -> io::Result<bool> {
+    for process in from..=to {
+        match session_of(process) {
+            Some(found) if found != session => {}
+            Some(_) => {
+                if is_alive_in(rt, process, session)? {
+                    alive.push(process)?;
+                }
+            }
+            None => return Ok(false),
+        }
+    }
+    Ok(true)
+}
+
+/// In which session a process is, or a thread: in none where none has the number, and `None` where
+/// the system does not tell. To ask so takes a tenth of what it takes to read what is shown of it.
+fn session_of(process: u32) -> Option<u32> {
+    let session = libc::getsid(i32::try_from(process).ok()?);
+    if session >= 0 {
+        Some(session as u32)
+    } else if os::errno() == libc::ESRCH {
+        Some(NO_SESSION)
+    } else {
+        None
+    }
+}
+
+/// Whether a process is alive in a session.
+fn is_alive_in(rt: &HostRuntime, process: u32, session: u32) -> io::Result<bool> {
+    match status_of(rt, process)? {
+        Some(status) => Ok(status.is_alive && status.session == session),
+        None => Ok(false),
+    }
+}
+
+/// For how long the system gives no number for the second time, at least. How many there are may be
+/// changed at any time.
+fn shortest_circle(rt: &HostRuntime) -> Duration {
+    let most = number_in(rt, MOST_NUMBER).unwrap_or(0);
+    Duration::from_millis(u64::from(most) / MOST_GIVEN)
+}
+
+/// The number that the system shows in a file, if it does.
+fn number_in(rt: &HostRuntime, path: &str) -> Option<u32> {
+    let mut file: File = File::open(rt, path).ok()?;
+    let mut room = [0u8; MOST_SHOWN];
+    let count = file.read(&mut room).ok()?;
+    let text = str::from_utf8(room.get(..count)?).ok()?;
+    text.split_ascii_whitespace().next()?.parse::<u32>().ok()
 }
 
 fn is_gone(error: &io::Error) -> bool {

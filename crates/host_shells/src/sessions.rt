@@ -1,6 +1,6 @@
 //! Ending sessions of programs without waiting, by one shell that is kept for it.
 
-use crate::processes::{Processes, is_there};
+use crate::processes::{Processes, alive_since, is_there};
 use crate::shell::Shell;
 use std::alloc::AllocError;
 use std::io::{self, ErrorKind};
@@ -15,6 +15,9 @@ const MOST_SEARCHES: u32 = 20;
 /// How long after it was tried to start a shell it is tried again, in milliseconds.
 const TRIED_AGAIN: u64 = 250;
 
+/// How long after it was looked whether the shell stands that is looked again, in milliseconds.
+const KEPT_AGAIN: u64 = 1;
+
 /// A session that is to be ended.
 #[derive(Clone, Copy)]
 pub struct Session {
@@ -23,6 +26,8 @@ pub struct Session {
     /// Whether that process was waited for. The system may give the number to another one then, but
     /// not while anything is left of the session.
     pub is_reaped: bool,
+    /// A moment before that process was started.
+    pub begun: Instant,
 }
 
 /// A question to a shell.
@@ -67,6 +72,8 @@ pub struct Sessions<'a> {
     number: u64,
     /// When it was tried last to start one.
     tried: Option<Instant>,
+    /// When it was looked last whether the shell stands.
+    kept: Option<Instant>,
     /// Those that were killed, until they have ended.
     killed: Vec<Shell>,
     processes: Processes<'a>,
@@ -82,6 +89,7 @@ impl<'a> Sessions<'a> {
             shell: None,
             number: 0,
             tried: None,
+            kept: None,
             killed: Vec::new(rt.alloc()),
             processes: Processes::new(rt),
             looked: None,
@@ -89,8 +97,14 @@ impl<'a> Sessions<'a> {
     }
 
     /// Sees to it that a shell stands that has not ended and that answers, where one can be had
-    /// now.
+    /// now, unless that was done a moment ago.
     pub fn keep(&mut self, now: Instant) -> Result<(), AllocError> {
+        if let Some(kept) = self.kept {
+            if now.duration_since(kept) < Duration::from_millis(KEPT_AGAIN) {
+                return Ok(());
+            }
+        }
+        self.kept = Some(now);
         let shell = self.taken(now)?;
         self.shell = shell;
         Ok(())
@@ -140,7 +154,7 @@ impl<'a> Sessions<'a> {
 
     /// Does the next of what is to be done to end a session, and tells how far that is. Its first
     /// process and the group of that are ended, and then all else that is found in it, until
-    /// nothing is, or it was looked often.
+    /// nothing is, or it was looked often. Nothing is done where nothing is left of it.
     ///
     /// Where another process has its number, it has ended.
     pub fn end(
@@ -149,11 +163,11 @@ impl<'a> Sessions<'a> {
         progress: Progress,
         now: Instant,
     ) -> io::Result<Progress> {
-        let number = checked(session.number)?;
+        checked(session.number)?;
         if let Progress::Ended = progress {
             return Ok(Progress::Ended);
         }
-        if session.is_reaped && is_there(self.rt, number)? {
+        if session.is_reaped && self.has_gone(session, progress)? {
             return Ok(Progress::Ended);
         }
         let Some(mut shell) = self.taken(now)? else {
@@ -162,6 +176,23 @@ impl<'a> Sessions<'a> {
         let answer = self.go_on(&mut shell, session, progress);
         self.shell = Some(shell);
         answer
+    }
+
+    /// Whether nothing is left of a session whose first process was waited for: another one has its
+    /// number, or that is seen before the shell is asked.
+    fn has_gone(&self, session: Session, progress: Progress) -> io::Result<bool> {
+        if is_there(self.rt, session.number)? {
+            return Ok(true);
+        }
+        match progress {
+            Progress::Alive | Progress::Told(_) => {
+                match alive_since(self.rt, session.number, session.begun)? {
+                    Some(alive) => Ok(alive.is_empty()),
+                    None => Ok(false),
+                }
+            }
+            Progress::Asked(..) | Progress::Ended => Ok(false),
+        }
     }
 
     fn go_on(
@@ -201,8 +232,13 @@ impl<'a> Sessions<'a> {
         if searches == 0 {
             return Ok(Progress::Ended);
         }
-        self.look_since(shell, question)?;
-        let left = self.processes.alive_in(session.number)?;
+        let left = match alive_since(self.rt, session.number, session.begun)? {
+            Some(left) => left,
+            None => {
+                self.look_since(shell, question)?;
+                self.processes.alive_in(session.number)?
+            }
+        };
         if left.is_empty() {
             return Ok(Progress::Ended);
         }

@@ -1,7 +1,7 @@
 //! The sockets of a host, and its clock.
 #![tactic(auto)]
 
-ghost use Rattle.std.specs.Prelude.{◌≡◌, ◌<◌, ◌++◌, ℕ, [], ◌∷◌, None, Some, length, slice_get, IfOk, OnOk};
+ghost use Rattle.std.specs.Prelude.{◌≡◌, ◌<◌, ◌≤◌, ◌++◌, ℕ, [], ◌∷◌, None, Some, length, slice_get, IfOk, OnOk};
 ghost use Rattle.std.specs.Io.{ReadsAtMost, WritesAtMost};
 ghost use Rattle.serve.specs.SocketEvents.{Adds, Carries, accept_events, clock, read_events, shutdown_events, write_events};
 ghost use Rattle.wires.specs.Wires as wires;
@@ -144,6 +144,7 @@ impl<'a, H: Host> HostSockets<'a, H> {
         ensures told { BecomesAt socket.instance (StaysToldOf result)
             self.old.ports.items self.new.ports.items }
         ensures others { OthersStay socket.instance self.old.ports.items self.new.ports.items }
+        ensures moment { self.new.moment ≡ self.old.moment }
     {
         match self.ports.get_mut(socket.instance as usize) {
             Some(port) => port.accept(socket.connection, self.counts),
@@ -161,6 +162,7 @@ impl<'a, H: Host> HostSockets<'a, H> {
         ensures told { BecomesAt socket.instance (StaysToldAt socket.connection result)
             self.old.ports.items self.new.ports.items }
         ensures others { OthersStay socket.instance self.old.ports.items self.new.ports.items }
+        ensures moment { self.new.moment ≡ self.old.moment }
     {
         match self.ports.get_mut(socket.instance as usize) {
             Some(port) => port.read(socket.connection, room),
@@ -175,6 +177,7 @@ impl<'a, H: Host> HostSockets<'a, H> {
             socket.connection (wires.write_events result bytes.now)) self.old.ports.items
             self.new.ports.items }
         ensures others { OthersStay socket.instance self.old.ports.items self.new.ports.items }
+        ensures moment { self.new.moment ≡ self.old.moment }
     {
         match self.ports.get_mut(socket.instance as usize) {
             Some(port) => port.write(socket.connection, bytes),
@@ -182,9 +185,10 @@ impl<'a, H: Host> HostSockets<'a, H> {
         }
     }
 
-    /// Reads the clock, and drops what closed connections bring.
+    /// Reads the clock, which never falls, and drops what closed connections bring.
     fn go_on(&mut self)
-        ensures { OpenStay H.Door.Wire.happened self.old.ports.items self.new.ports.items }
+        ensures open { OpenStay H.Door.Wire.happened self.old.ports.items self.new.ports.items }
+        ensures rises { self.old.moment ≤ self.new.moment }
     {
         self.moment = self.moment.max(self.passed() / MILLISECOND);
         port::drop_rest(&mut self.ports, self.moment, &mut [0; 16_384]);
@@ -195,6 +199,7 @@ impl<'a, H: Host> HostSockets<'a, H> {
         ensures own { BecomesAt socket.instance (ClosesAt H.Door.Wire.happened
             socket.connection) self.old.ports.items self.new.ports.items }
         ensures others { OthersStay socket.instance self.old.ports.items self.new.ports.items }
+        ensures moment { self.new.moment ≡ self.old.moment }
     {
         // Much time may have gone by in this turn.
         let now = self.passed() / MILLISECOND;
@@ -208,6 +213,7 @@ impl<'a, H: Host> HostSockets<'a, H> {
     fn count<T: Drop>(&mut self, outcome: &io::Result<T>)
         ensures ports { self.new.ports ≡ self.old.ports }
         ensures host { self.new.host ≡ self.old.host }
+        ensures moment { self.new.moment ≡ self.old.moment }
     {
         if let Err(error) = outcome {
             if !is_not_ready(error) {
@@ -234,6 +240,7 @@ impl<'a, H: Host> HostSockets<'a, H> {
         ensures stay { AreTold self.old.ports.items self.new.ports.items }
         ensures told { ArePassedOn (H.learned self.new.host) self.new.ports.items }
         ensures waits { wires.Adds (H.waits self.old.host) (H.waits self.new.host) (most ∷ []) }
+        ensures moment { self.new.moment ≡ self.old.moment }
     {
         let looked = self.host.look(most);
         self.count(&looked);
@@ -251,6 +258,8 @@ impl<'a, H: Host> Sockets for HostSockets<'a, H> {
         ensures carries { (moment : ℕ)
             → Carries (AreLaid H.Door.Wire.happened self.old.ports.items)
             (AreLaid H.Door.Wire.happened self.new.ports.items) (clock moment ∷ []) }
+        ensures rises { self.old.moment ≤ result }
+        ensures shown { self.new.moment ≡ result }
     {
         self.go_on();
         self.moment
@@ -282,6 +291,7 @@ impl<'a, H: Host> Sockets for HostSockets<'a, H> {
         ensures adds { Adds None None (accept_events socket result) }
         ensures carries { Carries (AreLaid H.Door.Wire.happened self.old.ports.items)
             (AreLaid H.Door.Wire.happened self.new.ports.items) (accept_events socket result) }
+        ensures moment { self.new.moment ≡ self.old.moment }
     {
         let outcome = self.accept_now(socket);
         self.count(&outcome);
@@ -302,6 +312,7 @@ impl<'a, H: Host> Sockets for HostSockets<'a, H> {
         ensures carries { Carries (AreLaid H.Door.Wire.happened self.old.ports.items)
             (AreLaid H.Door.Wire.happened self.new.ports.items)
             (read_events socket result room.new) }
+        ensures moment { self.new.moment ≡ self.old.moment }
     {
         let outcome = self.read_now(socket, room);
         self.count(&outcome);
@@ -319,6 +330,7 @@ impl<'a, H: Host> Sockets for HostSockets<'a, H> {
         ensures carries { Carries (AreLaid H.Door.Wire.happened self.old.ports.items)
             (AreLaid H.Door.Wire.happened self.new.ports.items)
             (write_events socket result bytes.now) }
+        ensures moment { self.new.moment ≡ self.old.moment }
     {
         let outcome = self.write_now(socket, bytes);
         self.count(&outcome);
@@ -332,6 +344,7 @@ impl<'a, H: Host> Sockets for HostSockets<'a, H> {
         ensures adds { Adds None None (shutdown_events socket) }
         ensures carries { Carries (AreLaid H.Door.Wire.happened self.old.ports.items)
             (AreLaid H.Door.Wire.happened self.new.ports.items) (shutdown_events socket) }
+        ensures moment { self.new.moment ≡ self.old.moment }
     {
         let outcome = self.close_now(socket);
         self.count(&outcome);
@@ -351,6 +364,7 @@ impl<'a, H: Host> Sockets for HostSockets<'a, H> {
         ensures adds { Adds None None [] }
         ensures carries { Carries (AreLaid H.Door.Wire.happened self.old.ports.items)
             (AreLaid H.Door.Wire.happened self.new.ports.items) [] }
+        ensures moment { self.new.moment ≡ self.old.moment }
     {
         self.look(self.wait_of(most));
     }

@@ -3,7 +3,7 @@ use Rattle.std.specs.Prelude.{◌≡◌, ℕ, ◌+◌, ◌==◌, if◌then◌els
 use Rattle.instance_words.specs.declared.mistakes.Part.{Part}
 use Rattle.instance_words.specs.declared.mistakes.Part.TheVariants.{Name, Port, Quota, Slots, Parent}
 use Rattle.instance_words.specs.declared.mistakes.Mistake.{Mistake}
-use Rattle.instance_words.specs.declared.mistakes.Mistake.TheVariants.{Lacks, Behind, Is}
+use Rattle.instance_words.specs.declared.mistakes.Mistake.TheVariants.{Lacks, Behind, Is, Spaced}
 use Rattle.instance_words.specs.Words.{written}
 
 -- how many colons a text has (byte 58)
@@ -47,8 +47,13 @@ pub record HasBehind (word text : List ℕ) : Type 0 where
   pub parent : List ℕ
   pub is_written : word ≡ written name port quota slots (Some (parent ++ (codes ":" ++ text)))
 
--- it ends before a part, goes on behind the last, or has this for a part
+-- a space stands in it, and this behind the first or a later one
+abbrev pub HasBehindSpace : List ℕ → List ℕ → Type 0
+HasBehindSpace word text = (front : List ℕ) × (word ≡ front ++ (codes " " ++ text))
+
+-- it ends before a part, goes on behind the last, has this for a part, or has a space before this
 abbrev pub IsMistakeOf : List ℕ → Mistake → Type 0
 IsMistakeOf word (Lacks part) = colons word + 1 ≡ colons_before part
 IsMistakeOf word (Behind text) = HasBehind word text.now
 IsMistakeOf word (Is part text) = HasPart word part text.now
+IsMistakeOf word (Spaced text) = HasBehindSpace word text.now

@@ -11,7 +11,7 @@ ghost use Rattle.instance_words.specs.Mistakes.{colons};
 ghost use Rattle.instance_words.specs.Words.{AreWordsOf, IsWordOf, parent_part, written};
 
 use decimals::decimal;
-pub use mistakes::{Mistake, Part, mistake_of};
+pub use mistakes::{Mistake, ParentMistake, Part, mistake_of, parent_mistake_of};
 use server_events::{ConfigFault, Configs, InstanceConfig, Limits};
 use std::alloc::{AllocError, Global};
 use thiserror::Error;

@@ -1,6 +1,6 @@
 //! Which part of a word is wrong, for whoever wrote it.
 
-ghost use Rattle.std.specs.Prelude.{◌≡◌, IfSome, option_map};
+ghost use Rattle.std.specs.Prelude.{◌≡◌, ◌++◌, IfSome, codes, option_map};
 ghost use Rattle.instance_words.specs.Mistakes.{IsMistakeOf, part_among};
 
 use crate::{MOST_QUOTA, Parts, WordFault, cut, parts_of};
@@ -26,6 +26,19 @@ pub enum Mistake<'a> {
     Behind(&'a str),
     /// This is written for a part.
     Is(Part, &'a str),
+    /// A space stands in it, and this behind that.
+    Spaced(&'a str),
+}
+
+/// Why what a word names as its parent is none.
+#[derive(Clone, Copy, Debug, PartialEq, Eq)]
+pub enum ParentMistake<'a> {
+    /// It is the instance itself.
+    Itself,
+    /// No word is for an instance of this name.
+    Unknown,
+    /// It has this parent itself.
+    HasParent(&'a str),
 }
 
 /// The part that a fault is about; none where it is about how many there are.
@@ -73,10 +86,41 @@ fn miscounted(word: &str) -> Option<Mistake<'_>>
     Some(Mistake::Behind(behind))
 }
 
+/// What stands before the first space of a text, and behind it.
+fn cut_at_space(text: &str) -> Option<(&str, &str)>
+    ensures { IfSome result (λ parts. text.now
+        ≡ parts.0.now ++ (codes " " ++ parts.1.now)) }
+{
+    text.split_once(' ')
+}
+
+/// Why what a word names as its parent is none, among the words for all instances.
+pub fn parent_mistake_of<'a>(words: &[&'a str], word: &str) -> Option<ParentMistake<'a>> {
+    let parts = parts_of(word)?;
+    let parent = parts.parent?;
+    if parent.is_empty() {
+        return None;
+    }
+    if parent == parts.name {
+        return Some(ParentMistake::Itself);
+    }
+    for other in words.iter() {
+        if let Some(found) = parts_of(*other) {
+            if found.name == parent {
+                return Some(ParentMistake::HasParent(found.parent?));
+            }
+        }
+    }
+    Some(ParentMistake::Unknown)
+}
+
 /// What is wrong in a word that has this fault.
 pub fn mistake_of(word: &str, fault: WordFault) -> Option<Mistake<'_>>
     ensures { IfSome result (IsMistakeOf word.now) }
 {
+    if let Some((_, behind)) = cut_at_space(word) {
+        return Some(Mistake::Spaced(behind));
+    }
     match (parts_of(word), part_of(fault)) {
         (Some(parts), Some(part)) => Some(Mistake::Is(part, text_of(&parts, part)?)),
         _ => miscounted(word),
@@ -108,6 +152,21 @@ impl fmt::Display for Mistake<'_> {
                 _ => write!(f, "QUOTA is {text}"),
             },
             Mistake::Is(part, text) => write!(f, "{part} is {text}"),
+            Mistake::Spaced("") => f.write_str("a space stands at its end"),
+            Mistake::Spaced(text) => write!(
+                f,
+                "a space stands in it before {text}: each instance is a word of its own"
+            ),
+        }
+    }
+}
+
+impl fmt::Display for ParentMistake<'_> {
+    fn fmt<W: fmt::Write>(&self, f: &mut fmt::Formatter<W>) -> fmt::Result {
+        match self {
+            ParentMistake::Itself => f.write_str("that is the instance itself"),
+            ParentMistake::Unknown => f.write_str("no instance has this name"),
+            ParentMistake::HasParent(parent) => { write!(f, "that has a parent itself, {parent}") }
         }
     }
 }

@@ -11,7 +11,7 @@ use Rattle.instance_core.specs.State.{InstanceState}
 use Rattle.instance_core.specs.Visible.{Blob}
 use Rattle.instance_core.specs.Changes.{InstanceChange, Text, Goes, Ends, Wrote, Keeps, Expires, Does, Pushes, Settles, state_after_change, state_after_changes}
 use Rattle.instance_core.specs.Answer.{answer, state_after}
-use Rattle.server_events.specs.Events.{EventValue, WhatValue, opened, received, took, closed, tick, ended}
+use Rattle.server_events.specs.Events.{EventValue, LoneEvent, WhatValue, opened, received, took, closed, tick, ended}
 use Rattle.served_instance.specs.Lone.{LoneInstance, lone_at_moment}
 use Rattle.served_instance.specs.Events.{bytes_events}
 use Rattle.served_instance.specs.Short.{IsCutShort, IsCutEffect}
@@ -71,7 +71,7 @@ short_moment (ended n outcome) l m b =
     ∙ made_moment b.made.made l.state b.left b.made.so_far
 
 -- an instance is not ahead of the clock
-not_ahead : (parent : List Blob) (e : EventValue) (marked : Bool) (l k : LoneInstance)
+not_ahead : (parent : List Blob) (e : LoneEvent) (marked : Bool) (l k : LoneInstance)
     (orders : List OrderValue) → MayStep parent e marked l k orders → l.state.moment ≤ e.moment →
     k.state.moment ≤ e.moment
 not_ahead parent e true l k orders may times =
@@ -141,14 +141,14 @@ plan_told i j n (ended k outcome) before other =
 
 -- what was told, and what this event tells
 abbrev then_told : List RunEvent → EventValue → List RunEvent
-then_told before e = before ++ outcome_told e.instance e.what
+then_told before e = before ++ outcome_told e.instance e.lone.what
 
 taken_planned : (parents : List (Option ℕ)) (e : EventValue) (marked : Bool)
     (ls : List LoneInstance) (k : AtWork) (before : List RunEvent) → IsTaken parents e marked ls k →
-    AllPlanned before e.moment (with_orders ls []) → AllPlanned (then_told before e) e.moment k
+    AllPlanned before e.lone.moment (with_orders ls []) → AllPlanned (then_told before e) e.lone.moment k
 taken_planned parents e marked ls k before is planned =
-    subst (AllPlanned (then_told before e) e.moment) (sym is.so) (record { right = leads.right; each = λ i l at. go i l at (i == e.instance) refl }) where
-      own : IsPlanned e.instance (before ++ []) e.moment is.was
+    subst (AllPlanned (then_told before e) e.lone.moment) (sym is.so) (record { right = leads.right; each = λ i l at. go i l at (i == e.instance) refl }) where
+      own : IsPlanned e.instance (before ++ []) e.lone.moment is.was
       own = planned.each e.instance is.was is.there
 
       leads : Leads e.instance (then_told before e)
@@ -157,20 +157,20 @@ taken_planned parents e marked ls k before is planned =
 
       go : (i : ℕ) (l : LoneInstance) → slice_get (slice_set ls e.instance is.now) i ≡ Some l →
           (b : Bool) → (i == e.instance) ≡ b →
-          IsPlanned i (then_told before e ++ map (ordered e.instance) is.orders) e.moment l
+          IsPlanned i (then_told before e ++ map (ordered e.instance) is.orders) e.lone.moment l
       go i l at true here =
           let same : e.instance ≡ i = sym (eqb-true i e.instance here) in
           let found : slice_get (slice_set ls e.instance is.now) e.instance ≡ Some l = subst (λ (n : ℕ). slice_get (slice_set ls e.instance is.now) n ≡ Some l) (sym same) at in
           let now : is.now ≡ l = same_Some is.now l (sym (set_here ls e.instance is.now is.was is.there) ∙ found) in
-          let fit : IsPlanned e.instance (then_told before e ++ map (ordered e.instance) is.orders) e.moment is.now =
-          record { fits = leads.fits; times = not_ahead (texts_beside e.instance parents ls) e marked is.was is.now is.orders is.step own.times } in
-          subst (λ (n : ℕ). IsPlanned n (then_told before e ++ map (ordered e.instance) is.orders) e.moment l) same
-          (subst (λ (x : LoneInstance). IsPlanned e.instance (then_told before e ++ map (ordered e.instance) is.orders) e.moment x) now fit)
+          let fit : IsPlanned e.instance (then_told before e ++ map (ordered e.instance) is.orders) e.lone.moment is.now =
+          record { fits = leads.fits; times = not_ahead (texts_beside e.instance parents ls) e.lone marked is.was is.now is.orders is.step own.times } in
+          subst (λ (n : ℕ). IsPlanned n (then_told before e ++ map (ordered e.instance) is.orders) e.lone.moment l) same
+          (subst (λ (x : LoneInstance). IsPlanned e.instance (then_told before e ++ map (ordered e.instance) is.orders) e.lone.moment x) now fit)
       go i l at false apart =
           let other : i ≢ e.instance = eqb-false i e.instance apart in
           let was = planned.each i l (sym (set_other ls e.instance i is.now other) ∙ at) in
           record {
-            fits = fits_same (plan_of i (before ++ [])) (plan_of i (then_told before e ++ map (ordered e.instance) is.orders)) l.state.jobs (λ n. plan_ordered i e.instance n is.orders (then_told before e) other ∙ plan_told i e.instance n e.what before other ∙ ap (λ (b : List RunEvent). plan_of i b n) (sym (append-nil before))) was.fits;
+            fits = fits_same (plan_of i (before ++ [])) (plan_of i (then_told before e ++ map (ordered e.instance) is.orders)) l.state.jobs (λ n. plan_ordered i e.instance n is.orders (then_told before e) other ∙ plan_told i e.instance n e.lone.what before other ∙ ap (λ (b : List RunEvent). plan_of i b n) (sym (append-nil before))) was.fits;
             times = was.times;
           }
 

@@ -16,7 +16,7 @@ use Rattle.instance_core.specs.Visible.{Blob}
 use Rattle.instance_core.specs.Changes.{InstanceChange, Text, Goes, Ends, Wrote, Keeps, Expires, Does, Pushes, Settles, state_after_change, state_after_changes, MadeInPart}
 use Rattle.instance_core.specs.Answer.{answer, state_after, orders_at, ending_at, ending_changes, ending_steps}
 use Rattle.instance_core.specs.Apart.{IsCallOn}
-use Rattle.server_events.specs.Events.{EventValue, WhatValue, opened, received, took, closed, tick, ended}
+use Rattle.server_events.specs.Events.{EventValue, LoneEvent, WhatValue, opened, received, took, closed, tick, ended}
 use Rattle.conn_core.specs.declared.event.CallEvent.{CallEvent}
 use Rattle.conn_core.specs.declared.event.CallEvent.TheVariants as Seen
 use Rattle.conn_core.specs.Calls.{cancels}
@@ -246,7 +246,7 @@ off : {A : Type 0} (b : Bool) (x y : A) → b ≡ false → cond b x y ≡ y
 off b x y is = ap (λ (t : Bool). cond t x y) is
 
 -- for its own reason, as time does not go back
-by_what : (e : EventValue) (l : LoneInstance) → l.state.moment ≤ e.moment →
+by_what : (e : LoneEvent) (l : LoneInstance) → l.state.moment ≤ e.moment →
     refusal_of e l ≡ refusal_of_what e.what l
 by_what e l times =
     off (nat_lt e.moment l.state.moment) _ (refusal_of_what e.what l) (le-ltb e.moment l.state.moment times)
@@ -281,18 +281,18 @@ refused_leads i before (ended n outcome) l refusal is h =
 -- ---- each event
 
 pub step_leads : (parent : List Blob) (before : List RunEvent) (e : EventValue) (marked : Bool)
-    (l k : LoneInstance) (orders : List OrderValue) → l.state.moment ≤ e.moment →
-    MayStep parent e marked l k orders → Fits (plan_of e.instance before) l.state.jobs
-    → Leads e.instance (before ++ outcome_told e.instance e.what)
+    (l k : LoneInstance) (orders : List OrderValue) → l.state.moment ≤ e.lone.moment →
+    MayStep parent e.lone marked l k orders → Fits (plan_of e.instance before) l.state.jobs
+    → Leads e.instance (before ++ outcome_told e.instance e.lone.what)
     (map (ordered e.instance) orders) k.state.jobs
 step_leads parent before e true l k orders times may h =
-    subst (λ (os : List OrderValue). LeadsBy e.instance before e.what os k) (sym may.2)
-    (short_leads e.instance before e.what (lone_at_moment e.moment parent l) k may.1 h)
+    subst (λ (os : List OrderValue). LeadsBy e.instance before e.lone.what os k) (sym may.2)
+    (short_leads e.instance before e.lone.what (lone_at_moment e.lone.moment parent l) k may.1 h)
 step_leads parent before e false l k orders times may h =
-    subst (λ (m : LoneInstance). LeadsBy e.instance before e.what orders m) (sym may.0)
-    (subst (λ (os : List OrderValue). LeadsBy e.instance before e.what os (after_event_unless parent e l (refusal_of e l))) (sym may.1) (go (refusal_of e l) refl)) where
-      go : (o : Option EventRefusal) → refusal_of e l ≡ o →
-          LeadsBy e.instance before e.what (orders_unless parent e l o)
-          (after_event_unless parent e l o)
-      go None is = effect_leads e.instance before e.what (lone_at_moment e.moment parent l) (same_refusal e.what e.moment parent l ∙ sym (by_what e l times) ∙ is) h
-      go (Some refusal) is = refused_leads e.instance before e.what l refusal (sym (by_what e l times) ∙ is) h
+    subst (λ (m : LoneInstance). LeadsBy e.instance before e.lone.what orders m) (sym may.0)
+    (subst (λ (os : List OrderValue). LeadsBy e.instance before e.lone.what os (after_event_unless parent e.lone l (refusal_of e.lone l))) (sym may.1) (go (refusal_of e.lone l) refl)) where
+      go : (o : Option EventRefusal) → refusal_of e.lone l ≡ o →
+          LeadsBy e.instance before e.lone.what (orders_unless parent e.lone l o)
+          (after_event_unless parent e.lone l o)
+      go None is = effect_leads e.instance before e.lone.what (lone_at_moment e.lone.moment parent l) (same_refusal e.lone.what e.lone.moment parent l ∙ sym (by_what e.lone l times) ∙ is) h
+      go (Some refusal) is = refused_leads e.instance before e.lone.what l refusal (sym (by_what e.lone l times) ∙ is) h

@@ -1,10 +1,10 @@
 -- Which rule the outputs of a run break, and what is told of a run whose outputs break one.
-use Rattle.std.specs.Prelude.{◌≡◌, ◌⊎◌, ℕ, List, [], ◌∷◌, length, nat_le, Option, Some, None, Result, Ok, Err, if◌then◌else◌}
+use Rattle.std.specs.Prelude.{◌≡◌, ◌⊎◌, ℕ, List, [], ◌∷◌, length, nat_le, Option, Some, None, is_some, Result, Ok, Err, if◌then◌else◌}
 use Rattle.std.specs.List.{list_all}
 use Rattle.actions.specs.Commands.{AskedOutput, asked_outputs}
 use Rattle.actions.specs.declared.walking.TheConstants.{MOST_NODES}
 use Rattle.execution.specs.Job.{TaskValue}
-use Rattle.outcomes.specs.Asked.{are_asked}
+use Rattle.outcomes.specs.Asked.{are_asked, is_asked}
 use Rattle.outcomes.specs.Trees.{is_shallow}
 use Rattle.run_outcomes.specs.Outcomes.{ExitedValue, OutputNodeValue, OutputValue, output_file, output_tree}
 use Rattle.run_outcomes.specs.Shown.{exited_shown}
@@ -43,6 +43,30 @@ broken_of asked outputs =
 
 abbrev pub broken_by_run : TaskValue → ExitedValue → Option OutputRule
 broken_by_run task x = broken_of (asked_outputs (command_for task.command)) x.outputs
+
+-- ---- by which output
+
+abbrev pub path_of : OutputValue → List ℕ
+path_of (output_file path text is_executable) = path
+path_of (output_tree path nodes) = path
+
+-- the path of the first that breaks a rule by itself
+abbrev pub first_breaking : List OutputValue → Option (List ℕ)
+first_breaking [] = None
+first_breaking (o ∷ os) = if is_some (broken_by o) then Some (path_of o) else first_breaking os
+
+-- the path of the first that is not asked for, behind those before it
+abbrev pub first_unasked : List AskedOutput → List OutputValue → Option (List ℕ)
+first_unasked asked [] = None
+first_unasked [] (o ∷ os) = Some (path_of o)
+first_unasked (a ∷ asked) (o ∷ os) =
+    if is_asked a o then first_unasked asked os else first_unasked asked (o ∷ os)
+
+-- the path of the output by which a rule is broken
+abbrev pub breaking_path : List AskedOutput → List OutputValue → OutputRule → Option (List ℕ)
+breaking_path asked outputs Kind = first_unasked asked outputs
+breaking_path asked outputs Nodes = first_breaking outputs
+breaking_path asked outputs Levels = first_breaking outputs
 
 -- ---- what is told
 

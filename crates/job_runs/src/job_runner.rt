@@ -425,7 +425,7 @@ impl<F: Folder + Drop, P: Programs + Drop> Runs for JobRunner<F, P> {
         most: u32,
     ) -> io::Result<Vec<u8>> {
         match fault {
-            RunFault::Launcher => self.runner.programs().last_words(run, most),
+            RunFault::Launcher | RunFault::Start => { self.runner.programs().last_words(run, most) }
             _ => Ok(Vec::new(self.alloc)),
         }
     }

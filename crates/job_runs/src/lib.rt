@@ -23,5 +23,5 @@ pub use laws::{
 };
 pub use lent::LentTexts;
 pub use operated::{OperatedRuns, Oversight};
-pub use run_counts::{FAULT_WORDS, FAULTS, FailedRuns, RunCounts};
+pub use run_counts::{FAULT_WORDS, FAULTS, RunCounts, RunTally};
 pub use tasks::run_task;

@@ -20,17 +20,17 @@ ghost use Rattle.job_runs.specs.OutputRules.{IsJudged, IsRefusal};
 
 use crate::ended::EndedJobs;
 use crate::job_runner::JobRunner;
-use crate::output_rules::broken_rule;
-use crate::reasons::reason_of;
+use crate::output_rules::{OutputRule, breaking_path, broken_rule, found_as};
+use crate::reasons::{Met, reason_of, tell_output};
 use crate::run_counts::RunCounts;
 use run_calls::{Folder, Programs, RunKey};
-use run_outcomes::Outcome;
+use run_outcomes::{Outcome, Output};
 use runner::RunFault;
 use serve::{ErrorLines, Runs};
 use server_core::LentTask;
 use server_events::Configs;
 use std::alloc::{AllocError, Global};
-use std::cell::Cell;
+use std::cell::{Cell, RefCell};
 use std::io::{self, Write};
 
 /// How much is told at most of what a launcher said.
@@ -41,20 +41,43 @@ const MOST_SAID: u32 = 200;
 pub struct Oversight {
     /// The jobs that the operator ends.
     pub ended: EndedJobs,
-    /// How many runs failed by what.
+    /// What befell runs.
     pub counts: RunCounts,
     /// Why the call of folders or programs failed that did last, which these note.
     pub failure: Cell<Option<io::Error>>,
+    /// What is told of the output that broke a rule, where one did since a run was asked last.
+    output: RefCell<Vec<u8>>,
 }
 
 impl Oversight {
-    /// Nothing yet, of so many instances.
-    pub fn new(alloc: Global, instances: usize) -> Result<Oversight, AllocError> {
+    /// Nothing yet, of these instances.
+    pub fn new(alloc: Global, configs: &Configs) -> Result<Oversight, AllocError> {
         Ok(Oversight {
-            ended: EndedJobs::new(alloc, instances)?,
-            counts: RunCounts::new(alloc, instances)?,
+            ended: EndedJobs::new(alloc, configs.instances().len())?,
+            counts: RunCounts::new(alloc, configs)?,
             failure: Cell::new(None),
+            output: RefCell::new(Vec::new(alloc)),
         })
+    }
+
+    /// A run is asked: nothing is known of why it fails.
+    fn begin(&self) {
+        self.failure.set(None);
+        if let Ok(mut output) = self.output.try_borrow_mut() {
+            output.clear();
+        }
+    }
+
+    /// Notes that outputs break a rule, and by which one they do, where memory is there for that.
+    fn note_broken(&self, alloc: Global, task: LentTask<'_>, outputs: &[Output], rule: OutputRule) {
+        self.failure.set(Some(rule.error()));
+        let Ok(Some(path)) = breaking_path(alloc, task, outputs, rule) else {
+            return;
+        };
+        let found = found_as(outputs, path, rule);
+        if let Ok(mut output) = self.output.try_borrow_mut() {
+            let _ = tell_output(&mut output, path.as_bytes(), found.as_bytes());
+        }
     }
 }
 
@@ -116,7 +139,7 @@ impl<'a, F: Folder + Drop, P: Programs + Drop> OperatedRuns<'a, F, P> {
     }
 
     /// What is told of a run that answered so, as a fault where its outputs break a rule. Faults are
-    /// counted.
+    /// counted, and what gives more than the quota holds.
     fn judged(
         &self,
         run: RunKey,
@@ -129,8 +152,10 @@ impl<'a, F: Folder + Drop, P: Programs + Drop> OperatedRuns<'a, F, P> {
             self.oversight.counts.add_fault(run, fault);
             return Err(fault);
         }
-        if let Err(fault) = &answer {
-            self.oversight.counts.add_fault(run, *fault);
+        match &answer {
+            Err(fault) => self.oversight.counts.add_fault(run, *fault),
+            Ok(Some(Outcome::Exited(exited))) => self.oversight.counts.add_exited(run, exited),
+            Ok(Some(Outcome::Failed) | None) => {}
         }
         answer
     }
@@ -152,7 +177,8 @@ impl<'a, F: Folder + Drop, P: Programs + Drop> OperatedRuns<'a, F, P> {
         match broken_rule(self.alloc, task, &exited.outputs) {
             Ok(None) => None,
             Ok(Some(rule)) => {
-                self.oversight.failure.set(Some(rule.error()));
+                self.oversight
+                    .note_broken(self.alloc, task, &exited.outputs, rule);
                 Some(RunFault::Folder)
             }
             Err(_) => Some(RunFault::NoMemory),
@@ -270,7 +296,7 @@ impl<'a, F: Folder + Drop, P: Programs + Drop> Runs for OperatedRuns<'a, F, P> {
             → AreOnce (all_keys self.new.runs.runner.runs.items self.new.runs.to_begin.items) }
     {
         let is_ended = self.oversight.ended.take(run);
-        self.oversight.failure.set(None);
+        self.oversight.begin();
         if is_ended && task.is_some() {
             self.oversight.counts.add_ended(run);
             self.runs.kill(run);
@@ -292,10 +318,19 @@ impl<'a, F: Folder + Drop, P: Programs + Drop> Runs for OperatedRuns<'a, F, P> {
         most: u32,
     ) -> io::Result<Vec<u8>> {
         let failure = self.oversight.failure.get();
-        match self.runs.reason(run, task, fault, most.min(MOST_SAID)) {
-            Ok(said) => reason_of(self.alloc, &said, failure, task, fault, most),
-            Err(_) => reason_of(self.alloc, &[], failure, task, fault, most),
-        }
+        let said = match self.runs.reason(run, task, fault, most.min(MOST_SAID)) {
+            Ok(said) => said,
+            Err(_) => Vec::new(self.alloc),
+        };
+        let Ok(output) = self.oversight.output.try_borrow() else {
+            return Ok(Vec::new(self.alloc));
+        };
+        let met = Met {
+            said: &said,
+            failure,
+            output: output.as_slice(),
+        };
+        reason_of(self.alloc, met, task, fault, most)
     }
 
     fn is_busy(&self) -> bool

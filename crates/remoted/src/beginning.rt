@@ -7,7 +7,8 @@ use host_programs::{has_leases, has_sessions, sees_ends};
 use host_sockets::LINGERING_LIMIT;
 use instance_words::Instances;
 use std::alloc::{AllocError, Global};
-use std::io::{self, Write};
+use std::fs;
+use std::io::{self, ErrorKind, Write};
 
 /// How many connections an instance has at most.
 const MOST_CONNECTIONS: u64 = 64;
@@ -115,6 +116,44 @@ pub fn can_open<E: Write>(instances: &Instances, errors: &mut E) -> io::Result<b
     Ok(most >= fewest)
 }
 
+/// Whether the folder is there in which the file of an option is looked for. Where it is not, that
+/// is told: the file would never be found.
+pub fn has_folder<E: Write>(
+    rt: &HostRuntime,
+    option: &str,
+    path: Option<&str>,
+    errors: &mut E,
+) -> io::Result<bool> {
+    let Some(path) = path else {
+        return Ok(true);
+    };
+    let folder = folder_of(path);
+    match fs::metadata(rt, folder) {
+        Ok(found) if found.is_dir() => return Ok(true),
+        Err(error) if is_memory(&error) => return Err(error),
+        Err(error) if error.kind() != ErrorKind::NotFound => {
+            writeln!(
+                errors,
+                "remoted: {option} is looked for in {folder}: {error}"
+            )?;
+        }
+        _ => writeln!(
+            errors,
+            "remoted: {option} is looked for in {folder}: there is no such folder"
+        )?,
+    }
+    Ok(false)
+}
+
+/// The folder in which a file is.
+pub fn folder_of(path: &str) -> &str {
+    match path.rsplit_once('/') {
+        None => ".",
+        Some(("", _)) => "/",
+        Some((folder, _)) => folder,
+    }
+}
+
 /// Whether programs can be run on this host; what it lacks for that is told.
 pub fn can_run<E: Write>(rt: &HostRuntime, errors: &mut E) -> io::Result<bool> {
     if !has_sessions(rt) {
@@ -164,7 +203,11 @@ pub fn guard_against_leases<E: Write>(
 }
 
 /// A place for the runs of this start; where there is none, that is told, and there is no answer.
-pub fn begin<E: Write>(rt: &HostRuntime, path: &str, errors: &mut E) -> io::Result<Option<Work>> {
+pub fn begin<'a, E: Write>(
+    rt: &'a HostRuntime,
+    path: &str,
+    errors: &mut E,
+) -> io::Result<Option<Work<'a>>> {
     let mut complaints = Vec::new(rt.alloc());
     let begun = begin_work(rt, path, &mut complaints);
     for complaint in complaints.iter() {

@@ -82,8 +82,12 @@ pub fn check_port<O: Write, E: Write>(
     let Some(host) = ip_of("--host", asked.host, errors)? else {
         return Ok(Exit::BadWords);
     };
-    if asked.instance.unwrap_or("").len() > NAME_LIMIT {
-        writeln!(errors, "remoted: --instance is longer than any name")?;
+    let name = asked.instance.unwrap_or("");
+    if name.len() > NAME_LIMIT {
+        writeln!(
+            errors,
+            "remoted: --instance is longer than any name: {name}"
+        )?;
         return Ok(Exit::BadWords);
     }
     let address = SocketAddr::new(host, asked.port);

@@ -32,6 +32,15 @@ const ABANDONED: &str = "abandoned";
 /// What is wrong with a line that says nothing.
 const NO_FORM: &str = "it is not NAME, NAME HASH or NAME abandoned";
 
+/// What is wrong with a hash of which too little is given.
+const FEW_DIGITS: &str = "HASH has fewer than 6 digits";
+
+/// What is wrong with one of other digits.
+const CAPITALS: &str = "HASH has capitals, and is written in lower case";
+
+/// What is wrong with a word behind the others.
+const MORE_WORDS: &str = "a word stands behind NAME and HASH";
+
 /// What is wrong with one of an instance that is not there.
 const NO_INSTANCE: &str = "no instance has this name";
 
@@ -53,38 +62,37 @@ struct Line<'a> {
     which: Which<'a>,
 }
 
-/// Which jobs a word names, behind the name of an instance; none where it has no form.
-fn which_by(word: &str) -> Option<Which<'_>> {
+/// Which jobs a word names, behind the name of an instance; or what is wrong with it.
+fn which_by(word: &str) -> Result<Which<'_>, &'static str> {
     if word == ABANDONED {
-        return Some(Which::Abandoned);
+        return Ok(Which::Abandoned);
     }
-    if is_hash(word) {
-        return Some(Which::OfAction(word));
+    if !word.bytes().all(|byte| byte.is_ascii_hexdigit()) {
+        Err(NO_FORM)
+    } else if word.bytes().any(|byte| byte.is_ascii_uppercase()) {
+        Err(CAPITALS)
+    } else if word.len() < FEWEST_DIGITS {
+        Err(FEW_DIGITS)
+    } else {
+        Ok(Which::OfAction(word))
     }
-    None
 }
 
-/// What a line of the file says; none where it has no form.
-fn read_line(line: &str) -> Option<Line<'_>> {
+/// What a line of the file says, which has a word; or what is wrong with it.
+fn read_line(line: &str) -> Result<Line<'_>, &'static str> {
     let mut words = line.split_ascii_whitespace();
-    let name = words.next()?;
+    let name = words.next().ok_or(NO_FORM)?;
     let Some(word) = words.next() else {
-        return Some(Line {
+        return Ok(Line {
             name,
             which: Which::All,
         });
     };
     if words.next().is_some() {
-        return None;
+        return Err(MORE_WORDS);
     }
     let which = which_by(word)?;
-    Some(Line { name, which })
-}
-
-/// Whether a word is the hash of an action, or its beginning.
-fn is_hash(word: &str) -> bool {
-    word.len() >= FEWEST_DIGITS
-        && word.bytes().all(|byte| byte.is_ascii_digit() || (b'a'..=b'f').contains(&byte))
+    Ok(Line { name, which })
 }
 
 /// The value of a lower-case hexadecimal digit.
@@ -295,8 +303,9 @@ impl<'a> EndFile<'a> {
         let Ok(line) = str::from_utf8(line) else {
             return Ok(Some(NO_FORM));
         };
-        let Some(read) = read_line(line) else {
-            return Ok(Some(NO_FORM));
+        let read = match read_line(line) {
+            Ok(read) => read,
+            Err(fault) => return Ok(Some(fault)),
         };
         let Some(number) = number_of(self.configs, read.name) else {
             return Ok(Some(NO_INSTANCE));

@@ -8,7 +8,7 @@ use crate::pieces::Turns;
 use crate::refusals::{CAUSES, REFUSALS};
 use call_counts::{CallCounts, MethodCounts};
 use instance_core::{Instance, InstanceSizes};
-use job_runs::{FAULT_WORDS, FailedRuns};
+use job_runs::{FAULT_WORDS, RunTally};
 use metrics_text::{Kind, Label, Metrics, Value};
 use rpc::Method;
 use serve::{InstanceCounts, Sight};
@@ -399,20 +399,25 @@ fn refusal_metrics(metrics: &mut Metrics<'_>, refused: [u64; CAUSES]) -> Result<
     Ok(())
 }
 
-/// What runs failed by. Each word has a sample.
-fn failure_metrics(metrics: &mut Metrics<'_>, failed: &FailedRuns) -> Result<(), AllocError> {
+/// What befell runs. Each word of a fault has a sample.
+fn run_metrics(metrics: &mut Metrics<'_>, runs: &RunTally) -> Result<(), AllocError> {
     metrics.family(
         Kind::Counter,
         "remoted_run_faults_total",
         "Runs that failed with a line, by its word.",
     )?;
-    for (word, count) in FAULT_WORDS.iter().zip(failed.faults.iter()) {
+    for (word, count) in FAULT_WORDS.iter().zip(runs.faults.iter()) {
         metrics.sample(&[label("word", *word)], Value::Whole(*count))?;
     }
     metrics.counter(
         "remoted_jobs_ended_by_operator_total",
         "Actions that an operator ended, and that were told so.",
-        failed.ended,
+        runs.ended,
+    )?;
+    metrics.counter(
+        "remoted_runs_over_quota_total",
+        "Runs that gave more bytes than the quota.",
+        runs.over_quota,
     )
 }
 
@@ -431,7 +436,7 @@ pub fn instance_metrics(
     let Some(counts) = sight.counts.instances().get(number as usize) else {
         return Ok(None);
     };
-    let Some(failed) = counters.oversight.counts.of(number) else {
+    let Some(runs) = counters.oversight.counts.of(number) else {
         return Ok(None);
     };
     let (instance, mut metrics) = (served.instance(), Metrics::new(alloc));
@@ -463,6 +468,6 @@ pub fn instance_metrics(
     both_ways(&mut metrics, calls)?;
     refusal_metrics(&mut metrics, turns.refused(number))?;
     ending_metrics(&mut metrics, counts)?;
-    failure_metrics(&mut metrics, &failed)?;
+    run_metrics(&mut metrics, &runs)?;
     Ok(Some(metrics))
 }

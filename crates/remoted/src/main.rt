@@ -1,6 +1,7 @@
 //! The program `remoted`.
 #![tactic(auto)]
 
+mod bad_lines;
 mod beginning;
 mod checking;
 mod clock;
@@ -8,25 +9,29 @@ mod ending;
 mod exit;
 mod figures;
 mod instance_figures;
+mod needs;
 mod notices;
 mod operator;
 mod options;
 mod pieces;
 mod process;
+mod reading;
 mod refusals;
 mod serve_ports;
 mod standard_error;
 mod telling;
 mod watching;
 
+use crate::bad_lines::{Script, fault_of_line};
 use crate::checking::check_port;
 use crate::exit::{DONE, Exit, FAILED};
-use crate::process::{open_streams, words_of};
+use crate::process::{open_streams, reads_terminal, words_of};
+use crate::reading::read_told;
 use crate::serve_ports::serve_ports;
 use crate::telling::tell_figures;
 use command_line::{CommandLineError, Invocation, parse};
 use probe::{Request, probe};
-use program_status::{Fault, Status, read_file};
+use program_status::{Fault, Status, read_all, told};
 use replay::replay;
 use server_events::Limits;
 use std::io::{self, BufWriter, ErrorKind, Write};
@@ -34,11 +39,51 @@ use std::net::{Ipv4Addr, SocketAddr, TcpStream};
 use std::process::ExitCode;
 use unary::unary;
 
-/// What the lines of a script say.
-#[derive(Clone, Copy)]
-enum Script {
-    Calls,
-    Events,
+/// How the tip begins that says how a word with a `-` before it could be taken as no option.
+const WORD_TIP: &str = "\n\n  tip: to pass '-";
+
+/// Carries out the script of a text by instances with these numbers, and says how the program ends.
+/// Of a bad line it is told what is wrong with it, on a line behind the one that names it.
+fn carry_out<O: Write, E: Write>(
+    rt: &HostRuntime,
+    script: Script,
+    limits: Limits,
+    text: &[u8],
+    output: &mut O,
+    errors: &mut E,
+) -> io::Result<Exit> {
+    let mut input = text;
+    let status = match script {
+        Script::Calls => unary(rt.alloc(), limits, &mut input, output, errors),
+        Script::Events => replay(rt.alloc(), limits, &mut input, output, errors),
+    };
+    if let Status::BadLine(number) = status {
+        if let Some(fault) = fault_of_line(script, text, number) {
+            writeln!(errors, "remoted: line {number}: {fault}")?;
+        }
+    }
+    Ok(Exit::With(status))
+}
+
+/// Carries out the script of calls on standard input, and says how the program ends. Whoever may be
+/// asked for it at a terminal is told.
+fn carry_out_input<O: Write, E: Write>(
+    rt: &HostRuntime,
+    limits: Limits,
+    output: &mut O,
+    errors: &mut E,
+) -> io::Result<Exit> {
+    if reads_terminal() {
+        writeln!(
+            errors,
+            "remoted: reads a script of calls from this terminal, up to Ctrl-D; other commands are \
+             in remoted --help"
+        )?;
+    }
+    match read_all(rt.alloc(), &mut rt.stdin()) {
+        Ok(text) => carry_out(rt, Script::Calls, limits, &text, output, errors),
+        Err(fault) => Ok(Exit::With(told(Err(fault.status()), errors))),
+    }
 }
 
 /// Carries out the script of a file by instances with these numbers, and says how the program ends.
@@ -50,15 +95,19 @@ fn carry_out_file<O: Write, E: Write>(
     output: &mut O,
     errors: &mut E,
 ) -> io::Result<Exit> {
-    let Some(text) = read_file(rt, file, errors)? else {
+    let Some(text) = read_told(rt, file, errors)? else {
         return Ok(FAILED);
     };
-    let mut input = text.as_slice();
-    let status = match script {
-        Script::Calls => unary(rt.alloc(), limits, &mut input, output, errors),
-        Script::Events => replay(rt.alloc(), limits, &mut input, output, errors),
-    };
-    Ok(Exit::With(status))
+    carry_out(rt, script, limits, &text, output, errors)
+}
+
+/// Connects to a port of this host. Where that fails it is told why.
+fn connected<E: Write>(rt: &HostRuntime, port: u16, errors: &mut E) -> io::Result<TcpStream> {
+    let connected = TcpStream::connect(rt, SocketAddr::from((Ipv4Addr::LOCALHOST, port)));
+    if let Err(error) = &connected {
+        writeln!(errors, "remoted: cannot connect to {port}: {error}")?;
+    }
+    connected
 }
 
 /// Sends a request to a port of this host, and shows what comes back.
@@ -69,7 +118,7 @@ fn probe_port<O: Write, E: Write>(
     output: &mut O,
     errors: &mut E,
 ) -> io::Result<Status> {
-    let stream = TcpStream::connect(rt, SocketAddr::from((Ipv4Addr::LOCALHOST, port)))?;
+    let stream = connected(rt, port, errors)?;
     stream.set_nonblocking(true)?;
     let (mut from_peer, mut to_peer) = (&stream, &stream);
     Ok(probe(
@@ -93,7 +142,7 @@ fn probe_with_file<O: Write, E: Write>(
     output: &mut O,
     errors: &mut E,
 ) -> io::Result<Exit> {
-    let Some(bytes) = read_file(rt, file, errors)? else {
+    let Some(bytes) = read_told(rt, file, errors)? else {
         return Ok(FAILED);
     };
     let request = Request {
@@ -117,10 +166,7 @@ fn perform<O: Write, E: Write>(
             file: Some(file),
             limits,
         } => carry_out_file(rt, Script::Calls, *limits, file, output, errors),
-        Invocation::Unary { file: None, limits } => {
-            let status = unary(rt.alloc(), *limits, &mut rt.stdin(), output, errors);
-            Ok(Exit::With(status))
-        }
+        Invocation::Unary { file: None, limits } => carry_out_input(rt, *limits, output, errors),
         Invocation::Replay { file, limits } => {
             carry_out_file(rt, Script::Events, *limits, file, output, errors)
         }
@@ -138,6 +184,37 @@ fn perform<O: Write, E: Write>(
     }
 }
 
+/// A text of the command line's faults in two parts, without its tip on a word that begins with `-`,
+/// if it has that: whoever wrote one meant an option, or a number.
+fn without_tip(text: &str) -> (&str, &str) {
+    let Some((head, behind)) = text.split_once(WORD_TIP) else {
+        return (text, "");
+    };
+    match behind.split_once('\n') {
+        Some((_, rest)) => (head, rest),
+        None => (text, ""),
+    }
+}
+
+/// Prints what is said of the words of a command line: a fault, or help, and says how the program
+/// ends.
+fn answer_words<E: Write>(
+    rt: &HostRuntime,
+    error: &command_line::Error,
+    errors: &mut E,
+) -> io::Result<Exit> {
+    if command_line::status(error) == 0 {
+        error.print(rt)?;
+        return Ok(DONE);
+    }
+    let text = format!(in rt.alloc(); "{error}")?;
+    match without_tip(text.as_str()) {
+        (text, "") => write!(errors, "{text}")?,
+        (head, rest) => write!(errors, "{head}\n{rest}")?,
+    }
+    Ok(Exit::BadWords)
+}
+
 /// Does what these words of a command line ask for, and says how the program ends.
 fn answer<O: Write, E: Write>(
     rt: &HostRuntime,
@@ -148,13 +225,7 @@ fn answer<O: Write, E: Write>(
     match parse(rt.alloc(), words) {
         Ok(invocation) => perform(rt, &invocation, output, errors),
         Err(CommandLineError::NoMemory) => Err(io::Error::from(ErrorKind::OutOfMemory)),
-        Err(CommandLineError::Answered(error)) => {
-            error.print(rt)?;
-            match command_line::status(&error) {
-                0 => Ok(DONE),
-                _ => Ok(Exit::BadWords),
-            }
-        }
+        Err(CommandLineError::Answered(error)) => answer_words(rt, &error, errors),
     }
 }
 

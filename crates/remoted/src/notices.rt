@@ -1,15 +1,17 @@
 //! Lines for what an operator has to know of an instance: how often it came since the last line.
 
 use crate::instance_figures::FAULTS;
+use crate::operator::Counters;
 use crate::pieces::Turns;
-use crate::refusals::{CAUSES, REFUSALS};
+use crate::refusals::{CAUSES, MOST_UPLOADS, QUOTA, REFUSALS};
 use crate::standard_error::StandardError;
 use crate::watching::Due;
 use host_folders::FolderCounts;
 use host_sockets::SocketCounts;
 use instance_core::InstanceSizes;
+use rpc::Method;
 use serve::{ErrorLines, InstanceCounts, Sight};
-use server_events::Configs;
+use server_events::{Configs, InstanceConfig};
 use std::alloc::{AllocError, Global};
 
 /// Blobs that were used later than so many milliseconds ago should not be dropped.
@@ -46,12 +48,44 @@ impl YoungDrops {
     }
 }
 
+/// For so many milliseconds uploads may stand still before that is told.
+const STILL: u64 = 60_000;
+
+/// Whether as many uploads as there may be are unfinished, and none goes on.
+#[derive(Clone, Copy)]
+struct StillUploads {
+    /// How many bytes of uploads had come when they went on last.
+    received: u64,
+    since: u64,
+    is_told: bool,
+}
+
+impl StillUploads {
+    /// Notes how many there are, and how many bytes of all have come. Whether they are to be told
+    /// now, once as long as they stand still.
+    fn take(&mut self, uploads: usize, received: u64, moment: u64) -> bool {
+        if (uploads as u64) < MOST_UPLOADS || received != self.received {
+            *self = StillUploads {
+                received,
+                since: moment,
+                is_told: false,
+            };
+            return false;
+        }
+        let is_due = !self.is_told && moment.saturating_sub(self.since) >= STILL;
+        self.is_told = self.is_told || is_due;
+        is_due
+    }
+}
+
 /// What was counted at an instance when it was looked last.
 #[derive(Clone, Copy)]
 struct Seen {
     counts: InstanceCounts,
     /// By cause.
     refused: [u64; CAUSES],
+    /// How many uploads of these were larger than the quota.
+    larger: u64,
     drops: YoungDrops,
     /// How often a run was kept from beginning by folders that are to be removed.
     held: u64,
@@ -59,6 +93,19 @@ struct Seen {
     is_held: bool,
     /// How many runs had left links in their output directories.
     links: u64,
+    last_with_links: LastWithLinks,
+    /// How many runs had given more bytes than the quota.
+    over_quota: u64,
+    still: StillUploads,
+}
+
+/// The last run that left links in its output directories.
+#[derive(Clone, Copy)]
+struct LastWithLinks {
+    /// How many there were when it was met.
+    links: u64,
+    /// The first three bytes of the hash of its action, where its job still ran then.
+    action: Option<u32>,
 }
 
 /// Lines about each instance, and about the ports of all.
@@ -67,6 +114,21 @@ pub struct Notices {
     seen: Vec<Seen>,
     /// How often the system had refused to give a client that waits.
     unaccepted: u64,
+    /// How many lines on failed runs had not been written.
+    lines_dropped: u64,
+}
+
+/// The first three bytes of the hash of the action of a job that runs.
+fn action_of(sight: &Sight<'_>, instance: u32, job: u64) -> Option<u32> {
+    let served = sight.server.instance(instance)?;
+    let running = served.instance().jobs().running_job(job)?;
+    match running.task.action.hash.as_bytes() {
+        [first, second, third, ..] => {
+            let (first, second) = (u32::from(*first), u32::from(*second));
+            Some((first << 16) | (second << 8) | u32::from(*third))
+        }
+        _ => None,
+    }
 }
 
 /// Writes what came, and how often since the last line, if it did.
@@ -152,6 +214,7 @@ impl Notices {
         let nothing = Seen {
             counts: InstanceCounts::new(),
             refused: [0; CAUSES],
+            larger: 0,
             drops: YoungDrops {
                 seen: 0,
                 untold: 0,
@@ -160,11 +223,36 @@ impl Notices {
             held: 0,
             is_held: false,
             links: 0,
+            last_with_links: LastWithLinks {
+                links: 0,
+                action: None,
+            },
+            over_quota: 0,
+            still: StillUploads {
+                received: 0,
+                since: 0,
+                is_told: false,
+            },
         };
         Ok(Notices {
             seen: vec![in alloc; nothing; instances]?,
             unaccepted: 0,
+            lines_dropped: 0,
         })
+    }
+
+    /// Notes which action left links last. It is called after each turn, as the job still runs
+    /// when they are met.
+    pub fn note_links(&mut self, sight: &Sight<'_>, folders: &FolderCounts) {
+        let mut number = 0;
+        for seen in self.seen.iter_mut() {
+            let links = folders.links(number);
+            if links > seen.last_with_links.links {
+                let action = action_of(sight, number, folders.last_with_links(number));
+                seen.last_with_links = LastWithLinks { links, action };
+            }
+            number = number.saturating_add(1);
+        }
     }
 
     /// Writes what came since it was looked last.
@@ -173,19 +261,49 @@ impl Notices {
         alloc: Global,
         configs: &Configs,
         (sight, turns): (&Sight<'_>, &Turns),
-        (folders, sockets): (&FolderCounts, &SocketCounts),
+        counters: &Counters<'_>,
         lines: &mut ErrorLines<StandardError>,
     ) {
-        self.tell_unaccepted(alloc, sockets, lines);
+        let folders = counters.folders;
+        self.tell_unaccepted(alloc, counters.sockets, lines);
+        self.tell_lines_dropped(alloc, turns.lines_dropped(), lines);
         let mut number = 0;
         for (seen, config) in self.seen.iter_mut().zip(configs.instances()) {
             let name = config.name.as_str();
             tell_instance(alloc, name, number, sight, lines, seen);
-            tell_refused(alloc, name, turns.refused(number), lines, seen);
+            let refused = turns.refused(number);
+            tell_refused(alloc, name, (seen.refused, refused), lines);
+            let all = (seen.refused[QUOTA], refused[QUOTA]);
+            let larger = turns.larger_than_quota(number);
+            tell_over_quota(alloc, config, all, (seen.larger, larger), lines);
+            seen.refused = refused;
+            seen.larger = larger;
             tell_folders(alloc, name, number, folders, lines, seen);
             tell_links(alloc, name, number, folders, lines, seen);
+            let over_quota = counters.over_quota(number);
+            tell_run_over_quota(alloc, config, (seen.over_quota, over_quota), lines);
+            seen.over_quota = over_quota;
             number = number.saturating_add(1);
         }
+    }
+
+    /// Tells of how many failed runs there was no line.
+    fn tell_lines_dropped(
+        &mut self,
+        alloc: Global,
+        dropped: u64,
+        lines: &mut ErrorLines<StandardError>,
+    ) {
+        if dropped > self.lines_dropped {
+            let count = dropped - self.lines_dropped;
+            let line: Result<String, AllocError> = format!(in alloc;
+                "remoted: failed runs without a line: {count}\n"
+            );
+            if let Ok(line) = line {
+                lines.write_line(line.as_str());
+            }
+        }
+        self.lines_dropped = dropped;
     }
 
     /// Tells that the system refuses to give clients that wait, and why.
@@ -226,22 +344,83 @@ fn tell_instance(
     tell_connections(alloc, lines, name, &seen.counts, counts);
     let sizes = served.instance().sizes();
     tell_dropped(alloc, lines, name, sight.moment, &sizes, &mut seen.drops);
+    let received = served
+        .instance()
+        .call_counts()
+        .of(Method::Write)
+        .bytes_received;
+    if seen.still.take(sizes.uploads, received, sight.moment) {
+        tell_still(alloc, lines, name);
+    }
     seen.counts = *counts;
 }
 
-/// Tells what was refused, a line for each cause.
+/// Tells that uploads stand still.
+fn tell_still(alloc: Global, lines: &mut ErrorLines<StandardError>, name: &str) {
+    let line: Result<String, AllocError> = format!(in alloc;
+        "remoted: {name}: 64 uploads are unfinished, and none went on for 60 s: look at the proxy \
+         and at its clients\n"
+    );
+    if let Ok(line) = line {
+        lines.write_line(line.as_str());
+    }
+}
+
+/// Tells what was refused, a line for each cause whose words are the same at each instance.
 fn tell_refused(
     alloc: Global,
     name: &str,
-    refused: [u64; CAUSES],
+    (was, is): ([u64; CAUSES], [u64; CAUSES]),
     lines: &mut ErrorLines<StandardError>,
-    seen: &mut Seen,
 ) {
-    let counts = seen.refused.iter().zip(refused.iter());
+    let counts = was.iter().zip(is.iter());
     for ((was, is), cause) in counts.zip(REFUSALS.iter()) {
-        tell_more(alloc, lines, name, cause.line, (*was, *is));
+        if !cause.line.is_empty() {
+            tell_more(alloc, lines, name, cause.line, (*was, *is));
+        }
     }
-    seen.refused = refused;
+}
+
+/// Tells how many uploads the quota refused: of all those that are known to be larger than it, and
+/// the others.
+fn tell_over_quota(
+    alloc: Global,
+    config: &InstanceConfig,
+    (all_seen, all): (u64, u64),
+    (larger_seen, larger): (u64, u64),
+    lines: &mut ErrorLines<StandardError>,
+) {
+    let (name, quota) = (config.name.as_str(), config.quota);
+    if let Ok(what) = format!(in alloc;
+        "uploads refused, larger than the quota of {quota} bytes, raise QUOTA"
+    ) {
+        tell_more(alloc, lines, name, what.as_str(), (larger_seen, larger));
+    }
+    let others = (
+        all_seen.saturating_sub(larger_seen),
+        all.saturating_sub(larger),
+    );
+    if let Ok(what) = format!(in alloc;
+        "uploads refused, alone or together larger than the quota of {quota} bytes, raise QUOTA or \
+         have fewer at once"
+    ) {
+        tell_more(alloc, lines, name, what.as_str(), others);
+    }
+}
+
+/// Tells how many runs gave more bytes than the quota.
+fn tell_run_over_quota(
+    alloc: Global,
+    config: &InstanceConfig,
+    counts: (u64, u64),
+    lines: &mut ErrorLines<StandardError>,
+) {
+    let (name, quota) = (config.name.as_str(), config.quota);
+    if let Ok(what) = format!(in alloc;
+        "runs that gave more than the quota of {quota} bytes, raise QUOTA"
+    ) {
+        tell_more(alloc, lines, name, what.as_str(), counts);
+    }
 }
 
 /// Tells when folders that are to be removed begin to keep runs from beginning.
@@ -278,9 +457,15 @@ fn tell_links(
     seen: &mut Seen,
 ) {
     let (links, last) = (folders.links(number), folders.last_with_links(number));
-    let what: Result<String, AllocError> = format!(in alloc;
-        "runs with links in their output directories, the last is {last}"
-    );
+    let what: Result<String, AllocError> = match seen.last_with_links.action {
+        Some(action) => format!(in alloc;
+            "runs with links in their output directories, which are not stored, the last is {last}, \
+             action {action:06x}.."
+        ),
+        None => format!(in alloc;
+            "runs with links in their output directories, which are not stored, the last is {last}"
+        ),
+    };
     if let Ok(what) = what {
         tell_more(alloc, lines, name, what.as_str(), (seen.links, links));
     }

@@ -63,6 +63,16 @@ pub struct Counters<'a> {
     pub turns: &'a TurnClock,
 }
 
+impl Counters<'_> {
+    /// How many runs of an instance gave more bytes than its quota.
+    pub fn over_quota(&self, instance: u32) -> u64 {
+        match self.oversight.counts.of(instance) {
+            Some(runs) => runs.over_quota,
+            None => 0,
+        }
+    }
+}
+
 /// What starts the programs of actions.
 fn programs_line(alloc: Global, launcher: Option<&str>) -> Result<String, AllocError> {
     match launcher {
@@ -212,7 +222,7 @@ impl<'a> Operator<'a> {
             self.rt.alloc(),
             self.configs,
             (sight, &self.turns),
-            (self.counters.folders, self.counters.sockets),
+            &self.counters,
             &mut self.lines,
         );
     }
@@ -223,6 +233,7 @@ impl Watch for Operator<'_> {
         self.turns
             .add(self.rt, sight, self.counters.turns, &self.times);
         self.times.pass(sight);
+        self.notices.note_links(sight, self.counters.folders);
         self.end_jobs(sight);
         self.tell_notices(sight);
         self.write_figures(sight);

@@ -133,6 +133,19 @@ impl Turns {
         }
     }
 
+    /// How many uploads the quota of an instance refused that are known to be larger than it.
+    pub fn larger_than_quota(&self, instance: u32) -> u64 {
+        match self.seen.get(instance as usize) {
+            Some(seen) => seen.refusals.larger,
+            None => 0,
+        }
+    }
+
+    /// How many lines on failed runs were not written.
+    pub fn lines_dropped(&self) -> u64 {
+        self.dropped
+    }
+
     /// A turn was at its end, which this clock saw begin, if it was not the first.
     pub fn add(
         &mut self,

@@ -25,6 +25,11 @@ pub fn open_streams() -> io::Result<()> {
     Ok(())
 }
 
+/// Whether standard input is a terminal.
+pub fn reads_terminal() -> bool {
+    libc::isatty(0) == 1
+}
+
 /// The words of the command line. Where one is not UTF-8, that is told, and there is no answer.
 pub fn words_of<E: Write>(rt: &HostRuntime, errors: &mut E) -> io::Result<Option<Vec<String>>> {
     match std::env::args(rt) {

@@ -9,7 +9,8 @@ use rpc::Method;
 /// How many causes are told apart.
 pub const CAUSES: usize = 5;
 
-/// A cause: the method of the calls, the text of their status, and how a line says it.
+/// A cause: the method of the calls, the text of their status, and how a line says it; nothing
+/// where that is not the same at each instance.
 #[derive(Clone, Copy)]
 pub struct Cause {
     pub method: &'static str,
@@ -19,7 +20,8 @@ pub struct Cause {
 
 const UPLOADS: usize = 0;
 
-const QUOTA: usize = 1;
+/// Of the quota, whose bytes its lines tell.
+pub const QUOTA: usize = 1;
 
 const MESSAGE: usize = 2;
 
@@ -32,12 +34,12 @@ pub const REFUSALS: [Cause; CAUSES] = [
     Cause {
         method: "Write",
         text: "too many uploads",
-        line: "uploads refused, 64 are unfinished",
+        line: "uploads refused, 64 are unfinished, bound them in Bazel or in the proxy",
     },
     Cause {
         method: "Write",
         text: "quota exceeded",
-        line: "uploads refused by the quota",
+        line: "",
     },
     Cause {
         method: "Write",
@@ -57,7 +59,7 @@ pub const REFUSALS: [Cause; CAUSES] = [
 ];
 
 /// The most uploads that are unfinished.
-const MOST_UPLOADS: u64 = 64;
+pub const MOST_UPLOADS: u64 = 64;
 
 /// As many actions wait where the queue was full when the turn began, or more: each slot takes one.
 const FEWEST_QUEUED: usize = 1000 - 64;
@@ -66,6 +68,8 @@ const FEWEST_QUEUED: usize = 1000 - 64;
 #[derive(Clone, Copy)]
 pub struct Refusals {
     pub causes: [u64; CAUSES],
+    /// How many of those that the quota refused are known to be larger than the whole of it.
+    pub larger: u64,
     refused_writes: u64,
     refused_actions: u64,
     ended_writes: u64,
@@ -106,6 +110,7 @@ impl Refusals {
     pub fn new() -> Refusals {
         Refusals {
             causes: [0; CAUSES],
+            larger: 0,
             refused_writes: 0,
             refused_actions: 0,
             ended_writes: 0,
@@ -128,7 +133,13 @@ impl Refusals {
         if refused > 0 {
             let ended = ended.saturating_sub(self.ended_writes);
             let received = writes.bytes_received.saturating_sub(self.written);
-            self.add(write_cause(&instance.sizes(), ended, received), refused);
+            let sizes = instance.sizes();
+            let place = write_cause(&sizes, ended, received);
+            self.add(place, refused);
+            // Where no other upload was there it is the blob, and not all of them together.
+            if place == QUOTA && refused == ended && sizes.uploads == 0 {
+                self.larger = self.larger.saturating_add(refused);
+            }
         }
         let unqueued = actions.ended[RESOURCE_EXHAUSTED].saturating_sub(self.refused_actions);
         if unqueued > 0 {

@@ -8,11 +8,13 @@ ghost use Rattle.host_sockets.specs.Ports.{ListensAt, addresses};
 ghost use Rattle.remoted.specs.Launching.{KnowsInstances};
 
 use crate::beginning::{
-    begin, can_open, can_run, can_write, guard_against_leases, keep_freed_memory, slots_of,
+    begin, can_open, can_run, can_write, guard_against_leases, has_folder, keep_freed_memory,
+    slots_of,
 };
 use crate::clock::milliseconds_between;
 use crate::ending::EndFile;
 use crate::exit::{DONE, Exit, FAILED};
+use crate::needs::tell_lacking;
 use crate::operator::{Counters, Operator};
 use crate::options::{Options, options_of};
 use crate::standard_error::StandardError;
@@ -23,7 +25,9 @@ use host_programs::{HostPrograms, HostSpawner, Launcher, launcher_path};
 use host_shells::Sessions;
 use host_sockets::{HostSockets, ListenError, SocketCounts};
 use host_wires::{ThisHost, TurnClock};
-use instance_words::{Instances, InstancesFault, instances_of, mistake_of};
+use instance_words::{
+    Instances, InstancesFault, Mistake, WordFault, instances_of, mistake_of, parent_mistake_of,
+};
 use job_runs::{JobRunner, OperatedRuns, Oversight};
 use keyed_maps::MapKey;
 use serve::{ErrorLines, Sockets, Tally, serve};
@@ -47,6 +51,22 @@ pub fn is_memory(error: &io::Error) -> bool {
     error.kind() == ErrorKind::OutOfMemory
 }
 
+/// Tells which part of a word is wrong, and of a parent why it is none.
+fn tell_mistake<E: Write>(
+    words: &[&str],
+    word: &str,
+    reason: WordFault,
+    mistake: Mistake<'_>,
+    errors: &mut E,
+) -> io::Result<()> {
+    match parent_mistake_of(words, word) {
+        Some(why) if reason == WordFault::Parent => {
+            writeln!(errors, "remoted: {mistake}: {why}")
+        }
+        _ => writeln!(errors, "remoted: {mistake}"),
+    }
+}
+
 /// Tells why the words are refused.
 fn tell_fault<E: Write>(words: &[&str], fault: InstancesFault, errors: &mut E) -> io::Result<Exit> {
     match fault {
@@ -54,7 +74,7 @@ fn tell_fault<E: Write>(words: &[&str], fault: InstancesFault, errors: &mut E) -
             let word = words.get(place).copied().unwrap_or("");
             writeln!(errors, "remoted: bad instance {word}: {reason}")?;
             if let Some(mistake) = mistake_of(word, reason) {
-                writeln!(errors, "remoted: {mistake}")?;
+                tell_mistake(words, word, reason, mistake, errors)?;
             }
         }
         InstancesFault::TooMany => {
@@ -139,7 +159,10 @@ fn launcher_of<E: Write>(
         return Ok(Some(None));
     };
     match launcher_path(rt, program) {
-        Ok(path) => Ok(Some(Some(Launcher::new(path, names_of(rt, &instances.configs)?)))),
+        Ok(path) => {
+            told(tell_lacking(rt, path.as_str(), errors))?;
+            Ok(Some(Some(Launcher::new(path, names_of(rt, &instances.configs)?))))
+        }
         Err(error) if is_memory(&error) => Err(error),
         Err(error) => {
             let why = why_no_launcher(error.kind());
@@ -172,12 +195,12 @@ fn names_of(rt: &HostRuntime, configs: &Configs) -> io::Result<Vec<String>>
 
 /// A place for the runs of these instances. None where none of them runs any; where it cannot be
 /// had, that is told, and there is no answer.
-fn place_of<E: Write>(
-    rt: &HostRuntime,
+fn place_of<'a, E: Write>(
+    rt: &'a HostRuntime,
     service: &Service<'_>,
     instances: &Instances,
     errors: &mut E,
-) -> io::Result<Option<Work>> {
+) -> io::Result<Option<Work<'a>>> {
     if slots_of(instances) == 0 {
         return Ok(Some(Work::nowhere(rt)));
     }
@@ -190,7 +213,7 @@ fn place_of<E: Write>(
 /// Runs in this place, of the jobs of these instances.
 fn job_runner<'a, E: Write>(
     rt: &'a HostRuntime,
-    work: Work,
+    work: Work<'a>,
     links: Links,
     shared: (&'a FolderCounts, &'a Oversight),
     launcher: Option<Launcher>,
@@ -366,6 +389,8 @@ fn serve_instances<'a, O: Write, E: Write>(
     if !can_write(rt, errors)?
         || !can_open(instances, errors)?
         || is_stopped(rt, service, errors)?
+        || !has_folder(rt, "--stop", service.stop, errors)?
+        || !has_folder(rt, "--end", service.end, errors)?
     {
         return Ok(FAILED);
     }
@@ -381,7 +406,7 @@ fn serve_instances<'a, O: Write, E: Write>(
     };
     let start = String::from_str(rt.alloc(), work.path())?;
     let folders = FolderCounts::new(rt.alloc(), instances.ports.len())?;
-    let oversight = Oversight::new(rt.alloc(), instances.ports.len())?;
+    let oversight = Oversight::new(rt.alloc(), &instances.configs)?;
     let shared = (&folders, &oversight);
     let mut runs = job_runner(rt, work, options.links, shared, launcher, instances, errors)?;
     told(announce(&instances.configs, &sockets, output))?;

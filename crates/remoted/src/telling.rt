@@ -1,9 +1,13 @@
 //! `remoted check --metrics`: the figures of a file, in words.
 
 use crate::exit::{DONE, Exit, FAILED};
-use program_status::read_file;
+use crate::reading::read_told;
 use std::io::{self, Write};
-use std::str;
+use std::time::SystemTime;
+use std::{fs, str};
+
+/// A server that runs has written its figures within so many seconds.
+const MOST_AGE: u64 = 60;
 
 /// What stands before an instance's name in a line of a figure.
 const INSTANCE: &str = ",instance=\"";
@@ -87,8 +91,59 @@ fn tell_all<O: Write>(text: &str, instance: Option<&str>, output: &mut O) -> io:
     Ok(any)
 }
 
-/// Tells the figures of a file in words, those of an instance where one is named, and says how the
-/// program ends.
+/// When a file was written, by the clock of this host.
+#[derive(Clone, Copy)]
+enum Age {
+    /// Nothing is known of that.
+    Unknown,
+    /// So many seconds ago.
+    Ago(u64),
+    /// So many seconds from now, as where the clock was set, or is another than that of the file.
+    Ahead(u64),
+}
+
+fn age_of(rt: &HostRuntime, path: &str) -> Age {
+    let Ok(found) = fs::metadata(rt, path) else {
+        return Age::Unknown;
+    };
+    let (Ok(written), Ok(now)) = (found.modified(), SystemTime::now(rt)) else {
+        return Age::Unknown;
+    };
+    match now.duration_since(written) {
+        Ok(passed) => Age::Ago(passed.as_secs()),
+        Err(ahead) => Age::Ahead(ahead.duration().as_secs()),
+    }
+}
+
+/// Tells how old the figures are that were told, and says how the program ends: they may be too old
+/// to be those of a server that runs.
+fn tell_age<O: Write, E: Write>(
+    age: Age,
+    path: &str,
+    output: &mut O,
+    errors: &mut E,
+) -> io::Result<Exit> {
+    match age {
+        Age::Ago(seconds) if seconds > MOST_AGE => {
+            writeln!(
+                errors,
+                "remoted: {path} was written {seconds} s ago: no server writes it now"
+            )?;
+            return Ok(Exit::NoAnswer);
+        }
+        Age::Ago(seconds) => writeln!(output, "Seconds since this was written: {seconds}")?,
+        Age::Ahead(seconds) => writeln!(
+            errors,
+            "remoted: {path} was written {seconds} s after this host's clock: how old it is cannot \
+             be told"
+        )?,
+        Age::Unknown => {}
+    }
+    Ok(DONE)
+}
+
+/// Tells the figures of a file in words, those of an instance where one is named, and how old they
+/// are, and says how the program ends.
 pub fn tell_figures<O: Write, E: Write>(
     rt: &HostRuntime,
     path: &str,
@@ -96,7 +151,9 @@ pub fn tell_figures<O: Write, E: Write>(
     output: &mut O,
     errors: &mut E,
 ) -> io::Result<Exit> {
-    let Some(bytes) = read_file(rt, path, errors)? else {
+    // A file that is replaced meanwhile is younger than this says.
+    let age = age_of(rt, path);
+    let Some(bytes) = read_told(rt, path, errors)? else {
         return Ok(FAILED);
     };
     let Ok(text) = str::from_utf8(&bytes) else {
@@ -104,7 +161,7 @@ pub fn tell_figures<O: Write, E: Write>(
         return Ok(Exit::NoAnswer);
     };
     if tell_all(text, instance, output)? {
-        return Ok(DONE);
+        return tell_age(age, path, output, errors);
     }
     match instance {
         Some(name) => writeln!(errors, "remoted: {path} has no figures of {name}")?,

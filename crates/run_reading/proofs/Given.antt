@@ -51,8 +51,8 @@ family_limited configs i config none chosen is =
 abbrev AreNarrow : List FamilyEvent → Type 0
 AreNarrow es = AllByRecursion IsNarrow (map event_in es)
 
-event_narrow : (i : ℕ) (parent : Option ℕ) (e : EventValue) → IsNarrow e → AreNarrow (family_event i parent e)
-event_narrow i parent e narrow = choose AreNarrow (e.instance == i) (own_event e ∷ []) (cond theirs (parent_event e ∷ []) []) (λ _. (narrow, tt)) (λ _. choose AreNarrow theirs (parent_event e ∷ []) [] (λ _. (narrow, tt)) (λ _. tt)) where
+event_narrow : (i : ℕ) (parent : Option ℕ) (e : EventValue) → IsNarrow e.lone → AreNarrow (family_event i parent e)
+event_narrow i parent e narrow = choose AreNarrow (e.instance == i) (own_event e.lone ∷ []) (cond theirs (parent_event e.lone ∷ []) []) (λ _. (narrow, tt)) (λ _. choose AreNarrow theirs (parent_event e.lone ∷ []) [] (λ _. (narrow, tt)) (λ _. tt)) where
   theirs : Bool
   theirs = option_map_or (λ p. e.instance == p) parent false
 
@@ -60,7 +60,7 @@ both_narrow : (these those : List FamilyEvent) → AreNarrow these → AreNarrow
 both_narrow [] those h g = g
 both_narrow (e ∷ these) those h g = (h.0, both_narrow these those h.1 g)
 
-pub events_narrow : (i : ℕ) (parent : Option ℕ) (es : List EventValue) → AllByRecursion IsNarrow es → AreNarrow (family_events i parent es)
+pub events_narrow : (i : ℕ) (parent : Option ℕ) (es : List EventValue) → AllByRecursion (λ (e : EventValue). IsNarrow e.lone) es → AreNarrow (family_events i parent es)
 events_narrow i parent [] h = tt
 events_narrow i parent (e ∷ es) h = both_narrow (family_event i parent e) (family_events i parent es) (event_narrow i parent e h.0) (events_narrow i parent es h.1)
 
@@ -79,7 +79,7 @@ gives_well family events limits narrow = record {
   within = run_within family events limits narrow;
 }
 
-pub all_give_well : (configs : List ConfigValue) (events : List EventValue) (i : ℕ) (config : ConfigValue) → config_fault configs ≡ None → All (λ (c : ConfigValue). IsLimits c.limits) configs → AllByRecursion IsNarrow events → slice_get configs i ≡ Some config
+pub all_give_well : (configs : List ConfigValue) (events : List EventValue) (i : ℕ) (config : ConfigValue) → config_fault configs ≡ None → All (λ (c : ConfigValue). IsLimits c.limits) configs → AllByRecursion (λ (e : EventValue). IsNarrow e.lone) events → slice_get configs i ≡ Some config
     → GivesWell (family_in configs config) (family_events i (parent_of configs config) events)
 all_give_well configs events i config none chosen narrow is =
     gives_well (family_in configs config) (family_events i (parent_of configs config) events) (family_limited configs i config none chosen is) (events_narrow i (parent_of configs config) events narrow)

@@ -30,7 +30,7 @@ use Rattle.served_instance.proofs.LimitsKept.{AreNamed}
 use Rattle.instance_core.specs.Calls.{CallEventValue, IsShortEvent, tick as time_passes, start_jobs, end_late_jobs, end_job}
 use Rattle.instance_core.specs.Replies.{ReplyValue}
 use Rattle.instance_core.specs.Answer.{answer, state_after}
-use Rattle.server_events.specs.Events.{EventValue, WhatValue, opened, received, took, closed, tick, ended}
+use Rattle.server_events.specs.Events.{LoneEvent, WhatValue, opened, received, took, closed, tick, ended}
 use Rattle.served_instance.specs.declared.refusal.EventRefusal.{EventRefusal}
 use Rattle.served_instance.specs.Narrow.{IsNarrowWhat, IsNarrow}
 use Rattle.served_instance.specs.Connections.{LoneConnection, is_open_at, open_at, at_open, with_closed, at_all_open}
@@ -418,13 +418,13 @@ rest_moves : {N : Type 0} (l : LoneInstance) → Moves N l (EventOver ∷ []) (l
 rest_moves l = unanswered l (lone_at_rest l) EventOver refl refl tt refl refl
 
 -- an event that comes while the parent has these texts
-abbrev pub Comes : List Blob → EventValue → Type 0
+abbrev pub Comes : List Blob → LoneEvent → Type 0
 Comes parent e = AreNamed parent × IsNarrow e
 
 where_so : {M N : Type 0} (l m : LoneInstance) (hs : List Happening) → (M → N) → Moves N l hs m → Moves M l hs m
 where_so l m hs so h = record { state = h.state; holds = h.holds; short = λ n. h.short (so n) }
 
-accepted_moves : (parent : List Blob) (e : EventValue) (l : LoneInstance)
+accepted_moves : (parent : List Blob) (e : LoneEvent) (l : LoneInstance)
     → Moves (Comes parent e) l (MomentCame parent e.moment ∷ (happenings_by e.what (lone_at_moment e.moment parent l) ++ EventOver ∷ [])) (after_event parent e l)
 accepted_moves parent e l =
     let at : LoneInstance = lone_at_moment e.moment parent l in
@@ -435,11 +435,11 @@ accepted_moves parent e l =
     let ended : Moves (Comes parent e) after (EventOver ∷ []) (after_event parent e l) = then_moves after rest (after_event parent e l) (EventOver ∷ []) [] (rest_moves after) (pumped_moves rest) in
     then_moves l at (after_event parent e l) (MomentCame parent e.moment ∷ []) (hs ++ EventOver ∷ []) (came_moves_at parent e.moment l (λ n. n.0)) (then_moves at after (after_event parent e l) hs (EventOver ∷ []) moved ended)
 
-unless_moves : (parent : List Blob) (e : EventValue) (l : LoneInstance) (o : Option EventRefusal) → Moves (Comes parent e) l (happenings_unless parent e l o) (after_event_unless parent e l o)
+unless_moves : (parent : List Blob) (e : LoneEvent) (l : LoneInstance) (o : Option EventRefusal) → Moves (Comes parent e) l (happenings_unless parent e l o) (after_event_unless parent e l o)
 unless_moves parent e l None = accepted_moves parent e l
 unless_moves parent e l (Some refusal) = quietly l l refl (λ gs h. h)
 
-pub step_moves : (parent : List Blob) (e : EventValue) (l : LoneInstance) → Moves (Comes parent e) l (step_happenings parent e l) (lone_step parent e l)
+pub step_moves : (parent : List Blob) (e : LoneEvent) (l : LoneInstance) → Moves (Comes parent e) l (step_happenings parent e l) (lone_step parent e l)
 step_moves parent e l = unless_moves parent e l (refusal_of e l)
 
 -- ---- a run of an instance and its parent

@@ -27,7 +27,7 @@ use Rattle.instance_core.specs.Method.TheVariants.{Read}
 use Rattle.instance_core.specs.State.{InstanceState, at_moment}
 use Rattle.instance_core.specs.Visible.{Blob}
 use Rattle.instance_core.specs.Replies.{begins, gives, ends, range, items_of}
-use Rattle.server_events.specs.Events.{EventValue, WhatValue, opened as opens, received, took, closed as closes, tick, ended}
+use Rattle.server_events.specs.Events.{LoneEvent, WhatValue, opened as opens, received, took, closed as closes, tick, ended}
 use Rattle.served_instance.specs.declared.refusal.EventRefusal.{EventRefusal}
 use Rattle.served_instance.specs.Connections.{LoneConnection, is_open_at, open_at, at_open, with_closed}
 use Rattle.served_instance.specs.Calls.{call_event_on, item_of, owed_items}
@@ -385,7 +385,7 @@ happenings_name : (hs : List Happening) (s : InstanceState) → (fold state_afte
 happenings_name [] s = refl
 happenings_name (h ∷ hs) s = happenings_name hs (state_after_happening s h) ∙ happening_name h s
 
-accepted_tracks : (name : List ℕ) (c s : ℕ) (parent : List Blob) (e : EventValue) (l : LoneInstance) → AreNamed parent → Keeps name c s l → Tracks name c s (after_event parent e l)
+accepted_tracks : (name : List ℕ) (c s : ℕ) (parent : List Blob) (e : LoneEvent) (l : LoneInstance) → AreNamed parent → Keeps name c s l → Tracks name c s (after_event parent e l)
 accepted_tracks name c s parent e l named h =
     let at : LoneInstance = lone_at_moment e.moment parent l in
     let fine : IsFine name at = record {
@@ -396,7 +396,7 @@ accepted_tracks name c s parent e l named h =
     let acted : Tracks name c s (effect_of e.what at) = acted_tracks name c s e.what at (record { sound = sound; tracks = h.tracks }) in
     pump_tracks name c s (lone_at_rest (effect_of e.what at)) acted
 
-unless_tracks : (name : List ℕ) (c s : ℕ) (parent : List Blob) (e : EventValue) (l : LoneInstance) (o : Option EventRefusal) → AreNamed parent → Keeps name c s l → Tracks name c s (after_event_unless parent e l o)
+unless_tracks : (name : List ℕ) (c s : ℕ) (parent : List Blob) (e : LoneEvent) (l : LoneInstance) (o : Option EventRefusal) → AreNamed parent → Keeps name c s l → Tracks name c s (after_event_unless parent e l o)
 unless_tracks name c s parent e l None named h = accepted_tracks name c s parent e l named h
 unless_tracks name c s parent e l (Some refusal) named h = h.tracks
 

@@ -3,7 +3,7 @@ use Rattle.std.proofs.Common.{◌≡◌, ℕ, ◌+◌, ◌<◌, ◌^◌, List, [
 use Rattle.std.specs.Prelude.{suc, fold, map, Option, Some, None}
 use Rattle.std.specs.List.{AllByRecursion}
 use Rattle.instance_core.specs.Visible.{Blob}
-use Rattle.server_events.specs.Events.{EventValue, WhatValue, opened, received, took, closed, tick, ended}
+use Rattle.server_events.specs.Events.{LoneEvent, WhatValue, opened, received, took, closed, tick, ended}
 use Rattle.execution.specs.Orders.{OrderValue}
 use Rattle.instance_core.specs.Calls.{tick as time_passes, start_jobs, end_late_jobs, end_job}
 use Rattle.instance_core.specs.Jobs.{IsWholeOrder}
@@ -89,7 +89,7 @@ what_whole (closed c) l h = tt
 what_whole tick l h = orders_whole (after_call_event time_passes l).state end_late_jobs (happened_keeps time_passes l tt h).within
 what_whole (ended job outcome) l h = orders_whole l.state (end_job job outcome) h.within
 
-unless_whole : (parent : List Blob) (e : EventValue) (l : LoneInstance) (o : Option EventRefusal) → AreNamed parent → KeepsLimits l → AllByRecursion IsWholeOrder (orders_unless parent e l o)
+unless_whole : (parent : List Blob) (e : LoneEvent) (l : LoneInstance) (o : Option EventRefusal) → AreNamed parent → KeepsLimits l → AllByRecursion IsWholeOrder (orders_unless parent e l o)
 unless_whole parent e l None named h =
     what_whole e.what (lone_at_moment e.moment parent l) (record { within = seeing_within parent (at_moment e.moment l.state) named (moment_within e.moment l.state h.within); short = h.short })
 unless_whole parent e l (Some refusal) named h = tt

@@ -29,7 +29,7 @@ use Rattle.conn_core.specs.Past.{Past, new_past, greeting, with_frame, with_faul
 use Rattle.instance_core.specs.Calls.{CallEventValue, tick as time_passes, start_jobs, end_late_jobs, end_job}
 use Rattle.instance_core.specs.Replies.{ReplyValue}
 use Rattle.instance_core.specs.Answer.{answer, state_after}
-use Rattle.server_events.specs.Events.{EventValue, WhatValue, opened, received, took, closed, tick, ended}
+use Rattle.server_events.specs.Events.{LoneEvent, WhatValue, opened, received, took, closed, tick, ended}
 use Rattle.served_instance.specs.declared.refusal.EventRefusal.{EventRefusal}
 use Rattle.served_instance.specs.declared.refusal.EventRefusal.TheVariants.{TimeWentBack, NoSuchConnection, TookTooMuch}
 use Rattle.served_instance.specs.Connections.{LoneConnection, is_open, is_open_at, open_ones, open_at, at_open, with_closed, at_all_open}
@@ -194,7 +194,7 @@ none_of_what : (b : Bool) (o : Option EventRefusal) → cond b (Some TimeWentBac
 none_of_what true o is = cc
 none_of_what false o is = is
 
-what_accepted : (parent : List Blob) (e : EventValue) (l : LoneInstance) → refusal_of e l ≡ None → refusal_of_what e.what (lone_at_moment e.moment parent l) ≡ None
+what_accepted : (parent : List Blob) (e : LoneEvent) (l : LoneInstance) → refusal_of e l ≡ None → refusal_of_what e.what (lone_at_moment e.moment parent l) ≡ None
 what_accepted parent e l is = same e.what (none_of_what (nat_lt e.moment l.state.moment) (refusal_of_what e.what l) is) where
   same : (w : WhatValue) → refusal_of_what w l ≡ None → refusal_of_what w (lone_at_moment e.moment parent l) ≡ None
   same (opened c) is = is
@@ -205,10 +205,10 @@ what_accepted parent e l is = same e.what (none_of_what (nat_lt e.moment l.state
   same (ended job outcome) is = is
 
 -- what was done at an accepted event, before its pump
-before_pump : (parent : List Blob) (e : EventValue) (l : LoneInstance) → refusal_of e l ≡ None → HaveRest l.connections → HaveRest (effect_of e.what (lone_at_moment e.moment parent l)).connections
+before_pump : (parent : List Blob) (e : LoneEvent) (l : LoneInstance) → refusal_of e l ≡ None → HaveRest l.connections → HaveRest (effect_of e.what (lone_at_moment e.moment parent l)).connections
 before_pump parent e l is h = acted_rest e.what (lone_at_moment e.moment parent l) (what_accepted parent e l is) h
 
-stepped_rest : (parent : List Blob) (e : EventValue) (l : LoneInstance) (o : Option EventRefusal) → refusal_of e l ≡ o → HaveRest l.connections → HaveRest (after_event_unless parent e l o).connections
+stepped_rest : (parent : List Blob) (e : LoneEvent) (l : LoneInstance) (o : Option EventRefusal) → refusal_of e l ≡ o → HaveRest l.connections → HaveRest (after_event_unless parent e l o).connections
 stepped_rest parent e l (Some refusal) is h = h
 stepped_rest parent e l None is h = all_open_rest with_pumped (effect_of e.what (lone_at_moment e.moment parent l)).connections (λ p k. pumped p.history p.owed k) (before_pump parent e l is h)
 
@@ -223,14 +223,14 @@ settled_each : (ks : List LoneConnection) → HaveRest ks → AllByRecursion IsS
 settled_each [] h = tt
 settled_each (k ∷ ks) h = (the_pump_settles k.past.history k.past.owed h.0, settled_each ks h.1)
 
-stepped_settled : (parent : List Blob) (e : EventValue) (l : LoneInstance) (o : Option EventRefusal) → refusal_of e l ≡ o → o ≡ None → HaveRest l.connections → AreSettled (after_event_unless parent e l o)
+stepped_settled : (parent : List Blob) (e : LoneEvent) (l : LoneInstance) (o : Option EventRefusal) → refusal_of e l ≡ o → o ≡ None → HaveRest l.connections → AreSettled (after_event_unless parent e l o)
 stepped_settled parent e l (Some refusal) is none h = cc
 stepped_settled parent e l None is none h =
     let ks = (effect_of e.what (lone_at_moment e.moment parent l)).connections in
     let P : List LoneConnection → Type 0 = λ xs. AllByRecursion IsSettledConnection xs in
     subst P (sym (at_all_open_is with_pumped ks)) (settled_each (open_ones ks) (all_filter (λ (k : LoneConnection). HasRest k.past) is_open ks (before_pump parent e l is h)))
 
-pub family_settled : (family : Family) (events : List FamilyEvent) (e : EventValue) → refusal_of e (run_of_family family events).own.lone ≡ None → AreSettled (run_of_family family (events ++ own_event e ∷ [])).own.lone
+pub family_settled : (family : Family) (events : List FamilyEvent) (e : LoneEvent) → refusal_of e (run_of_family family events).own.lone ≡ None → AreSettled (run_of_family family (events ++ own_event e ∷ [])).own.lone
 family_settled family events e is =
     let f : FamilyRun = run_of_family family events in
     let more : run_of_family family (events ++ own_event e ∷ []) ≡ family_step f (own_event e) = fold-append family_step (new_family_run family) events (own_event e ∷ []) in

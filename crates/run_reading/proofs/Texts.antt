@@ -27,7 +27,7 @@ use Rattle.conn_core.proofs.Events.{raw_out, raw_took}
 use Rattle.instance_core.specs.Calls.{CallEventValue, tick as time_passes, start_jobs, end_late_jobs, end_job}
 use Rattle.instance_core.specs.Replies.{ReplyValue}
 use Rattle.instance_core.specs.Answer.{answer, state_after}
-use Rattle.server_events.specs.Events.{EventValue, WhatValue, opened, received, took, closed, tick, ended}
+use Rattle.server_events.specs.Events.{LoneEvent, WhatValue, opened, received, took, closed, tick, ended}
 use Rattle.served_instance.specs.declared.refusal.EventRefusal.{EventRefusal}
 use Rattle.served_instance.specs.Connections.{LoneConnection, is_open_at, open_at, at_open, with_closed, at_all_open}
 use Rattle.served_instance.specs.Calls.{call_event_on, owed_items, with_items}
@@ -235,7 +235,7 @@ pumped_reads : (ks : List LoneConnection) → AllRead ks → AllRead (at_all_ope
 pumped_reads [] h = tt
 pumped_reads (k ∷ ks) h = (choose (λ (j : LoneConnection). ReadsText j.past) k.is_open (record k { past = with_pumped k.past }) k (λ _. same_frames k.past.history (with_pumped k.past).history k.past.text (pumped_raw k.past.history k.past.owed) h.0) (λ _. h.0), pumped_reads ks h.1)
 
-step_reads : (parent : List Blob) (e : EventValue) (l : LoneInstance) (o : Option EventRefusal) → AllRead l.connections → AllRead (after_event_unless parent e l o).connections
+step_reads : (parent : List Blob) (e : LoneEvent) (l : LoneInstance) (o : Option EventRefusal) → AllRead l.connections → AllRead (after_event_unless parent e l o).connections
 step_reads parent e l None h = pumped_reads (effect_of e.what (lone_at_moment e.moment parent l)).connections (acted_reads e.what (lone_at_moment e.moment parent l) h)
 step_reads parent e l (Some refusal) h = h
 

@@ -5,7 +5,7 @@ use Rattle.execution.specs.Orders.{OrderValue}
 use Rattle.instance_core.specs.Jobs.{IsWholeOrder}
 use Rattle.instance_core.specs.NamedReplies.{ServesNamed}
 use Rattle.instance_core.specs.State.{IsInstanceWithin}
-use Rattle.server_events.specs.Events.{EventValue}
+use Rattle.server_events.specs.Events.{LoneEvent}
 use Rattle.served_instance.specs.Lone.{sent_bytes_on}
 use Rattle.served_instance.specs.Refusals.{refusal_of}
 use Rattle.served_instance.specs.StandsFor.{AreSettled}
@@ -19,7 +19,7 @@ use Rattle.run_reading.specs.ReadsBlob.{ReadsBlobsAskedFor}
 -- behind each of its events that was accepted the instance's open connections are settled
 abbrev pub IsSettledThroughout : Family → List FamilyEvent → Type 0
 IsSettledThroughout family events =
-    (before after : List FamilyEvent) (e : EventValue) → events ≡ before ++ own_event e ∷ after
+    (before after : List FamilyEvent) (e : LoneEvent) → events ≡ before ++ own_event e ∷ after
     → refusal_of e (run_of_family family before).own.lone ≡ None
     → AreSettled (run_of_family family (before ++ own_event e ∷ [])).own.lone
 

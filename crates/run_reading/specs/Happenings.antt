@@ -18,7 +18,7 @@ use Rattle.conn_core.specs.Received.{outcome}
 use Rattle.conn_core.specs.Past.{Past, with_frame, with_fault, with_bytes}
 use Rattle.instance_core.specs.declared.event.CallId.{CallId}
 use Rattle.instance_core.specs.Calls.{CallEventValue, start_jobs, end_late_jobs, end_job}
-use Rattle.server_events.specs.Events.{EventValue, WhatValue, opened, received, took, closed, tick, ended}
+use Rattle.server_events.specs.Events.{LoneEvent, WhatValue, opened, received, took, closed, tick, ended}
 use Rattle.served_instance.specs.declared.refusal.EventRefusal.{EventRefusal}
 use Rattle.served_instance.specs.Connections.{LoneConnection, is_open_at, open_at, at_open}
 use Rattle.served_instance.specs.Calls.{call_event_on}
@@ -136,14 +136,14 @@ happenings_by tick l = TimePassed ∷ turn_happenings end_late_jobs l
 happenings_by (ended job outcome) l = turn_happenings (end_job job outcome) l
 
 -- a refused event changes nothing
-abbrev pub happenings_unless : List Blob → EventValue → LoneInstance → Option EventRefusal →
+abbrev pub happenings_unless : List Blob → LoneEvent → LoneInstance → Option EventRefusal →
     List Happening
 happenings_unless parent e l None =
     MomentCame parent e.moment
     ∷ (happenings_by e.what (lone_at_moment e.moment parent l) ++ EventOver ∷ [])
 happenings_unless parent e l (Some refusal) = []
 
-abbrev pub step_happenings : List Blob → EventValue → LoneInstance → List Happening
+abbrev pub step_happenings : List Blob → LoneEvent → LoneInstance → List Happening
 step_happenings parent e l = happenings_unless parent e l (refusal_of e l)
 
 -- what happens to the parent is nothing that happens to the instance

@@ -6,7 +6,7 @@ ghost use Rattle.instance_core.specs.Jobs.{IsWholeOrder};
 ghost use Rattle.served_instance.specs.Lone.{sent_bytes_on};
 ghost use Rattle.served_instance.specs.Narrow.{IsNarrow};
 ghost use Rattle.server_events.specs.Configs.{ConfigValue, parent_of};
-ghost use Rattle.server_events.specs.Events.{EventValue};
+ghost use Rattle.server_events.specs.Events.{EventValue, LoneEvent};
 ghost use Rattle.server_events.specs.Shown.{event_value};
 ghost use Rattle.served_instance.specs.Refusals.{refusal_of};
 ghost use Rattle.served_instance.specs.StandsFor.{AreSettled};
@@ -36,7 +36,7 @@ pub fn what_a_run_gives(configs: &Configs, events: &[Event])
 
 /// The status with which an event says that a run ended is one of 32 bits, as its type says.
 pub fn statuses_are_narrow(events: &[Event])
-    ensures { AllByRecursion IsNarrow (map event_value events.now) }
+    ensures { AllByRecursion (λ (e : EventValue). IsNarrow e.lone) (map event_value events.now) }
 {
     let mut left = events;
     while let [event, rest @ ..] = left {
@@ -46,7 +46,7 @@ pub fn statuses_are_narrow(events: &[Event])
 }
 
 fn status_is_narrow(event: &Event)
-    ensures { IsNarrow (event_value event.now) }
+    ensures { IsNarrow (event_value event.now).lone }
 {
     if let What::Outcome(_, Outcome::Exited(exited)) = &event.what {
         let _code = exited.code;
@@ -70,7 +70,7 @@ pub fn replies_are_read()
 /// connection was met, or as much is untaken as the pump puts, or each live stream waits for a
 /// window or has nothing to put.
 pub fn runs_are_settled()
-    ensures { (family : Family) (events : List FamilyEvent) (e : EventValue)
+    ensures { (family : Family) (events : List FamilyEvent) (e : LoneEvent)
         → refusal_of e (run_of_family family events).own.lone ≡ None
         → AreSettled (run_of_family family (events ++ own_event e ∷ [])).own.lone }
 {}

@@ -101,7 +101,8 @@ what_of kind arguments =
 -- ---- when, and to which instance
 
 abbrev pub event_at : ℕ → ℕ → WhatValue → EventValue
-event_at moment instance what = record { moment = moment; instance = instance; what = what }
+event_at moment instance what =
+    record { instance = instance; lone = record { moment = moment; what = what } }
 
 -- M I and what happens
 abbrev pub event_of : List ℕ → List (List ℕ) → Option EventValue

@@ -9,7 +9,7 @@ use Rattle.std.proofs.lemmas.List.Sums.{fold_push}
 use Rattle.std.proofs.lemmas.Option.{none-some, same_Some, slice_get_cases, slice_get-get_or}
 use Rattle.instance_core.specs.Visible.{Blob}
 use Rattle.server_events.specs.Configs.{ConfigValue}
-use Rattle.server_events.specs.Events.{EventValue, opened, closed}
+use Rattle.server_events.specs.Events.{opened, closed}
 use Rattle.served_instance.specs.Bytes.{pending_bytes}
 use Rattle.served_instance.specs.Past.{Past}
 use Rattle.served_instance.specs.History.{has_failed}
@@ -158,10 +158,10 @@ no_such : (b : Bool) (o : Option Past) → o ≡ None → (x : EventRefusal) × 
 no_such true o is = (TimeWentBack, refl)
 no_such false o is = (NoSuchConnection, ap (λ (q : Option Past). option_map_or (λ (p : Past). None) q (Some NoSuchConnection)) is)
 
-pub told_in_vain : {A : Type 0} (result : Result A EventRefusal) (m i c : ℕ) (server next : ServerState) (l : LoneInstance) → open_at c l.connections ≡ None → IsRefusalOutcome result (refusal_of (event_told m i (closed c)) l) → IfErr result (λ r. r ≢ NoMemory → next ≡ server) → next ≡ server
-told_in_vain result m i c server next l none out refused =
+pub told_in_vain : {A : Type 0} (result : Result A EventRefusal) (m c : ℕ) (server next : ServerState) (l : LoneInstance) → open_at c l.connections ≡ None → IsRefusalOutcome result (refusal_of (record { moment = m; what = closed c }) l) → IfErr result (λ r. r ≢ NoMemory → next ≡ server) → next ≡ server
+told_in_vain result m c server next l none out refused =
     let why = no_such (nat_lt m l.state.moment) (open_at c l.connections) none in
-    unchanged result (refusal_of (event_told m i (closed c)) l) why.0 server next why.1 out refused
+    unchanged result (refusal_of (record { moment = m; what = closed c }) l) why.0 server next why.1 out refused
 
 -- a new one for which there is no room
 too_many : (a b c : Bool) → cond a (Some TimeWentBack) (cond b (Some ConnectionExists) (cond c (Some TooManyConnections) None)) ≡ Some TooManyConnections → c ≡ true
@@ -170,8 +170,8 @@ too_many false true c is = cc
 too_many false false true is = refl
 too_many false false false is = cc
 
-full_by : (m i c : ℕ) (l : LoneInstance) → refusal_of (event_told m i (opened c)) l ≡ Some TooManyConnections → IsFull l
-full_by m i c l is =
+full_by : (m c : ℕ) (l : LoneInstance) → refusal_of (record { moment = m; what = opened c }) l ≡ Some TooManyConnections → IsFull l
+full_by m c l is =
     let n : ℕ = length (open_ones l.connections) in
     leb-true CONNECTION_LIMIT n (too_many (nat_lt m l.state.moment) (is_some (open_at c l.connections)) (nat_le CONNECTION_LIMIT n) is)
 
@@ -184,9 +184,9 @@ pub record WasRefused (configs : List ConfigValue) (old new : Option (List Socke
   pub pends : Pends a.instance a.connection server.server.instances None
   pub adds : Adds old new (port a.instance (accepted a.connection) ∷ [])
   pub takes : TakesEvent (event_told m a.instance (opened a.connection)) server next was is
-  pub outcome : (l : LoneInstance) → StandsAt a.instance server.server.instances l → IsRefusalOutcome (refused_with A r) (refusal_of (event_told m a.instance (opened a.connection)) l)
+  pub outcome : (l : LoneInstance) → StandsAt a.instance server.server.instances l → IsRefusalOutcome (refused_with A r) (refusal_of (record { moment = m; what = opened a.connection }) l)
   pub refused : r ≢ NoMemory → next.server ≡ server.server
-  pub short : refused_with A r ≡ Err NoMemory → (l : LoneInstance) → StandsAt a.instance server.server.instances l → StandsShortAt parent (event_told m a.instance (opened a.connection)) l next.server.instances
+  pub short : refused_with A r ≡ Err NoMemory → (l : LoneInstance) → StandsAt a.instance server.server.instances l → StandsShortAt a.instance parent (record { moment = m; what = opened a.connection }) l next.server.instances
 
 lost_runs : (a : Socket) (server : ServerState) (known : Option (List SocketEvent)) (runs : Option (List RunEvent)) → runs ≡ None → MayClose a server known runs
 lost_runs a server None runs lost = tt
@@ -300,7 +300,7 @@ module _ (configs : List ConfigValue) (old new last : Option (List SocketEvent))
       let still : then.server ≡ next.server =
       in_vain l0 (subst (λ (v : ServerState). StandsAt i v.instances l0) (sym same) stood) (none_by (open_at c l0.connections) (w.pends l0 stood)) in
       let full : (l : LoneInstance) → StandsAt i then.server.instances l → IsFull l = λ l stands.
-      full_by m i c l (subst (λ (x : EventRefusal). IsRefusalOutcome (refused_with A x) (refusal_of (event_told m i (opened c)) l)) many
+      full_by m c l (subst (λ (x : EventRefusal). IsRefusalOutcome (refused_with A x) (refusal_of (record { moment = m; what = opened c }) l)) many
       (w.outcome l (subst (λ (v : ServerState). StandsAt i v.instances l) (still ∙ same) stands))) in
       known_then (λ h. IfSome at_last (λ r. HasTurnedAway (own_past i h) × ((l : LoneInstance) → StandsAt i then.server.instances l → IsFull l))) new last (port i (shut c) ∷ []) adds
       (λ h is. some_runs at_last (HasTurnedAway (own_past i (h ++ port i (shut c) ∷ [])) × ((l : LoneInstance) → StandsAt i then.server.instances l → IsFull l))

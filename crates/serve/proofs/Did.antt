@@ -13,7 +13,7 @@ use Rattle.instance_core.specs.Visible.{Blob}
 use Rattle.run_outcomes.specs.Outcomes.{OutcomeValue}
 use Rattle.server_events.specs.Configs.{ConfigValue, parent_of, parents_of}
 use Rattle.server_events.specs.Faults.{AreParents}
-use Rattle.server_events.specs.Events.{EventValue, WhatValue, opened, received, took, closed, tick, ended}
+use Rattle.server_events.specs.Events.{EventValue, LoneEvent, WhatValue, opened, received, took, closed, tick, ended}
 use Rattle.served_instance.specs.declared.refusal.EventRefusal.{EventRefusal}
 use Rattle.served_instance.specs.declared.refusal.EventRefusal.TheVariants.{NoMemory}
 use Rattle.served_instance.specs.Bytes.{pending_bytes}
@@ -47,21 +47,21 @@ on b x y is = ap (λ (t : Bool). cond t x y) is
 
 -- ---- which event of the family it is
 
-own_family : (i : ℕ) (p : Option ℕ) (e : EventValue) → e.instance ≡ i → family_event i p e ≡ of_own e ∷ []
-own_family i p e same = on (e.instance == i) (of_own e ∷ []) (cond (option_map_or (λ n. e.instance == n) p false) (of_parent e ∷ []) []) (eq-eqb e.instance i same)
+own_family : (i : ℕ) (p : Option ℕ) (e : EventValue) → e.instance ≡ i → family_event i p e ≡ of_own e.lone ∷ []
+own_family i p e same = on (e.instance == i) (of_own e.lone ∷ []) (cond (option_map_or (λ n. e.instance == n) p false) (of_parent e.lone ∷ []) []) (eq-eqb e.instance i same)
 
-parent_family : (i n : ℕ) (e : EventValue) → e.instance ≢ i → e.instance ≡ n → family_event i (Some n) e ≡ of_parent e ∷ []
+parent_family : (i n : ℕ) (e : EventValue) → e.instance ≢ i → e.instance ≡ n → family_event i (Some n) e ≡ of_parent e.lone ∷ []
 parent_family i n e ne same =
-    off (e.instance == i) (of_own e ∷ []) (cond (e.instance == n) (of_parent e ∷ []) []) (ne_eqb e.instance i ne)
-    ∙ on (e.instance == n) (of_parent e ∷ []) [] (eq-eqb e.instance n same)
+    off (e.instance == i) (of_own e.lone ∷ []) (cond (e.instance == n) (of_parent e.lone ∷ []) []) (ne_eqb e.instance i ne)
+    ∙ on (e.instance == n) (of_parent e.lone ∷ []) [] (eq-eqb e.instance n same)
 
 no_family : (i n : ℕ) (e : EventValue) → e.instance ≢ i → e.instance ≢ n → family_event i (Some n) e ≡ []
 no_family i n e ne other =
-    off (e.instance == i) (of_own e ∷ []) (cond (e.instance == n) (of_parent e ∷ []) []) (ne_eqb e.instance i ne)
-    ∙ off (e.instance == n) (of_parent e ∷ []) [] (ne_eqb e.instance n other)
+    off (e.instance == i) (of_own e.lone ∷ []) (cond (e.instance == n) (of_parent e.lone ∷ []) []) (ne_eqb e.instance i ne)
+    ∙ off (e.instance == n) (of_parent e.lone ∷ []) [] (ne_eqb e.instance n other)
 
 lonely : (i : ℕ) (e : EventValue) → e.instance ≢ i → family_event i None e ≡ []
-lonely i e ne = off (e.instance == i) (of_own e ∷ []) [] (ne_eqb e.instance i ne)
+lonely i e ne = off (e.instance == i) (of_own e.lone ∷ []) [] (ne_eqb e.instance i ne)
 
 abbrev run_of_both : Run → Option Run → FamilyRun
 run_of_both own parent = record { own = own; parent = parent }
@@ -74,7 +74,7 @@ lone_of r = r.lone
 abbrev plain_orders : Run → List OrderValue
 plain_orders r = map (λ (o : ℕ × OrderValue). o.1) r.orders
 
-record IsOwnStep (parent : List Blob) (e : EventValue) (b : Bool) (r : Run) (k : LoneInstance) (orders : List OrderValue) : Type 0 where
+record IsOwnStep (parent : List Blob) (e : LoneEvent) (b : Bool) (r : Run) (k : LoneInstance) (orders : List OrderValue) : Type 0 where
   run : Run
   step : IsRunStep parent r e b run
   lone : run.lone ≡ k
@@ -87,7 +87,7 @@ placed n (o ∷ os) = ap (λ (xs : List OrderValue). o ∷ xs) (placed n os)
 abbrev short_run : Run → LoneInstance → Run
 short_run r m = record { lone = m; count = r.count + 1; orders = r.orders; refusals = r.refusals ++ (r.count + 1, NoMemory) ∷ [] }
 
-own_step : (parent : List Blob) (e : EventValue) (b : Bool) (r : Run) (k : LoneInstance) (orders : List OrderValue) → MayStep parent e b r.lone k orders → IsOwnStep parent e b r k orders
+own_step : (parent : List Blob) (e : LoneEvent) (b : Bool) (r : Run) (k : LoneInstance) (orders : List OrderValue) → MayStep parent e b r.lone k orders → IsOwnStep parent e b r k orders
 own_step parent e false r k orders alone = record {
   run = run_step parent r e;
   step = refl;
@@ -210,7 +210,7 @@ record IsLedBy (ps : List (Option ℕ)) (rs qs : List Run) (e : EventValue) (b :
   there : slice_get qs i ≡ Some now
   ran : IsRun (beside rs p r) (marked b (family_event i p e)) (beside qs p now)
 
-own_led : (ps : List (Option ℕ)) (rs : List Run) (e : EventValue) (b : Bool) (ls : List LoneInstance) (p : Option ℕ) (r q : Run) → AreParents ps → map lone_of rs ≡ ls → slice_get ps e.instance ≡ Some p → slice_get rs e.instance ≡ Some r → IsRunStep (texts_beside e.instance ps ls) r e b q → IsLedBy ps rs (slice_set rs e.instance q) e b e.instance p r
+own_led : (ps : List (Option ℕ)) (rs : List Run) (e : EventValue) (b : Bool) (ls : List LoneInstance) (p : Option ℕ) (r q : Run) → AreParents ps → map lone_of rs ≡ ls → slice_get ps e.instance ≡ Some p → slice_get rs e.instance ≡ Some r → IsRunStep (texts_beside e.instance ps ls) r e.lone b q → IsLedBy ps rs (slice_set rs e.instance q) e b e.instance p r
 own_led ps rs e b ls p r q good lones at_p at_r step =
     let j : ℕ = e.instance in
     let qs : List Run = slice_set rs j q in
@@ -218,22 +218,22 @@ own_led ps rs e b ls p r q good lones at_p at_r step =
       now = q;
       there = set_here rs j q r at_r;
       ran = subst (λ (es : List FamilyEvent). IsRun (beside rs p r) (marked b es) (beside qs p q)) (sym (own_family j p e refl))
-          (beside qs p q, (subst (λ (ts : List Blob). IsRunStep ts r e b q) (texts_same ps j p rs ls at_p lones) step, parent_same p at_p), refl);
+          (beside qs p q, (subst (λ (ts : List Blob). IsRunStep ts r e.lone b q) (texts_same ps j p rs ls at_p lones) step, parent_same p at_p), refl);
     }
   where
     parent_same : (o : Option ℕ) → slice_get ps e.instance ≡ Some o → option_and_then (slice_get (slice_set rs e.instance q)) o ≡ option_and_then (slice_get rs) o
     parent_same None at = refl
     parent_same (Some n) at = set_other rs e.instance n q (good e.instance n at).another
 
-parent_led : (ps : List (Option ℕ)) (rs : List Run) (e : EventValue) (b : Bool) (ls : List LoneInstance) (i : ℕ) (r s q : Run) → AreParents ps → map lone_of rs ≡ ls → slice_get ps i ≡ Some (Some e.instance) → slice_get rs i ≡ Some s → slice_get rs e.instance ≡ Some r → IsRunStep (texts_beside e.instance ps ls) r e b q → IsLedBy ps rs (slice_set rs e.instance q) e b i (Some e.instance) s
+parent_led : (ps : List (Option ℕ)) (rs : List Run) (e : EventValue) (b : Bool) (ls : List LoneInstance) (i : ℕ) (r s q : Run) → AreParents ps → map lone_of rs ≡ ls → slice_get ps i ≡ Some (Some e.instance) → slice_get rs i ≡ Some s → slice_get rs e.instance ≡ Some r → IsRunStep (texts_beside e.instance ps ls) r e.lone b q → IsLedBy ps rs (slice_set rs e.instance q) e b i (Some e.instance) s
 parent_led ps rs e b ls i r s q good lones at_p at_s at_r step =
     let j : ℕ = e.instance in
     let qs : List Run = slice_set rs j q in
     let root = good i j at_p in
     let apart : j ≢ i = root.another in
-    let alone : IsRunStep [] r e b q = subst (λ (ts : List Blob). IsRunStep ts r e b q) (texts_same ps j None rs ls root.builds_on_none lones) step in
-    let moved : IsParentStep (slice_get rs j) e b (slice_get qs j) =
-    subst (λ (o : Option Run). IsParentStep o e b (slice_get qs j)) (sym at_r) (subst (λ (o : Option Run). IsParentStep (Some r) e b o) (sym (set_here rs j q r at_r)) alone) in
+    let alone : IsRunStep [] r e.lone b q = subst (λ (ts : List Blob). IsRunStep ts r e.lone b q) (texts_same ps j None rs ls root.builds_on_none lones) step in
+    let moved : IsParentStep (slice_get rs j) e.lone b (slice_get qs j) =
+    subst (λ (o : Option Run). IsParentStep o e.lone b (slice_get qs j)) (sym at_r) (subst (λ (o : Option Run). IsParentStep (Some r) e.lone b o) (sym (set_here rs j q r at_r)) alone) in
     record {
       now = s;
       there = set_other rs j i q (λ same. apart (sym same)) ∙ at_s;
@@ -252,13 +252,13 @@ other_led ps rs e b i p s q ne not at_s = record {
     nothing None apart = lonely i e ne
     nothing (Some n) apart = no_family i n e ne (λ same. apart (sym same))
 
-each_led : (ps : List (Option ℕ)) (rs : List Run) (e : EventValue) (b : Bool) (ls : List LoneInstance) (i : ℕ) (p : Option ℕ) (r s q : Run) → AreParents ps → map lone_of rs ≡ ls → slice_get ps i ≡ Some p → slice_get rs i ≡ Some s → slice_get rs e.instance ≡ Some r → IsRunStep (texts_beside e.instance ps ls) r e b q → IsLedBy ps rs (slice_set rs e.instance q) e b i p s
+each_led : (ps : List (Option ℕ)) (rs : List Run) (e : EventValue) (b : Bool) (ls : List LoneInstance) (i : ℕ) (p : Option ℕ) (r s q : Run) → AreParents ps → map lone_of rs ≡ ls → slice_get ps i ≡ Some p → slice_get rs i ≡ Some s → slice_get rs e.instance ≡ Some r → IsRunStep (texts_beside e.instance ps ls) r e.lone b q → IsLedBy ps rs (slice_set rs e.instance q) e b i p s
 each_led ps rs e b ls i p r s q good lones at_p at_s at_r step = elim (cases_eq e.instance i) [
   | inl same ↦
       let Case : ℕ → Type 0 = λ k. slice_get ps k ≡ Some p → slice_get rs k ≡ Some s → IsLedBy ps rs (slice_set rs e.instance q) e b k p s in
       subst Case same (λ here there.
       (let is : r ≡ s = same_Some r s (sym at_r ∙ there) in
-      own_led ps rs e b ls p s q good lones here there (subst (λ (t : Run). IsRunStep (texts_beside e.instance ps ls) t e b q) is step))) at_p at_s
+      own_led ps rs e b ls p s q good lones here there (subst (λ (t : Run). IsRunStep (texts_beside e.instance ps ls) t e.lone b q) is step))) at_p at_s
   | inr ne ↦ by_parent p at_p ne
 ]
   where
@@ -276,8 +276,8 @@ event_led ps m e x w v rs os good event no_order faithful empty t at =
     let j : ℕ = e.instance in
     let found = run_at rs w.instances j t.was at.lones t.there in
     let r : Run = found.0 in
-    let did = own_step (texts_beside j ps w.instances) e x.1 r t.now t.orders
-    (subst (λ (l : LoneInstance). MayStep (texts_beside j ps w.instances) e x.1 l t.now t.orders) (sym found.2) t.step) in
+    let did = own_step (texts_beside j ps w.instances) e.lone x.1 r t.now t.orders
+    (subst (λ (l : LoneInstance). MayStep (texts_beside j ps w.instances) e.lone x.1 l t.now t.orders) (sym found.2) t.step) in
     let qs : List Run = slice_set rs j did.run in
     let next : AtWork = with_orders (slice_set w.instances j t.now) (map (ordered j) t.orders) in
     let before : (i : ℕ) (s : Run) → slice_get rs i ≡ Some s → os i ++ carried_by i (x ∷ []) ≡ plain_orders s =
@@ -400,7 +400,7 @@ came family i p h run d = gone_on i p h [] 0 (new_family_run family) run d.goes
 abbrev AreUnmarked : List MarkedEvent → Type 0
 AreUnmarked es = AllByRecursion (λ e. e.1 ≡ false) es
 
-parent_plain : (r : Option Run) (e : EventValue) (b : Bool) (q : Option Run) → b ≡ false → IsParentStep r e b q → q ≡ option_map (λ (x : Run). run_step [] x e) r
+parent_plain : (r : Option Run) (e : LoneEvent) (b : Bool) (q : Option Run) → b ≡ false → IsParentStep r e b q → q ≡ option_map (λ (x : Run). run_step [] x e) r
 parent_plain None e b q is h = h
 parent_plain (Some r) e b None is h = absurd h
 parent_plain (Some r) e b (Some q) is h = ap Some (subst (λ (t : Bool). IsRunStep [] r e t q) is h)
@@ -440,11 +440,11 @@ alone family i p h run none d =
 -- ---- what was written, all in all
 
 -- what an event makes of an instance
-abbrev Makes : List Blob → EventValue → Bool → LoneInstance → LoneInstance → Type 0
+abbrev Makes : List Blob → LoneEvent → Bool → LoneInstance → LoneInstance → Type 0
 Makes parent e false l k = k ≡ lone_step parent e l
 Makes parent e true l k = Short parent e l k
 
-makes_by : (parent : List Blob) (r : Run) (e : EventValue) (b : Bool) (q : Run) → IsRunStep parent r e b q → Makes parent e b r.lone q.lone
+makes_by : (parent : List Blob) (r : Run) (e : LoneEvent) (b : Bool) (q : Run) → IsRunStep parent r e b q → Makes parent e b r.lone q.lone
 makes_by parent r e false q step = ap lone_of step
 makes_by parent r e true q step = step.lone
 
@@ -458,12 +458,12 @@ written_here (shut c) ws = ws
 abbrev FitsIn : List Written → LoneInstance → Type 0
 FitsIn ws l = Fits ws l.connections
 
-stepped_fits : (parent : List Blob) (e : EventValue) (l : LoneInstance) (refusal : Option EventRefusal) (ws : List Written) → (refusal ≡ None → Fits ws (connections_after l.state.limits.window e.what l.connections)) → ((x : EventRefusal) → refusal ≡ Some x → FitsIn ws l) → FitsIn ws (after_event_unless parent e l refusal)
+stepped_fits : (parent : List Blob) (e : LoneEvent) (l : LoneInstance) (refusal : Option EventRefusal) (ws : List Written) → (refusal ≡ None → Fits ws (connections_after l.state.limits.window e.what l.connections)) → ((x : EventRefusal) → refusal ≡ Some x → FitsIn ws l) → FitsIn ws (after_event_unless parent e l refusal)
 stepped_fits parent e l None ws done kept = fits_grown ws (connections_after l.state.limits.window e.what l.connections) (after_event parent e l).connections (accepted_more parent e l) (done refl)
 stepped_fits parent e l (Some x) ws done kept = kept x refl
 
 -- an event that is not cut short
-alone_fits : (parent : List Blob) (e : EventValue) (l v : LoneInstance) (ws : List Written) → Makes parent e false l v → (refusal_of e l ≡ None → Fits ws (connections_after l.state.limits.window e.what l.connections)) → ((x : EventRefusal) → refusal_of e l ≡ Some x → FitsIn ws l) → FitsIn ws v
+alone_fits : (parent : List Blob) (e : LoneEvent) (l v : LoneInstance) (ws : List Written) → Makes parent e false l v → (refusal_of e l ≡ None → Fits ws (connections_after l.state.limits.window e.what l.connections)) → ((x : EventRefusal) → refusal_of e l ≡ Some x → FitsIn ws l) → FitsIn ws v
 alone_fits parent e l v ws alone done kept =
     subst (FitsIn ws) (sym alone) (stepped_fits parent e l (refusal_of e l) ws done kept)
 
@@ -483,42 +483,42 @@ open_with : (o : Option Past) (P : Past → Type 0) → IsSomeAnd o P → IsOpen
 open_with None P is = absurd is
 open_with (Some p) P is = record { past = p; there = refl; has = is }
 
-port_fits : (parent : List Blob) (m j i : ℕ) (b : Bool) (p : PortEvent) (l v : LoneInstance) (ws : List Written) → Makes parent (event_told m j (what_of p)) b l v → IsFaithful i m l (at_sockets (port j p)) → j ≡ i → FitsIn ws l → FitsIn (written_here p ws) v
+port_fits : (parent : List Blob) (m j i : ℕ) (b : Bool) (p : PortEvent) (l v : LoneInstance) (ws : List Written) → Makes parent (event_told m j (what_of p)).lone b l v → IsFaithful i m l (at_sockets (port j p)) → j ≡ i → FitsIn ws l → FitsIn (written_here p ws) v
 port_fits parent m j i false (accepted c) l v ws may faithful same f =
-    alone_fits parent (event_told m j (opened c)) l v (ws ++ (c, []) ∷ []) may
+    alone_fits parent (event_told m j (opened c)).lone l v (ws ++ (c, []) ∷ []) may
     (λ is. fits_opened l.state.limits.window c ws l.connections (faithful same) f) (λ x is. fits_refused c ws l.connections (faithful same) f)
 port_fits parent m j i true (accepted c) l v ws may faithful same f =
     left_fits (ws ++ (c, []) ∷ []) v l.connections (ap connections_of may) (fits_refused c ws l.connections (faithful same) f)
 port_fits parent m j i false (read c bytes) l v ws may faithful same f =
-    alone_fits parent (event_told m j (received c bytes)) l v ws may (λ is. f) (λ x is. f)
+    alone_fits parent (event_told m j (received c bytes)).lone l v ws may (λ is. f) (λ x is. f)
 port_fits parent m j i true (read c bytes) l v ws may faithful same f =
     left_fits ws v (with_closed c l.connections) (ap connections_of may.gone) (fits_closed c ws l.connections f)
 port_fits parent m j i false (written c bytes) l v ws may faithful same f =
     let is_right = faithful same in
     let o = open_with (open_at c l.connections) (λ q. StartsWith (pending_bytes q.history) bytes) is_right.0 in
-    alone_fits parent (event_told m j (took c (length bytes))) l v (with_written c bytes ws) may
+    alone_fits parent (event_told m j (took c (length bytes))).lone l v (with_written c bytes ws) may
     (λ is. fits_taken c bytes o.past ws l.connections o.there o.has f)
     (λ x is. absurd (none-some x (sym is_right.1 ∙ is)))
 port_fits parent m j i true (written c bytes) l v ws may faithful same f = absurd may
 port_fits parent m j i false (shut c) l v ws may faithful same f =
-    alone_fits parent (event_told m j (closed c)) l v ws may (λ is. fits_closed c ws l.connections f) (λ x is. f)
+    alone_fits parent (event_told m j (closed c)).lone l v ws may (λ is. fits_closed c ws l.connections f) (λ x is. f)
 port_fits parent m j i true (shut c) l v ws may faithful same f = absurd may
 
-tick_fits : (parent : List Blob) (m j : ℕ) (b : Bool) (l v : LoneInstance) (ws : List Written) → Makes parent (event_told m j tick) b l v → FitsIn ws l → FitsIn ws v
-tick_fits parent m j false l v ws may f = alone_fits parent (event_told m j tick) l v ws may (λ is. f) (λ x is. f)
+tick_fits : (parent : List Blob) (m j : ℕ) (b : Bool) (l v : LoneInstance) (ws : List Written) → Makes parent (event_told m j tick).lone b l v → FitsIn ws l → FitsIn ws v
+tick_fits parent m j false l v ws may f = alone_fits parent (event_told m j tick).lone l v ws may (λ is. f) (λ x is. f)
 tick_fits parent m j true l v ws may f = left_fits ws v (all_closed l.connections) (ap connections_of may) (fits_all_closed ws l.connections f)
 
-ended_fits : (parent : List Blob) (m j job : ℕ) (outcome : OutcomeValue) (b : Bool) (l v : LoneInstance) (ws : List Written) → Makes parent (event_told m j (ended job outcome)) b l v → FitsIn ws l → FitsIn ws v
-ended_fits parent m j job outcome false l v ws may f = alone_fits parent (event_told m j (ended job outcome)) l v ws may (λ is. f) (λ x is. f)
+ended_fits : (parent : List Blob) (m j job : ℕ) (outcome : OutcomeValue) (b : Bool) (l v : LoneInstance) (ws : List Written) → Makes parent (event_told m j (ended job outcome)).lone b l v → FitsIn ws l → FitsIn ws v
+ended_fits parent m j job outcome false l v ws may f = alone_fits parent (event_told m j (ended job outcome)).lone l v ws may (λ is. f) (λ x is. f)
 ended_fits parent m j job outcome true l v ws may f = left_fits ws v (all_closed l.connections) (ap connections_of may.gone) (fits_all_closed ws l.connections f)
 
 -- ---- and so for all that happens
 
 -- an event of the instance
-own_ran : (i : ℕ) (p : Option ℕ) (e : EventValue) (b : Bool) (f k : FamilyRun) → e.instance ≡ i → IsRun f (marked b (family_event i p e)) k → IsRunStep (texts_of_parent f.parent) f.own e b k.own
+own_ran : (i : ℕ) (p : Option ℕ) (e : EventValue) (b : Bool) (f k : FamilyRun) → e.instance ≡ i → IsRun f (marked b (family_event i p e)) k → IsRunStep (texts_of_parent f.parent) f.own e.lone b k.own
 own_ran i p e b f k same ran =
     let one = subst (λ (es : List FamilyEvent). IsRun f (marked b es) k) (own_family i p e same) ran in
-    subst (λ (g : FamilyRun). IsRunStep (texts_of_parent f.parent) f.own e b g.own) (sym one.2) one.1.0
+    subst (λ (g : FamilyRun). IsRunStep (texts_of_parent f.parent) f.own e.lone b g.own) (sym one.2) one.1.0
 
 -- one of another leaves it as it is
 other_ran : (i : ℕ) (p : Option ℕ) (e : EventValue) (b : Bool) (f k : FamilyRun) → e.instance ≢ i → IsRun f (marked b (family_event i p e)) k → k.own ≡ f.own
@@ -554,7 +554,7 @@ step_fits i p m (at_sockets (clock n), b) f k ws faithful ran fit = subst (λ (g
 step_fits i p m (at_sockets (failed j c), b) f k ws faithful ran fit = subst (λ (g : FamilyRun). FitsRun ws g.own) (sym ran) fit
 step_fits i p m (at_sockets (port j q), b) f k ws faithful ran fit = elim (cases_eq j i) [
   | inl same ↦
-      let made = makes_by (texts_of_parent f.parent) f.own (event_told m j (what_of q)) b k.own (own_ran i p (event_told m j (what_of q)) b f k same ran) in
+      let made = makes_by (texts_of_parent f.parent) f.own (event_told m j (what_of q)).lone b k.own (own_ran i p (event_told m j (what_of q)) b f k same ran) in
       subst (λ (xs : List Written). FitsRun xs k.own) (sym (here_written j i q b ws (eq-eqb j i same)))
       (port_fits (texts_of_parent f.parent) m j i b q f.own.lone k.own.lone ws made faithful same fit)
   | inr ne ↦
@@ -562,13 +562,13 @@ step_fits i p m (at_sockets (port j q), b) f k ws faithful ran fit = elim (cases
       (subst (FitsRun ws) (sym (other_ran i p (event_told m j (what_of q)) b f k ne ran)) fit)
 ]
 step_fits i p m (told j, b) f k ws faithful ran fit = elim (cases_eq j i) [
-  | inl same ↦ tick_fits (texts_of_parent f.parent) m j b f.own.lone k.own.lone ws (makes_by (texts_of_parent f.parent) f.own (event_told m j tick) b k.own (own_ran i p (event_told m j tick) b f k same ran)) fit
+  | inl same ↦ tick_fits (texts_of_parent f.parent) m j b f.own.lone k.own.lone ws (makes_by (texts_of_parent f.parent) f.own (event_told m j tick).lone b k.own (own_ran i p (event_told m j tick) b f k same ran)) fit
   | inr ne ↦ subst (FitsRun ws) (sym (other_ran i p (event_told m j tick) b f k ne ran)) fit
 ]
 step_fits i p m (at_runs (ordered j o), b) f k ws faithful ran fit = subst (λ (g : FamilyRun). FitsRun ws g.own) (sym ran) fit
 step_fits i p m (at_runs (lent j job task), b) f k ws faithful ran fit = subst (λ (g : FamilyRun). FitsRun ws g.own) (sym ran) fit
 step_fits i p m (at_runs (gave j job outcome), b) f k ws faithful ran fit = elim (cases_eq j i) [
-  | inl same ↦ ended_fits (texts_of_parent f.parent) m j job outcome b f.own.lone k.own.lone ws (makes_by (texts_of_parent f.parent) f.own (event_told m j (ended job outcome)) b k.own (own_ran i p (event_told m j (ended job outcome)) b f k same ran)) fit
+  | inl same ↦ ended_fits (texts_of_parent f.parent) m j job outcome b f.own.lone k.own.lone ws (makes_by (texts_of_parent f.parent) f.own (event_told m j (ended job outcome)).lone b k.own (own_ran i p (event_told m j (ended job outcome)) b f k same ran)) fit
   | inr ne ↦ subst (FitsRun ws) (sym (other_ran i p (event_told m j (ended job outcome)) b f k ne ran)) fit
 ]
 

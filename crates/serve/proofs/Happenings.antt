@@ -9,7 +9,7 @@ use Rattle.instance_core.specs.Calls.{CallEventValue, tick as time_passes}
 use Rattle.instance_core.specs.State.{InstanceState}
 use Rattle.instance_core.specs.Changes.{InstanceChange, Text, Goes, Ends, Wrote, Keeps, Expires, Does, Pushes, Settles, MadeInPart, state_after_change, state_after_changes}
 use Rattle.instance_core.specs.Answer.{answer, state_after}
-use Rattle.server_events.specs.Events.{EventValue, WhatValue, opened, received, took, closed, tick, ended}
+use Rattle.server_events.specs.Events.{LoneEvent, WhatValue, opened, received, took, closed, tick, ended}
 use Rattle.served_instance.specs.Lone.{LoneInstance, lone_at_moment}
 use Rattle.served_instance.specs.Short.{IsCutShort, IsCutEffect}
 use Rattle.served_instance.proofs.Moments.{step_within}
@@ -187,6 +187,6 @@ cut_effect_moment (ended job outcome) l m h =
     ap (λ (x : LoneInstance). x.state.moment) h.gone ∙ made_moment _ l.state h.left h.made
 
 -- after an event an instance is not later than the event and than it was
-pub may_within : (parent : List Blob) (e : EventValue) (marked : Bool) (l k : LoneInstance) (orders : List OrderValue) (m : ℕ) → MayStep parent e marked l k orders → e.moment ≤ m → l.state.moment ≤ m → k.state.moment ≤ m
+pub may_within : (parent : List Blob) (e : LoneEvent) (marked : Bool) (l k : LoneInstance) (orders : List OrderValue) (m : ℕ) → MayStep parent e marked l k orders → e.moment ≤ m → l.state.moment ≤ m → k.state.moment ≤ m
 may_within parent e false l k orders m alone le late = subst (λ (x : LoneInstance). x.state.moment ≤ m) (sym alone.0) (step_within parent e l m le late)
 may_within parent e true l k orders m short le late = subst (λ (n : ℕ). n ≤ m) (sym (cut_effect_moment e.what (lone_at_moment e.moment parent l) k short.1)) le

@@ -26,7 +26,7 @@ use Rattle.instance_core.specs.State.{InstanceState}
 use Rattle.instance_core.specs.Visible.{Blob}
 use Rattle.server_events.specs.Configs.{ConfigValue, parent_of, parents_of}
 use Rattle.server_events.specs.Faults.{AreParents}
-use Rattle.server_events.specs.Events.{EventValue, WhatValue, took, tick, ended}
+use Rattle.server_events.specs.Events.{EventValue, LoneEvent, WhatValue, took, tick, ended}
 use Rattle.served_instance.specs.Connections.{open_at}
 use Rattle.served_instance.specs.declared.refusal.EventRefusal.{EventRefusal}
 use Rattle.served_instance.specs.declared.refusal.EventRefusal.TheVariants.{NoSuchInstance, NoSuchConnection, ConnectionExists, TooManyConnections, NoSuchJob, TimeWentBack, TookTooMuch, NoMemory}
@@ -145,10 +145,10 @@ other_is : (A : Type 0) (r : EventRefusal) → IsOther r → refused_with A r �
 other_is A r other is = subst IsOtherOutcome is other
 
 abbrev Own : {A : Type 0} → Result A EventRefusal → List Blob → EventValue → List ServedState → List ServedState → Type 0
-Own outcome parent e vs ws = outcome ≢ Err NoMemory → (l : LoneInstance) → StandsAt e.instance vs l → StandsAt e.instance ws (lone_step parent e l)
+Own outcome parent e vs ws = outcome ≢ Err NoMemory → (l : LoneInstance) → StandsAt e.instance vs l → StandsAt e.instance ws (lone_step parent e.lone l)
 
 abbrev InPart : {A : Type 0} → Result A EventRefusal → List Blob → EventValue → List ServedState → List ServedState → Type 0
-InPart outcome parent e vs ws = outcome ≡ Err NoMemory → (l : LoneInstance) → StandsAt e.instance vs l → StandsShortAt parent e l ws
+InPart outcome parent e vs ws = outcome ≡ Err NoMemory → (l : LoneInstance) → StandsAt e.instance vs l → StandsShortAt e.instance parent e.lone l ws
 
 abbrev Others : EventValue → List ServedState → List ServedState → Type 0
 Others e vs ws = (j : ℕ) → j ≢ e.instance → instance_at j ws ≡ instance_at j vs
@@ -164,7 +164,7 @@ other_unmarked TookTooMuch other = refl
 other_unmarked NoMemory other = absurd other
 
 -- a refused event orders nothing
-pub refused_taken : (A : Type 0) (r : EventRefusal) (e : EventValue) (server next : Counting) (known : Option (List RunEvent)) → Own (refused_with A r) (parent_texts e.instance server.server) e server.server.instances next.server.instances → InPart (refused_with A r) (parent_texts e.instance server.server) e server.server.instances next.server.instances → ((l : LoneInstance) → StandsAt e.instance server.server.instances l → IsRefusalOutcome (refused_with A r) (refusal_of e l)) → Others e server.server.instances next.server.instances → next.server.parents ≡ server.server.parents → next.cut ≡ cut_after server.cut (is_for_memory r) → TakesEvent e server next known known
+pub refused_taken : (A : Type 0) (r : EventRefusal) (e : EventValue) (server next : Counting) (known : Option (List RunEvent)) → Own (refused_with A r) (parent_texts e.instance server.server) e server.server.instances next.server.instances → InPart (refused_with A r) (parent_texts e.instance server.server) e server.server.instances next.server.instances → ((l : LoneInstance) → StandsAt e.instance server.server.instances l → IsRefusalOutcome (refused_with A r) (refusal_of e.lone l)) → Others e server.server.instances next.server.instances → next.server.parents ≡ server.server.parents → next.cut ≡ cut_after server.cut (is_for_memory r) → TakesEvent e server next known known
 refused_taken A r e server next known own short gave_reason others parents counted = record {
   orders = [];
   marked = is_for_memory r;
@@ -172,18 +172,19 @@ refused_taken A r e server next known own short gave_reason others parents count
   carried = nothing_added known;
   own = λ l s.
       let parent : List Blob = parent_texts e.instance server.server in
+      let one : LoneEvent = e.lone in
       elim (memory_or r) [
         | inl memory ↦
             let t = short (ap Err memory) l s in
-            let accepted : refusal_of e l ≡ None = subst (λ (x : EventRefusal). IsRefusalOutcome (refused_with A x) (refusal_of e l)) memory (gave_reason l s) in
-            let may : MayStep parent e true l t.left [] = (accepted, t.short, refl) in
-            record { now = t.left; may = subst (λ (b : Bool). MayStep parent e b l t.left []) (sym (ap is_for_memory memory)) may; stands = t.stands }
+            let accepted : refusal_of one l ≡ None = subst (λ (x : EventRefusal). IsRefusalOutcome (refused_with A x) (refusal_of one l)) memory (gave_reason l s) in
+            let may : MayStep parent one true l t.left [] = (accepted, t.short, refl) in
+            record { now = t.left; may = subst (λ (b : Bool). MayStep parent one b l t.left []) (sym (ap is_for_memory memory)) may; stands = t.stands }
         | inr other ↦
-            let no_orders : lone_orders parent e l ≡ [] = ap (orders_unless parent e l) (reason A r (refusal_of e l) other (gave_reason l s)) in
-            let may : MayStep parent e false l (lone_step parent e l) [] = (refl, sym no_orders) in
+            let no_orders : lone_orders parent one l ≡ [] = ap (orders_unless parent one l) (reason A r (refusal_of one l) other (gave_reason l s)) in
+            let may : MayStep parent one false l (lone_step parent one l) [] = (refl, sym no_orders) in
             record {
-              now = lone_step parent e l;
-              may = subst (λ (b : Bool). MayStep parent e b l (lone_step parent e l) []) (sym (other_unmarked r other)) may;
+              now = lone_step parent one l;
+              may = subst (λ (b : Bool). MayStep parent one b l (lone_step parent one l) []) (sym (other_unmarked r other)) may;
               stands = own (other_is A r other) l s;
             }
       ];
@@ -192,15 +193,15 @@ refused_taken A r e server next known own short gave_reason others parents count
 }
 
 -- the orders of an event that is not refused are carried out
-pub accepted_taken : (e : EventValue) (server next : Counting) (orders : Vec Order Global) (before after : Option (List RunEvent)) (v : ServedState) → instance_at e.instance next.server.instances ≡ Some v → ((l : LoneInstance) → StandsAt e.instance server.server.instances l → StandsAt e.instance next.server.instances (lone_step (parent_texts e.instance server.server) e l)) → ((l : LoneInstance) → StandsAt e.instance server.server.instances l → OrdersStand e.instance next.server.instances orders (lone_orders (parent_texts e.instance server.server) e l)) → Others e server.server.instances next.server.instances → next.server.parents ≡ server.server.parents → next.cut ≡ server.cut → AreCarriedOut e.instance next.server.instances orders.items before after → TakesEvent e server next before after
+pub accepted_taken : (e : EventValue) (server next : Counting) (orders : Vec Order Global) (before after : Option (List RunEvent)) (v : ServedState) → instance_at e.instance next.server.instances ≡ Some v → ((l : LoneInstance) → StandsAt e.instance server.server.instances l → StandsAt e.instance next.server.instances (lone_step (parent_texts e.instance server.server) e.lone l)) → ((l : LoneInstance) → StandsAt e.instance server.server.instances l → OrdersStand e.instance next.server.instances orders (lone_orders (parent_texts e.instance server.server) e.lone l)) → Others e server.server.instances next.server.instances → next.server.parents ≡ server.server.parents → next.cut ≡ server.cut → AreCarriedOut e.instance next.server.instances orders.items before after → TakesEvent e server next before after
 accepted_taken e server next orders before after v is own given others parents counted so = record {
   orders = orders_meant v.state.jobs orders.items;
   marked = false;
   counted = counted;
   carried = so v is;
   own = λ l s. record {
-    now = lone_step (parent_texts e.instance server.server) e l;
-    may = (refl, all_meant v.state.jobs orders.items (lone_orders (parent_texts e.instance server.server) e l) (given l s v is));
+    now = lone_step (parent_texts e.instance server.server) e.lone l;
+    may = (refl, all_meant v.state.jobs orders.items (lone_orders (parent_texts e.instance server.server) e.lone l) (given l s v is));
     stands = own l s;
   };
   others = others;
@@ -224,7 +225,7 @@ there_is vs i lt = elim (slice_get_cases vs i).1 [
 ]
 
 -- where the event was accepted its instance is there
-pub accepted_by : {A : Type 0} (x : A) (e : EventValue) (server next : Counting) (orders : Vec Order Global) (before after : Option (List RunEvent)) → (Ok x ≢ Err NoMemory → (l : LoneInstance) → StandsAt e.instance server.server.instances l → StandsAt e.instance next.server.instances (lone_step (parent_texts e.instance server.server) e l)) → ((l : LoneInstance) → StandsAt e.instance server.server.instances l → OrdersStand e.instance next.server.instances orders (lone_orders (parent_texts e.instance server.server) e l)) → Others e server.server.instances next.server.instances → (Ok x ≡ Err NoSuchInstance) ↔ (length server.server.instances ≤ e.instance) → length next.server.instances ≡ length server.server.instances → next.server.parents ≡ server.server.parents → next.cut ≡ server.cut → AreCarriedOut e.instance next.server.instances orders.items before after → TakesEvent e server next before after
+pub accepted_by : {A : Type 0} (x : A) (e : EventValue) (server next : Counting) (orders : Vec Order Global) (before after : Option (List RunEvent)) → (Ok x ≢ Err NoMemory → (l : LoneInstance) → StandsAt e.instance server.server.instances l → StandsAt e.instance next.server.instances (lone_step (parent_texts e.instance server.server) e.lone l)) → ((l : LoneInstance) → StandsAt e.instance server.server.instances l → OrdersStand e.instance next.server.instances orders (lone_orders (parent_texts e.instance server.server) e.lone l)) → Others e server.server.instances next.server.instances → (Ok x ≡ Err NoSuchInstance) ↔ (length server.server.instances ≤ e.instance) → length next.server.instances ≡ length server.server.instances → next.server.parents ≡ server.server.parents → next.cut ≡ server.cut → AreCarriedOut e.instance next.server.instances orders.items before after → TakesEvent e server next before after
 accepted_by x e server next orders before after own given others stray count parents counted so =
     elim (cases_lt e.instance (length next.server.instances)) [
       | inl lt ↦
@@ -319,8 +320,8 @@ event_more configs h server next before after j what x lt fits t has premise a =
     let stood = a.each j was.0 was.1 in
     let here = t.own was.0 stood.stands in
     let ks : List LoneInstance = slice_set a.ls j here.now in
-    let step : MayStep (texts_beside j parents a.ls) e t.marked was.0 here.now t.orders =
-    subst (λ (ts : List Blob). MayStep ts e t.marked was.0 here.now t.orders) (own_read j configs h server.server has a) here.may in
+    let step : MayStep (texts_beside j parents a.ls) e.lone t.marked was.0 here.now t.orders =
+    subst (λ (ts : List Blob). MayStep ts e.lone t.marked was.0 here.now t.orders) (own_read j configs h server.server has a) here.may in
     let taken : IsTaken parents e t.marked a.ls (with_orders ks (map (ordered j) t.orders)) = record { was = was.0; there = was.1; now = here.now; orders = t.orders; step = step; so = refl } in
     let comes : Comes parents m (with_orders a.ls []) (x, t.marked) (with_orders ks (map (ordered j) t.orders)) = (
       refl,
@@ -337,7 +338,7 @@ event_more configs h server next before after j what x lt fits t has premise a =
             let now : here.now ≡ l = same_Some here.now l (sym (set_here a.ls j here.now was.0 was.1) ∙ subst (λ (k : ℕ). slice_get ks k ≡ Some l) same at) in
             let it : StandsServing (moment_behind (h ++ (x, t.marked) ∷ orders_of_one j t.orders)) j next.server.instances here.now = record {
               stands = here.stands;
-              times = later here.now.state.moment h j what x t.marked t.orders fits (may_within (texts_beside j parents a.ls) e t.marked was.0 here.now t.orders m step (omega arith) stood.times);
+              times = later here.now.state.moment h j what x t.marked t.orders fits (may_within (texts_beside j parents a.ls) e.lone t.marked was.0 here.now t.orders m step (omega arith) stood.times);
             } in
             subst (λ (k : ℕ). StandsServing (moment_behind (h ++ (x, t.marked) ∷ orders_of_one j t.orders)) k next.server.instances l) (sym same)
             (subst (λ (n : LoneInstance). StandsServing (moment_behind (h ++ (x, t.marked) ∷ orders_of_one j t.orders)) j next.server.instances n) now it)
@@ -504,9 +505,9 @@ next_written vs i c n bytes le pends before = λ m k l stands late. (
   (λ same.
       let here : StandsAt i vs l = subst (λ (x : ℕ). StandsAt x vs l) (sym same) stands in
       let waits : Some bytes ≡ option_map (λ (p : Past). pending_bytes p.history) (open_at c l.connections) = pends l here in
-      let counted : refusal_of (event_told m k (took c (length (take n bytes)))) l ≡ None =
-      ap (λ (x : ℕ). refusal_of (event_told m k (took c x)) l) (length-take-le n bytes le)
-      ∙ took_taken m k c n bytes l late le waits in
+      let counted : refusal_of (record { moment = m; what = took c (length (take n bytes)) }) l ≡ None =
+      ap (λ (x : ℕ). refusal_of (record { moment = m; what = took c x }) l) (length-take-le n bytes le)
+      ∙ took_taken m c n bytes l late le waits in
       (next_by n bytes (open_at c l.connections) le waits, counted)),
   tt,
 )

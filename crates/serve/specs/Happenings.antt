@@ -55,7 +55,7 @@ sockets_in h = fold sockets_on [] h
 -- which event it is, if it is one of an instance: what happens at its port, what a run of a job of
 -- it gave, and that it is told the time
 abbrev pub event_told : ℕ → ℕ → WhatValue → EventValue
-event_told m j what = record { moment = m; instance = j; what = what }
+event_told m j what = record { instance = j; lone = record { moment = m; what = what } }
 
 abbrev pub event_then : ℕ → Happening → Option EventValue
 event_then m (at_sockets (port j p)) = Some (event_told m j (what_of p))

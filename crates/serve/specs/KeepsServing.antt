@@ -7,7 +7,7 @@ use Rattle.instance_core.specs.Turns.{orders_meant}
 use Rattle.instance_core.specs.Visible.{Blob}
 use Rattle.server_events.specs.Configs.{ConfigValue, parents_of}
 use Rattle.server_events.specs.Faults.{AreParents}
-use Rattle.server_events.specs.Events.{EventValue}
+use Rattle.server_events.specs.Events.{EventValue, LoneEvent}
 use Rattle.served_instance.specs.Lone.{LoneInstance}
 use Rattle.served_instance.specs.StandsFor.{ServedState}
 use Rattle.server_core.specs.Parents.{parent_texts}
@@ -101,12 +101,12 @@ KeepsServingBegun run old was before m new is after n =
     (configs : List ConfigValue) → WasBegun run was →
     IsServing configs old was before m → IsServing configs new is after n
 
--- the instance of the event stands for what the event may make of it, with these orders
-pub record StandsAfter (parent : List Blob) (e : EventValue) (marked : Bool) (l : LoneInstance)
-    (orders : List OrderValue) (vs : List ServedState) : Type 0 where
+-- the instance of this number stands for what the event may make of it, with these orders
+pub record StandsAfter (i : ℕ) (parent : List Blob) (e : LoneEvent) (marked : Bool)
+    (l : LoneInstance) (orders : List OrderValue) (vs : List ServedState) : Type 0 where
   pub now : LoneInstance
   pub may : MayStep parent e marked l now orders
-  pub stands : StandsAt e.instance vs now
+  pub stands : StandsAt i vs now
 
 abbrev pub is_for_memory : EventRefusal → Bool
 is_for_memory NoMemory = true
@@ -125,7 +125,8 @@ pub record TakesEvent (e : EventValue) (server next : Counting)
   pub counted : next.cut ≡ cut_after server.cut marked
   pub carried : AddsRuns before after (map (ordered e.instance) orders)
   pub own : (l : LoneInstance) → StandsAt e.instance server.server.instances l
-      → StandsAfter (parent_texts e.instance server.server) e marked l orders next.server.instances
+      → StandsAfter e.instance (parent_texts e.instance server.server) e.lone marked l
+      orders next.server.instances
   pub others : (j : ℕ) → j ≢ e.instance
       → instance_at j next.server.instances ≡ instance_at j server.server.instances
   pub parents : next.server.parents ≡ server.server.parents

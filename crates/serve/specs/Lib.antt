@@ -11,6 +11,7 @@ pub mod Pace
 pub mod Absence
 pub mod KeepsOpen
 pub mod Silence
+pub mod Reads
 pub mod Logged
 pub mod LoggedRuns
 pub mod FaultLines

@@ -2,7 +2,7 @@
 -- Whoever trusts that can pass them over.
 -- a configuration; an event, what happened in it, and what a run gave
 pub use Rattle.server_events.specs.Configs.{ConfigValue}
-pub use Rattle.server_events.specs.Events.{EventValue, WhatValue}
+pub use Rattle.server_events.specs.Events.{EventValue, LoneEvent, WhatValue}
 pub use Rattle.run_outcomes.specs.Outcomes.{NodeKindValue, OutputNodeValue, OutputValue, ExitedValue, OutcomeValue}
 -- a text under its digest; what is ordered to be run, and what stands in its input root
 pub use Rattle.instance_core.specs.Visible.{Blob}

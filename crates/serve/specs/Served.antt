@@ -8,7 +8,7 @@ use Rattle.execution.specs.Orders.{OrderValue, task_of}
 use Rattle.instance_core.specs.Visible.{Blob}
 use Rattle.served_instance.specs.Bytes.{pending_bytes}
 use Rattle.server_events.specs.Configs.{ConfigValue, parents_of}
-use Rattle.server_events.specs.Events.{EventValue, took}
+use Rattle.server_events.specs.Events.{EventValue, LoneEvent, took}
 use Rattle.server_events.specs.Faults.{AreParents}
 use Rattle.served_instance.specs.Connections.{open_at}
 use Rattle.served_instance.specs.Lone.{LoneInstance, new_lone}
@@ -18,25 +18,25 @@ use Rattle.server_core.specs.Parents.{parent_at}
 use Rattle.serve.specs.SocketEvents.{SocketEvent, port, accepted, written, failed}
 use Rattle.serve.specs.Closings.{IsShutRightly}
 use Rattle.serve.specs.RunEvents.{RunEvent, ordered, lent}
-use Rattle.serve.specs.Happenings.{Happening, MarkedHappening, at_sockets, at_runs, cuts, run_event, timed_event, with_times, moment_then, sockets_then, event_told, event_then}
+use Rattle.serve.specs.Happenings.{Happening, MarkedHappening, at_sockets, at_runs, cuts, run_event, timed_event, with_times, moment_then, sockets_then, event_then}
 
 -- ---- what is right at the port of an instance, and at its runs
 
 -- the connection is open, and these are the first of the bytes that wait on it
-abbrev pub AreNextOn : ℕ → LoneInstance → List ℕ → Type 0
-AreNextOn c l bytes =
+abbrev pub AreNext : ℕ → LoneInstance → List ℕ → Type 0
+AreNext c l bytes =
     IsSomeAnd (open_at c l.connections) (λ p. StartsWith (pending_bytes p.history) bytes)
 
 -- these are the next bytes of a connection, and the instance counts them as taken
-abbrev pub AreBytesWritten : ℕ → ℕ → ℕ → List ℕ → LoneInstance → Type 0
-AreBytesWritten m i c bytes l =
-    AreNextOn c l bytes × (refusal_of (event_told m i (took c (length bytes))) l ≡ None)
+abbrev pub AreBytesWritten : ℕ → ℕ → List ℕ → LoneInstance → Type 0
+AreBytesWritten m c bytes l =
+    AreNext c l bytes × (refusal_of (record { moment = m; what = took c (length bytes) }) l ≡ None)
 
 -- a connection is accepted under a number that no open one has; what is written to one is what the
 -- instance has waiting on it then, and counts as taken; and what a run is lent is the task, with
 -- its texts, of the job of its number that runs then, and nothing where none does
 abbrev pub IsFaithful : ℕ → ℕ → LoneInstance → Happening → Type 0
-IsFaithful i m l (at_sockets (port j (written c bytes))) = j ≡ i → AreBytesWritten m i c bytes l
+IsFaithful i m l (at_sockets (port j (written c bytes))) = j ≡ i → AreBytesWritten m c bytes l
 IsFaithful i m l (at_sockets (port j (accepted c))) = j ≡ i → open_at c l.connections ≡ None
 IsFaithful i m l (at_runs (lent j job task)) = j ≡ i → task ≡ task_of job l.state.jobs
 IsFaithful i m l x = Unit {0}
@@ -54,7 +54,7 @@ AreShutRightly before ls x =
 -- what it may make of l, and order, while the parent has these texts: what it does by itself; or,
 -- where it is marked, since nothing else refuses it and memory was refused, a part of that, with no
 -- order
-abbrev pub MayStep : List Blob → EventValue → Bool → LoneInstance → LoneInstance →
+abbrev pub MayStep : List Blob → LoneEvent → Bool → LoneInstance → LoneInstance →
     List OrderValue → Type 0
 MayStep parent e false l k orders = (k ≡ lone_step parent e l) × (orders ≡ lone_orders parent e l)
 MayStep parent e true l k orders =
@@ -83,7 +83,7 @@ pub record IsTaken (parents : List (Option ℕ)) (e : EventValue) (marked : Bool
   pub there : slice_get ls e.instance ≡ Some was
   pub now : LoneInstance
   pub orders : List OrderValue
-  pub step : MayStep (texts_beside e.instance parents ls) e marked was now orders
+  pub step : MayStep (texts_beside e.instance parents ls) e.lone marked was now orders
   pub so : w ≡ with_orders (slice_set ls e.instance now) (map (ordered e.instance) orders)
 
 -- where it is an event it is taken; else all stay, and nothing is marked

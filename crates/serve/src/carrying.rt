@@ -130,21 +130,20 @@ pub(crate) fn tell<R: Runs>(
     what: What,
 ) -> Result<(), EventRefusal>
     ensures takes { TakesEvent
-        (record { moment = moment; instance = instance; what = what_value what })
+        (record { instance = instance; lone = record { moment = moment; what = what_value what } })
         counting.old counting.new (R.happened runs.old) (R.happened runs.new) }
     ensures no_fault { R.faulted runs.new ≡ R.faulted runs.old }
     // Each refusal has its reason, and but for want of memory changes nothing; where memory is
     // refused a part was done.
     ensures outcome { (l : LoneInstance) → StandsAt instance counting.old.server.instances l
-        → IsRefusalOutcome result (refusal_of
-        (record { moment = moment; instance = instance; what = what_value what }) l) }
+        → IsRefusalOutcome result
+        (refusal_of (record { moment = moment; what = what_value what }) l) }
     ensures refused { IfErr result (λ refusal. refusal ≢ EventRefusal.NoMemory
         → counting.new.server ≡ counting.old.server) }
     ensures short { result ≡ Err EventRefusal.NoMemory → (l : LoneInstance)
         → StandsAt instance counting.old.server.instances l
-        → StandsShortAt (parent_texts instance counting.old.server)
-        (record { moment = moment; instance = instance; what = what_value what }) l
-        counting.new.server.instances }
+        → StandsShortAt instance (parent_texts instance counting.old.server)
+        (record { moment = moment; what = what_value what }) l counting.new.server.instances }
 {
     let occurrence = occurrence_in(&what);
     let event = Event {

@@ -73,8 +73,8 @@ pub(crate) struct Rooms {
     payload: Vec<u8>,
     /// When the clock shows so many microseconds no further piece is read.
     pub(crate) until: u64,
-    /// Whether no piece has more than one frame.
-    pub(crate) is_by_frames: bool,
+    /// Whether the instance is known for long pieces, so that none has more than one frame.
+    pub(crate) is_long: bool,
 }
 
 impl Rooms {
@@ -83,7 +83,7 @@ impl Rooms {
             front: Vec::with_capacity(alloc, FRONT_LIMIT)?,
             payload: Vec::with_capacity(alloc, READ_LIMIT)?,
             until: 0,
-            is_by_frames: false,
+            is_long: false,
         })
     }
 }
@@ -124,7 +124,7 @@ fn receive<S: Sockets, R: Runs>(
     match sockets.read(socket, room) {
         Ok(count) => {
             opened.hear(moment, &room[..count]);
-            let bytes = piece_of(alloc, room, count, opened.read_limit(false));
+            let bytes = piece_of(alloc, room, count, opened.awaited());
             let came = What::Bytes(socket.connection, bytes);
             let _ = tell(counting, runs, moment, socket.instance, came);
             if count == 0 {
@@ -163,7 +163,7 @@ fn receive_all<S: Sockets, R: Runs>(
     let end = opened.received().saturating_add(MOST_READ);
     for _ in 0..MOST_PIECES {
         let before = opened.received();
-        let limit = opened.read_limit(rooms.is_by_frames);
+        let limit = opened.read_limit(&counting.server, rooms.is_long);
         let room = if opened.is_in_frame() {
             &mut rooms.payload
         } else {

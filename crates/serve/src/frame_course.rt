@@ -1,6 +1,7 @@
 //! How far the frame reaches that comes in on a connection.
 
-ghost use Rattle.std.specs.Prelude.{◌<◌, ◌≤◌};
+ghost use Rattle.std.specs.Prelude.{◌≡◌, ◌<◌, ◌≤◌, true};
+ghost use Rattle.serve.specs.Reads.{frame_rest};
 
 /// The most bytes that are read from a connection at a time.
 pub(crate) const READ_LIMIT: usize = 16_384;
@@ -45,11 +46,12 @@ impl FrameCourse {
         self.left > 0
     }
 
-    /// How many bytes are read now at most: the rest of a payload, or a short piece; or no more than
-    /// the head of a frame, so that no two calls are in one piece.
+    /// How many bytes are read now at most: the rest of a payload, or a short piece; or no more
+    /// than the head of a frame, so that no two calls end in one piece.
     pub(crate) fn read_limit(&self, is_by_frames: bool) -> usize
         ensures some { 0 < result }
         ensures bound { result ≤ 16384 }
+        ensures by_frames { is_by_frames ≡ true → result ≤ frame_rest self.now }
     {
         if self.left > 0 {
             READ_LIMIT.min(self.left as usize)

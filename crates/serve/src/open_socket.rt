@@ -1,10 +1,11 @@
 //! An open connection, and which of them makes room for another.
 
-ghost use Rattle.std.specs.Prelude.{◌≡◌, ◌+◌, ◌-◌, ◌<◌, ◌≤◌, ◌↔◌, length, min, IfSome, IsTrue};
+ghost use Rattle.std.specs.Prelude.{◌≡◌, ◌+◌, ◌-◌, ◌<◌, ◌≤◌, ◌↔◌, length, min, true, IfSome, IsTrue};
 ghost use Rattle.served_instance.specs.Lone.{LoneInstance};
 ghost use Rattle.server_core.specs.StandsFor.{StandsAt};
 ghost use Rattle.serve.specs.Closings.{silence_limit};
 ghost use Rattle.serve.specs.KeepsServing.{most_counted};
+ghost use Rattle.serve.specs.Reads.{HasSeveralHalves, frame_rest};
 ghost use Rattle.serve.specs.Silence.{MayMakeRoom, IsLongestSilent};
 
 use crate::frame_course::FrameCourse;
@@ -71,11 +72,24 @@ impl OpenSocket {
         self.course.is_in_frame()
     }
 
-    /// How many bytes are read from it now at most.
-    pub(crate) fn read_limit(&self, is_by_frames: bool) -> usize
+    /// How many bytes may come next that are worth room beside those that came now.
+    pub(crate) fn awaited(&self) -> usize {
+        self.course.read_limit(false)
+    }
+
+    /// How many bytes are read from it now at most: of no more than one frame where its instance is
+    /// known for long pieces, or few bytes may end several calls.
+    pub(crate) fn read_limit(&self, server: &Server, is_long: bool) -> usize
         ensures some { 0 < result }
         ensures bound { result ≤ 16384 }
+        ensures long { is_long ≡ true → result ≤ frame_rest self.now.course }
+        ensures apart { (l : LoneInstance)
+            → StandsAt self.now.socket.instance server.now.instances l
+            → HasSeveralHalves self.now.socket.connection l
+            → result ≤ frame_rest self.now.course }
     {
+        // Of a payload no more than the rest is read in any case.
+        let is_by_frames = is_long || self.is_in_frame() || has_several_halves(server, self.socket);
         self.course.read_limit(is_by_frames)
     }
 
@@ -107,6 +121,18 @@ impl OpenSocket {
         ensures { IsTrue result ↔ silence_limit self.now.received ≤ moment - self.now.heard }
     {
         moment.saturating_sub(self.heard) >= self.silence_limit()
+    }
+}
+
+/// Whether few bytes may end messages of two calls on a connection, or more: each may want no more
+/// than a frame of ten bytes.
+fn has_several_halves(server: &Server, socket: Socket) -> bool
+    ensures { (l : LoneInstance) → StandsAt socket.instance server.now.instances l
+        → (IsTrue result ↔ HasSeveralHalves socket.connection l) }
+{
+    match server.half_calls(socket.instance, socket.connection) {
+        Some(count) => count > 1,
+        None => false,
     }
 }
 

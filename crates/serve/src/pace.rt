@@ -4,7 +4,9 @@
 //! Of a turn each has a slice. One that used up its slice is heavy from the next turn on, until it
 //! leaves something of one. All others are quick: they have their slice in each turn. Of the heavy
 //! ones one at most has it, that had least so far, and only where nothing moved for quick ones, or
-//! where those had more than it.
+//! where those had more than it. Behind a slice that was used up it waits, for as long as that took,
+//! for those that had less and for which something moved just before: their clients answer within
+//! some microseconds, and a slice that was begun meanwhile would have them wait.
 //!
 //! Nobody is charged for time in which the server had no processor, as it was stopped, had used up a
 //! quota, or others had all processors. So of a piece of work that took longer than a slice it is
@@ -14,7 +16,7 @@ ghost use Rattle.std.specs.Prelude.{◌≡◌, ◌≢◌, ◌≤◌, ◌<◌, �
 ghost use Rattle.serve.specs.Pace.{AreChargedAtMost, IsOwed, MayHaveMore, most_charged};
 
 use crate::exchange::Tried;
-use crate::share::{DEAR, Share, UNUSED, Work, charged_of};
+use crate::share::{DEAR, MOST_REST, Share, UNUSED, Work, charged_of};
 use crate::sockets::{ProcessorTime, Sockets};
 use std::alloc::{AllocError, Global};
 
@@ -26,6 +28,9 @@ const LONG_KNOWN: u64 = 60_000_000;
 
 /// From how many microseconds on a run that was asked was not just found to wait.
 const WORTH_NOTING: u64 = 20;
+
+/// Within how many microseconds at least something moved for one for which heavy ones wait.
+const LEAST_HELD: u64 = 300;
 
 /// For how many milliseconds at most nothing is told where nothing comes and nothing runs.
 const QUIET_TIME: u64 = 50;
@@ -51,6 +56,10 @@ pub(crate) struct Pace {
     chosen: Option<u32>,
     /// Whether another heavy one was passed over in this turn that does not rest.
     is_passed_over: bool,
+    /// When the last turn had ended in which an instance used up its slice.
+    full_ended: u64,
+    /// What that one had of it.
+    full_took: u64,
     /// Whether it has it now, and the quick ones do not.
     is_heavy_now: bool,
     /// Whether its runs come before its connections in this turn.
@@ -77,6 +86,8 @@ impl Pace {
             processor: ProcessorTime { had: 0, lacked: 0 },
             chosen: None,
             is_passed_over: false,
+            full_ended: 0,
+            full_took: 0,
             is_heavy_now: false,
             runs_first: false,
             is_due: false,
@@ -104,12 +115,18 @@ impl Pace {
         self.asked = 0;
         self.is_spent = false;
         let mut number: u32 = 0;
+        let mut most = 0;
         for share in self.shares.iter_mut() {
+            most = most.max(share.spent);
             if share.spent > 0 || had_turn == Some(number) {
                 share.is_heavy = share.spent >= SLICE;
                 share.spent = 0;
             }
             number = number.wrapping_add(1);
+        }
+        if most >= SLICE {
+            self.full_ended = self.passed;
+            self.full_took = most.min(MOST_REST);
         }
     }
 
@@ -200,9 +217,25 @@ impl Pace {
                 chosen = None;
             }
         }
+        if self.is_held(least) {
+            chosen = None;
+        }
         self.chosen = chosen;
         self.runs_first = !self.runs_first;
         self.is_passed_over = self.passes_over();
+    }
+
+    /// Whether a heavy instance, that had so much, waits behind the last slice that was used up, for
+    /// as long as that took: another one had less, and something moved for it just before.
+    fn is_held(&self, had: u64) -> bool
+        ensures end { IsTrue result
+            → self.now.passed - self.now.full_ended < self.now.full_took }
+    {
+        if self.passed.saturating_sub(self.full_ended) >= self.full_took {
+            return false;
+        }
+        let patience = LEAST_HELD.max(self.full_took / 4);
+        self.shares.iter().any(|share| share.had < had && share.moved_within(self.passed, patience))
     }
 
     /// Whether a heavy instance is not the chosen one, and does not rest.

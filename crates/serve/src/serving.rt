@@ -380,7 +380,7 @@ impl Serving {
             let mut open = self.connections[at];
             let instance = open.socket.instance;
             self.rooms.until = self.pace.until();
-            self.rooms.is_by_frames = self.pace.is_long(instance);
+            self.rooms.is_long = self.pace.is_long(instance);
             let (counting, rooms) = (&mut self.counting, &mut self.rooms);
             let tried = exchange(
                 alloc,
@@ -423,12 +423,14 @@ impl Serving {
 /// the rest of a frame's payload, or where a frame begins 512 bytes. Then what waits on it is
 /// written. Of a turn an instance has 0.2 milliseconds, for its connections and its runs together;
 /// whoever used them up has them next as one of those that did, by turns, who had least first, and
-/// where nothing moved for others, or they had more. Of an instance for which a piece of work took a
-/// millisecond no more than a frame is in one piece for a minute. A piece of ten milliseconds ends
-/// the turn. Where another one was active within a second its instance rests then for as long as
-/// that took, or until nothing moved for a quarter of that. A connection on which nothing moved
-/// for 20 milliseconds is tried once a millisecond, until something moves on it again. A connection
-/// is closed where its client is gone or its socket failed, where an error of it was met and the
+/// where nothing moved for others, or they had more. For as long as the last such turn took it
+/// waits for one that had less, and for which something moved just before. Of an instance for which
+/// a piece of work took a millisecond no piece has more than a frame, for a minute, and none of a
+/// connection on which few bytes may end two calls or more. A piece of ten milliseconds ends the turn.
+/// Where another one was active within a second its instance rests then for as long as that took,
+/// or until nothing moved for a quarter of that. A connection on which nothing moved for 20
+/// milliseconds is tried once a millisecond, until something moves on it again. A connection is
+/// closed where its client is gone or its socket failed, where an error of it was met and the
 /// client was sent all that waited, and where memory was refused for what it sent, or as the time
 /// was told. Where an instance has as many as it may have and another client comes, that client's
 /// is closed, and so is one of the others: the longest silent of those with no call in course that

@@ -12,7 +12,7 @@ pub(crate) const DEAR: u64 = 10_000;
 pub(crate) const LONG: u64 = 1_000;
 
 /// For how many microseconds an instance rests at most after a dear piece.
-const MOST_REST: u64 = 10_000_000;
+pub(crate) const MOST_REST: u64 = 10_000_000;
 
 /// For how many microseconds after something moved for an instance it is active.
 const ACTIVE_TIME: u64 = 1_000_000;
@@ -83,8 +83,13 @@ pub(crate) const UNUSED: Share = Share {
 impl Share {
     /// Whether something moved for it within a second.
     pub(crate) fn is_active(&self, passed: u64) -> bool {
+        self.moved_within(passed, ACTIVE_TIME)
+    }
+
+    /// Whether something moved for it within so many microseconds before this moment.
+    pub(crate) fn moved_within(&self, passed: u64, time: u64) -> bool {
         match self.active {
-            Some(active) => passed.saturating_sub(active) < ACTIVE_TIME,
+            Some(active) => passed.saturating_sub(active) < time,
             None => false,
         }
     }

@@ -24,7 +24,7 @@ use Rattle.conn_core.proofs.Pumps.{pumped_is}
 use Rattle.instance_core.specs.Calls.{CallEventValue, tick as time_passes, start_jobs, end_late_jobs, end_job}
 use Rattle.instance_core.specs.Answer.{answer, state_after}
 use Rattle.instance_core.specs.Replies.{ReplyValue}
-use Rattle.server_events.specs.Events.{EventValue, WhatValue, opened, received, took, closed, tick, ended}
+use Rattle.server_events.specs.Events.{LoneEvent, WhatValue, opened, received, took, closed, tick, ended}
 use Rattle.std.specs.Option.{option_map_or}
 use Rattle.served_instance.specs.Connections.{LoneConnection, is_open_at, open_at, at_open, with_closed, at_all_open}
 use Rattle.served_instance.specs.Calls.{call_event_on, owed_items, with_items}
@@ -220,7 +220,7 @@ acted_more tick l =
     more_trans l m (after_call_event end_late_jobs m) (happened_more time_passes l) (happened_more end_late_jobs m)
 acted_more (ended job outcome) l = happened_more (end_job job outcome) l
 
-pub accepted_more : (parent : List Blob) (e : EventValue) (l : LoneInstance) → AreGrown (connections_after l.state.limits.window e.what l.connections) (after_event parent e l).connections
+pub accepted_more : (parent : List Blob) (e : LoneEvent) (l : LoneInstance) → AreGrown (connections_after l.state.limits.window e.what l.connections) (after_event parent e l).connections
 accepted_more parent e l =
     let m : LoneInstance = effect_of e.what (lone_at_moment e.moment parent l) in
     all_trans (connections_after l.state.limits.window e.what l.connections) m.connections (after_pump m).connections (acted_more e.what (lone_at_moment e.moment parent l)) (all_open_grow with_pumped pump_grows m.connections)

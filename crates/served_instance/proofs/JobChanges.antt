@@ -14,7 +14,7 @@ use Rattle.instance_core.specs.Calls.{CallEventValue, tick as time_passes, start
 use Rattle.instance_core.specs.Changes.{InstanceChange, Text, Goes, Ends, Wrote, Keeps, Expires, Does, Pushes, Settles, state_after_change, state_after_changes}
 use Rattle.instance_core.specs.State.{InstanceState}
 use Rattle.instance_core.specs.Visible.{Blob}
-use Rattle.server_events.specs.Events.{EventValue, WhatValue, opened, received, took, closed, tick, ended}
+use Rattle.server_events.specs.Events.{LoneEvent, WhatValue, opened, received, took, closed, tick, ended}
 use Rattle.served_instance.specs.declared.refusal.EventRefusal.{EventRefusal}
 use Rattle.served_instance.specs.Calls.{call_event_on}
 use Rattle.served_instance.specs.Connections.{open_at, with_closed}
@@ -110,7 +110,7 @@ effect_becomes (closed c) l =
 effect_becomes tick l = two_become time_passes end_late_jobs l
 effect_becomes (ended number outcome) l = happened_becomes (end_job number outcome) l
 
-pub stepped_become : (parent : List Blob) (e : EventValue) (l : LoneInstance) → Become l.state.jobs (lone_step parent e l).state.jobs
+pub stepped_become : (parent : List Blob) (e : LoneEvent) (l : LoneInstance) → Become l.state.jobs (lone_step parent e l).state.jobs
 stepped_become parent e l = go (refusal_of e l) where
   go : (o : Option EventRefusal) → Become l.state.jobs (after_event_unless parent e l o).state.jobs
   go None = effect_becomes e.what (lone_at_moment e.moment parent l)
@@ -134,5 +134,5 @@ cut_effect_becomes (ended n outcome) l m b =
     ended_becomes n l m b.left (ap (λ (x : LoneInstance). x.state.jobs) b.gone)
     (same_state l.state (state_after_changes b.made.made l.state) b.left b.made.so_far (changes_become b.made.made l.state))
 
-pub short_becomes : (parent : List Blob) (e : EventValue) (l m : LoneInstance) → Short parent e l m → Become l.state.jobs m.state.jobs
+pub short_becomes : (parent : List Blob) (e : LoneEvent) (l m : LoneInstance) → Short parent e l m → Become l.state.jobs m.state.jobs
 short_becomes parent e l m short = cut_effect_becomes e.what (lone_at_moment e.moment parent l) m short

@@ -22,7 +22,7 @@ use Rattle.instance_core.specs.Writes.{part_changes, first_part_changes, changes
 use Rattle.instance_core.specs.Answer.{answer, state_after, head_answer, first_write_answer, next_write_answer, first_message_answer, answer_by_progress, message_answer, fault_by_progress, fault_answer, call_change, end_answer_by_progress, request_end_answer, ending_changes}
 use Rattle.instance_core.specs.Apart.{IsCallOn}
 use Rattle.instance_core.proofs.NamedTexts.{all_append}
-use Rattle.server_events.specs.Events.{EventValue, WhatValue, opened, received, took, closed, tick, ended}
+use Rattle.server_events.specs.Events.{LoneEvent, WhatValue, opened, received, took, closed, tick, ended}
 use Rattle.served_instance.specs.Lone.{LoneInstance, lone_at_moment}
 use Rattle.served_instance.specs.Events.{bytes_events}
 use Rattle.served_instance.specs.Losses.{KeepsJobs, IsNoOutcome}
@@ -215,7 +215,7 @@ effect_keeps (closed c) l m other h = absurd h
 effect_keeps tick l m other is = subst (λ (k : LoneInstance). KeepsJobs l.state.jobs k.state.jobs) (sym is) (same_kept l.state.jobs)
 effect_keeps (ended job outcome) l m other h = absurd other
 
-pub short_keeps : (parent : List Blob) (e : EventValue) (l m : LoneInstance) → IsNoOutcome e.what → Short parent e l m → KeepsJobs l.state.jobs m.state.jobs
+pub short_keeps : (parent : List Blob) (e : LoneEvent) (l m : LoneInstance) → IsNoOutcome e.what → Short parent e l m → KeepsJobs l.state.jobs m.state.jobs
 short_keeps parent e l m other h = effect_keeps e.what (lone_at_moment e.moment parent l) m other h
 
 -- ---- the outcome of a job
@@ -251,7 +251,7 @@ ended_without n outcome l m h =
     let same : h.left.jobs ≡ l.state.jobs = ap (λ (x : InstanceState). x.jobs) h.made.so_far ∙ stored_same h.made.made h.made.left l.state all in
     ap (λ (k : LoneInstance). k.state.jobs) h.gone ∙ ap (jobs_without n) same
 
-pub short_ends : (parent : List Blob) (e : EventValue) (l m : LoneInstance) (n : ℕ) (outcome : OutcomeValue) → e.what ≡ ended n outcome → Short parent e l m → m.state.jobs ≡ jobs_without n l.state.jobs
+pub short_ends : (parent : List Blob) (e : LoneEvent) (l m : LoneInstance) (n : ℕ) (outcome : OutcomeValue) → e.what ≡ ended n outcome → Short parent e l m → m.state.jobs ≡ jobs_without n l.state.jobs
 short_ends parent e l m n outcome is h =
     let at = lone_at_moment e.moment parent l in
     ended_without n outcome at m (subst (λ (w : WhatValue). IsCutEffect w at m) is h)

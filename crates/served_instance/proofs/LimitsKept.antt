@@ -19,7 +19,7 @@ use Rattle.instance_core.specs.Naming.{Names}
 use Rattle.instance_core.specs.State.{seeing, InstanceState, IsInstanceWithin, at_moment}
 use Rattle.instance_core.specs.Answer.{answer, state_after}
 use Rattle.instance_core.specs.Replies.{ReplyValue}
-use Rattle.server_events.specs.Events.{EventValue, WhatValue, opened, received, took, closed, tick, ended}
+use Rattle.server_events.specs.Events.{LoneEvent, WhatValue, opened, received, took, closed, tick, ended}
 use Rattle.served_instance.specs.declared.refusal.EventRefusal.{EventRefusal}
 use Rattle.served_instance.specs.Connections.{LoneConnection, is_open_at, open_at, at_open, with_closed, at_all_open}
 use Rattle.served_instance.specs.Calls.{call_event_on, owed_items, with_items}
@@ -163,7 +163,7 @@ AreNamed bs = AllByRecursion (λ (b : Blob). Names b.0 b.1) bs
 pub seeing_within : (parent : List Blob) (s : InstanceState) → AreNamed parent → IsInstanceWithin s → IsInstanceWithin (seeing parent s)
 seeing_within parent s named w = record { quota = w.quota; limits = w.limits; texts = w.texts; uploads = w.uploads; results = w.results; slots = w.slots; jobs = w.jobs; running = w.running; whole = w.whole; told = w.told; calls = w.calls; messages = w.messages; parent = named }
 
-accepted_keeps : (parent : List Blob) (e : EventValue) (l : LoneInstance) → AreNamed parent → IsNarrowWhat e.what → Keeps l (after_event parent e l)
+accepted_keeps : (parent : List Blob) (e : LoneEvent) (l : LoneInstance) → AreNamed parent → IsNarrowWhat e.what → Keeps l (after_event parent e l)
 accepted_keeps parent e l named narrow h =
     let m = acted_keeps e.what (lone_at_moment e.moment parent l) narrow (record { within = seeing_within parent (at_moment e.moment l.state) named (moment_within e.moment l.state h.within); short = h.short }) in
     record {
@@ -171,6 +171,6 @@ accepted_keeps parent e l named narrow h =
       short = all_open_short with_pumped (λ p short. short) (effect_of e.what (lone_at_moment e.moment parent l)).connections m.short;
     }
 
-pub stepped_keeps : (parent : List Blob) (e : EventValue) (l : LoneInstance) (o : Option EventRefusal) → AreNamed parent → IsNarrowWhat e.what → Keeps l (after_event_unless parent e l o)
+pub stepped_keeps : (parent : List Blob) (e : LoneEvent) (l : LoneInstance) (o : Option EventRefusal) → AreNamed parent → IsNarrowWhat e.what → Keeps l (after_event_unless parent e l o)
 stepped_keeps parent e l None named narrow h = accepted_keeps parent e l named narrow h
 stepped_keeps parent e l (Some refusal) named narrow h = h

@@ -8,7 +8,7 @@ use Rattle.instance_core.specs.Changes.{InstanceChange, Settles, MadeInPart}
 use Rattle.instance_core.specs.State.{InstanceState}
 use Rattle.instance_core.specs.Visible.{Blob}
 use Rattle.instance_core.proofs.Losses.{front_is_by_rule}
-use Rattle.server_events.specs.Events.{EventValue, WhatValue, opened, received, took, closed, tick, ended}
+use Rattle.server_events.specs.Events.{LoneEvent, WhatValue, opened, received, took, closed, tick, ended}
 use Rattle.served_instance.specs.Lone.{LoneInstance, lone_at_moment}
 use Rattle.served_instance.specs.Events.{bytes_events}
 use Rattle.served_instance.specs.Losses.{IsMadeByRule, AreMadeByRule, LosesByRules, events_of}
@@ -67,5 +67,5 @@ effect_loses (ended n outcome) l m h = record {
   uploads = ap (λ (k : LoneInstance). k.state.uploads) h.gone;
 }
 
-pub short_loses : (parent : List Blob) (e : EventValue) (l m : LoneInstance) → Short parent e l m → LosesByRules (events_of e.what (lone_at_moment e.moment parent l)) (lone_at_moment e.moment parent l).state m.state
+pub short_loses : (parent : List Blob) (e : LoneEvent) (l m : LoneInstance) → Short parent e l m → LosesByRules (events_of e.what (lone_at_moment e.moment parent l)) (lone_at_moment e.moment parent l).state m.state
 short_loses parent e l m h = effect_loses e.what (lone_at_moment e.moment parent l) m h

@@ -19,7 +19,7 @@ use Rattle.instance_core.specs.State.{InstanceState}
 use Rattle.instance_core.specs.Replies.{ReplyValue}
 use Rattle.instance_core.specs.Changes.{InstanceChange, Text, Goes, Ends, Wrote, Keeps, Expires, Does, Pushes, Settles, state_after_change, state_after_changes}
 use Rattle.instance_core.specs.Answer.{answer, state_after}
-use Rattle.server_events.specs.Events.{EventValue, WhatValue, opened, received, took, closed, tick, ended}
+use Rattle.server_events.specs.Events.{LoneEvent, WhatValue, opened, received, took, closed, tick, ended}
 use Rattle.served_instance.specs.declared.refusal.EventRefusal.{EventRefusal}
 use Rattle.served_instance.specs.declared.refusal.EventRefusal.TheVariants.{TimeWentBack, NoSuchConnection, TookTooMuch}
 use Rattle.served_instance.specs.Connections.{open_at, at_open, with_closed}
@@ -91,12 +91,12 @@ acted_moment (closed c) l = all_happened_moment c (option_map_or (λ p. cancels 
 acted_moment tick l = happened_moment end_late_jobs (after_call_event time_passes l) ∙ happened_moment time_passes l
 acted_moment (ended job outcome) l = happened_moment (end_job job outcome) l
 
-stepped_within : (parent : List Blob) (e : EventValue) (l : LoneInstance) (m : ℕ) (refusal : Option EventRefusal) → e.moment ≤ m → l.state.moment ≤ m → (after_event_unless parent e l refusal).state.moment ≤ m
+stepped_within : (parent : List Blob) (e : LoneEvent) (l : LoneInstance) (m : ℕ) (refusal : Option EventRefusal) → e.moment ≤ m → l.state.moment ≤ m → (after_event_unless parent e l refusal).state.moment ≤ m
 stepped_within parent e l m None le late = subst (λ (n : ℕ). n ≤ m) (sym (acted_moment e.what (lone_at_moment e.moment parent l))) le
 stepped_within parent e l m (Some refusal) le late = late
 
 -- after an event an instance is not later than the event and than it was
-pub step_within : (parent : List Blob) (e : EventValue) (l : LoneInstance) (m : ℕ) → e.moment ≤ m → l.state.moment ≤ m → (lone_step parent e l).state.moment ≤ m
+pub step_within : (parent : List Blob) (e : LoneEvent) (l : LoneInstance) (m : ℕ) → e.moment ≤ m → l.state.moment ≤ m → (lone_step parent e l).state.moment ≤ m
 step_within parent e l m le late = stepped_within parent e l m (refusal_of e l) le late
 
 -- ---- that bytes were taken is not refused
@@ -110,7 +110,7 @@ taken_by n bytes (Some p) le is =
     let same : length bytes ≡ untaken_count p.history = ap length (same_Some bytes (pending_bytes p.history) is) in
     off (nat_lt (untaken_count p.history) n) (Some TookTooMuch) None (le-ltb (untaken_count p.history) n (subst (λ (k : ℕ). n ≤ k) same le))
 
-pub took_taken : (m i c n : ℕ) (bytes : List ℕ) (l : LoneInstance) → l.state.moment ≤ m → n ≤ length bytes → Some bytes ≡ option_map (λ (p : Past). pending_bytes p.history) (open_at c l.connections) → refusal_of (record { moment = m; instance = i; what = took c n }) l ≡ None
-took_taken m i c n bytes l late le is =
+pub took_taken : (m c n : ℕ) (bytes : List ℕ) (l : LoneInstance) → l.state.moment ≤ m → n ≤ length bytes → Some bytes ≡ option_map (λ (p : Past). pending_bytes p.history) (open_at c l.connections) → refusal_of (record { moment = m; what = took c n }) l ≡ None
+took_taken m c n bytes l late le is =
     off (nat_lt m l.state.moment) (Some TimeWentBack) (refusal_of_what (took c n) l) (le-ltb m l.state.moment late)
     ∙ taken_by n bytes (open_at c l.connections) le is

@@ -1,15 +1,15 @@
 -- What is refused by what is kept is refused by all that happened.
 use Rattle.std.proofs.Common.{◌≡◌, ◌<◌, ◌≤◌, refl, sym, ap, ◌∙◌, subst, get_or}
 use Rattle.std.proofs.lemmas.Bool.{le-ltb, lt-ltb}
-use Rattle.std.specs.Prelude.{ℕ, nat_le, nat_lt, ◌==◌, ◌&&◌, if◌then◌else◌, Bool, true, false, not, List, [], length, map, position, Option, Some, None, Err}
+use Rattle.std.specs.Prelude.{ℕ, nat_le, nat_lt, ◌==◌, ◌&&◌, if◌then◌else◌, Bool, true, false, not, List, [], length, map, count_by, position, Option, Some, None, Err}
 use Rattle.std.specs.List.{list_any}
 use Rattle.std.specs.Option.{is_some, option_map, option_map_or}
 use Rattle.conn_core.specs.History.{has_failed}
 use Rattle.grpc_sending.specs.Bytes.{pending_bytes, untaken_count}
 use Rattle.grpc_sending.specs.StoredSending.{SourceTexts}
 use Rattle.blob_pool.specs.Slots.{Slots, text_at}
-use Rattle.conn_core.specs.CallsInCourse.{has_calls}
-use Rattle.conn_core.proofs.CallsInCourse.{is_whole, same_calls}
+use Rattle.conn_core.specs.CallsInCourse.{has_calls, half_calls, is_kept_half}
+use Rattle.conn_core.proofs.CallsInCourse.{is_whole, same_calls, same_half_calls}
 use Rattle.conn_core.specs.Past.{Past}
 use Rattle.conn_core.specs.StandsFor.{ConnectionValue}
 use Rattle.job_queue.specs.Jobs.{Jobs, running_job}
@@ -17,7 +17,7 @@ use Rattle.execution.specs.Job.{JobValue}
 use Rattle.execution.specs.declared.job.Job.{Job}
 use Rattle.execution.specs.InPool.{jobs_in, job_in}
 use Rattle.execution.proofs.Taken.{shown-running}
-use Rattle.server_events.specs.Events.{EventValue, WhatValue, opened, received, took, closed, tick, ended}
+use Rattle.server_events.specs.Events.{LoneEvent, WhatValue, opened, received, took, closed, tick, ended}
 use Rattle.served_instance.specs.declared.refusal.EventRefusal.{EventRefusal}
 use Rattle.served_instance.specs.declared.refusal.EventRefusal.TheVariants.{NoSuchInstance, TimeWentBack, ConnectionExists, TooManyConnections, NoSuchConnection, NoSuchJob, TookTooMuch, NoMemory}
 use Rattle.served_instance.specs.Connections.{open_ones, open_at}
@@ -77,6 +77,15 @@ same_presence_of_calls texts (Some v) (Some p) s = ap Some (same_calls texts v p
 same_presence_of_calls texts None (Some p) s = absurd s
 same_presence_of_calls texts (Some v) None s = absurd s
 
+abbrev pub half_kept : ConnectionValue → ℕ
+half_kept v = if v.ended then 0 else count_by (is_kept_half v.calls) v.streams.live
+
+pub same_number_of_half_calls : (texts : SourceTexts) (a : Option ConnectionValue) (b : Option Past) → SameAt texts a b → option_map half_kept a ≡ option_map (λ (p : Past). half_calls p.history) b
+same_number_of_half_calls texts None None s = refl
+same_number_of_half_calls texts (Some v) (Some p) s = ap Some (same_half_calls texts v p s)
+same_number_of_half_calls texts None (Some p) s = absurd s
+same_number_of_half_calls texts (Some v) None s = absurd s
+
 pub same_ended : (texts : SourceTexts) (a : Option ConnectionValue) (b : Option Past) → SameAt texts a b → option_map (λ (v : ConnectionValue). v.ended) a ≡ option_map (λ (p : Past). has_failed p.history) b
 same_ended texts None None s = refl
 same_ended texts (Some v) (Some p) s = ap Some s.ended
@@ -107,7 +116,7 @@ same_by_what p (closed c) jobs vs l e s n = same_unless (text_at p) _ _ (Some No
 same_by_what p tick jobs vs l e s n = refl
 same_by_what p (ended job outcome) jobs vs l e s n = same_running p job jobs l.state e
 
-pub same_refusal : (p : Slots) (e : EventValue) (v : ServedSlots) (l : LoneInstance) → RangesEndWithin (text_at p) v.connections → IsServedInstance (served_state_in p v) l → refusal_by e v ≡ refusal_of e l
+pub same_refusal : (p : Slots) (e : LoneEvent) (v : ServedSlots) (l : LoneInstance) → RangesEndWithin (text_at p) v.connections → IsServedInstance (served_state_in p v) l → refusal_by e v ≡ refusal_of e l
 same_refusal p e v l fit s =
     let texts = text_at p in
     let vs = v.connections in
@@ -156,7 +165,7 @@ pub enough_waits : (n : ℕ) (v : ConnectionValue) → n ≤ length v.sending.pe
 enough_waits n v h = none_by (nat_lt (length v.sending.pending) n) (le-ltb (length v.sending.pending) n h)
 
 -- by connections that were seen through a slice
-pub seen_refusal : (e : EventValue) (i : InstanceSlots) (xs os : List OpenConnection) (v : ServedSlots) (r : Option EventRefusal) → xs ≡ os → slots_of i os ≡ v → r ≡ refusal_by e (slots_of i xs) → r ≡ refusal_by e v
+pub seen_refusal : (e : LoneEvent) (i : InstanceSlots) (xs os : List OpenConnection) (v : ServedSlots) (r : Option EventRefusal) → xs ≡ os → slots_of i os ≡ v → r ≡ refusal_by e (slots_of i xs) → r ≡ refusal_by e v
 seen_refusal e i xs os v r seen is h = h ∙ ap (λ (ys : List OpenConnection). refusal_by e (slots_of i ys)) seen ∙ ap (refusal_by e) is
 
 -- ---- what comes of an event
@@ -186,7 +195,7 @@ reason_by_what (ended job outcome) jobs vs = go (is_some (running_job job jobs))
   go true = tt
   go false = tt
 
-is_reason : (e : EventValue) (v : ServedSlots) → IsReason (refusal_by e v)
+is_reason : (e : LoneEvent) (v : ServedSlots) → IsReason (refusal_by e v)
 is_reason e v = reason_if (nat_lt e.moment v.instance.moment) TimeWentBack (refusal_by_what e.what v.instance.jobs v.connections) tt (reason_by_what e.what v.instance.jobs v.connections)
 
 outcome_of : (A : Type 0) (r : EventRefusal) (reason : Option EventRefusal) → IsReason (Some r) → reason ≡ Some r → IsRefusalOutcome {A = A} (Err r) reason
@@ -199,31 +208,31 @@ outcome_of A TimeWentBack reason h e = e
 outcome_of A TookTooMuch reason h e = e
 outcome_of A NoMemory reason h e = absurd h
 
-pub no_reason : (p : Slots) (e : EventValue) (v : ServedSlots) (l : LoneInstance) → None ≡ refusal_by e v → RangesEndWithin (text_at p) v.connections → IsServedInstance (served_state_in p v) l → refusal_of e l ≡ None
+pub no_reason : (p : Slots) (e : LoneEvent) (v : ServedSlots) (l : LoneInstance) → None ≡ refusal_by e v → RangesEndWithin (text_at p) v.connections → IsServedInstance (served_state_in p v) l → refusal_of e l ≡ None
 no_reason p e v l h fit s = sym (same_refusal p e v l fit s) ∙ sym h
 
-reason : (p : Slots) (e : EventValue) (v : ServedSlots) (l : LoneInstance) (r : EventRefusal) → Some r ≡ refusal_by e v → RangesEndWithin (text_at p) v.connections → IsServedInstance (served_state_in p v) l → refusal_of e l ≡ Some r
+reason : (p : Slots) (e : LoneEvent) (v : ServedSlots) (l : LoneInstance) (r : EventRefusal) → Some r ≡ refusal_by e v → RangesEndWithin (text_at p) v.connections → IsServedInstance (served_state_in p v) l → refusal_of e l ≡ Some r
 reason p e v l r h fit s = sym (same_refusal p e v l fit s) ∙ sym h
 
-pub refused_outcome : (p : Slots) (A : Type 0) (e : EventValue) (v : ServedSlots) (l : LoneInstance) (r : EventRefusal) → Some r ≡ refusal_by e v → RangesEndWithin (text_at p) v.connections → IsServedInstance (served_state_in p v) l → IsRefusalOutcome {A = A} (Err r) (refusal_of e l)
+pub refused_outcome : (p : Slots) (A : Type 0) (e : LoneEvent) (v : ServedSlots) (l : LoneInstance) (r : EventRefusal) → Some r ≡ refusal_by e v → RangesEndWithin (text_at p) v.connections → IsServedInstance (served_state_in p v) l → IsRefusalOutcome {A = A} (Err r) (refusal_of e l)
 refused_outcome p A e v l r h fit s = outcome_of A r (refusal_of e l) (subst IsReason (sym h) (is_reason e v)) (reason p e v l r h fit s)
 
-pub kept_at_refusal : (parent : List Blob) (p : Slots) (e : EventValue) (v : ServedSlots) (l : LoneInstance) (r : EventRefusal) → Some r ≡ refusal_by e v → RangesEndWithin (text_at p) v.connections → IsServedInstance (served_state_in p v) l → IsServedInstance (served_state_in p v) (lone_step parent e l)
+pub kept_at_refusal : (parent : List Blob) (p : Slots) (e : LoneEvent) (v : ServedSlots) (l : LoneInstance) (r : EventRefusal) → Some r ≡ refusal_by e v → RangesEndWithin (text_at p) v.connections → IsServedInstance (served_state_in p v) l → IsServedInstance (served_state_in p v) (lone_step parent e l)
 kept_at_refusal parent p e v l r h fit s =
     let P : Option EventRefusal → Type 0 = λ o. IsServedInstance (served_state_in p v) (after_event_unless parent e l o) in
     subst P (sym (reason p e v l r h fit s)) s
 
-pub stands_accepted : (parent : List Blob) (p : Slots) (e : EventValue) (v : ServedSlots) (w : ServedState) (l : LoneInstance) → None ≡ refusal_by e v → RangesEndWithin (text_at p) v.connections → IsServedInstance (served_state_in p v) l → IsServedInstance w (after_event parent e l) → IsServedInstance w (lone_step parent e l)
+pub stands_accepted : (parent : List Blob) (p : Slots) (e : LoneEvent) (v : ServedSlots) (w : ServedState) (l : LoneInstance) → None ≡ refusal_by e v → RangesEndWithin (text_at p) v.connections → IsServedInstance (served_state_in p v) l → IsServedInstance w (after_event parent e l) → IsServedInstance w (lone_step parent e l)
 stands_accepted parent p e v w l h fit s a =
     let P : Option EventRefusal → Type 0 = λ o. IsServedInstance w (after_event_unless parent e l o) in
     subst P (sym (no_reason p e v l h fit s)) a
 
-pub settled_accepted : (parent : List Blob) (p : Slots) (e : EventValue) (v : ServedSlots) (l : LoneInstance) → None ≡ refusal_by e v → RangesEndWithin (text_at p) v.connections → IsServedInstance (served_state_in p v) l → AreSettled (after_event parent e l) → AreSettled (lone_step parent e l)
+pub settled_accepted : (parent : List Blob) (p : Slots) (e : LoneEvent) (v : ServedSlots) (l : LoneInstance) → None ≡ refusal_by e v → RangesEndWithin (text_at p) v.connections → IsServedInstance (served_state_in p v) l → AreSettled (after_event parent e l) → AreSettled (lone_step parent e l)
 settled_accepted parent p e v l h fit s a =
     let P : Option EventRefusal → Type 0 = λ o. AreSettled (after_event_unless parent e l o) in
     subst P (sym (no_reason p e v l h fit s)) a
 
-pub orders_accepted : (parent : List Blob) (p : Slots) (e : EventValue) (v : ServedSlots) (l : LoneInstance) (after : Jobs JobValue) (orders : List Order) → None ≡ refusal_by e v → RangesEndWithin (text_at p) v.connections → IsServedInstance (served_state_in p v) l → AreOrders after orders (orders_of_what e.what (lone_at_moment e.moment parent l)) → AreOrders after orders (lone_orders parent e l)
+pub orders_accepted : (parent : List Blob) (p : Slots) (e : LoneEvent) (v : ServedSlots) (l : LoneInstance) (after : Jobs JobValue) (orders : List Order) → None ≡ refusal_by e v → RangesEndWithin (text_at p) v.connections → IsServedInstance (served_state_in p v) l → AreOrders after orders (orders_of_what e.what (lone_at_moment e.moment parent l)) → AreOrders after orders (lone_orders parent e l)
 orders_accepted parent p e v l after orders h fit s are =
     let P : Option EventRefusal → Type 0 = λ o. AreOrders after orders (orders_unless parent e l o) in
     subst P (sym (no_reason p e v l h fit s)) are
@@ -232,12 +241,12 @@ orders_accepted parent p e v l after orders h fit s are =
 pub came_stands : (parent : List Blob) (texts : SourceTexts) (m : ℕ) (s t : InstanceState) (os : List OpenConnection) (l : LoneInstance) → t ≡ at_moment m s → StandsBy texts s os l → StandsBy texts (seeing parent t) os (lone_at_moment m parent l)
 came_stands parent texts m s t os l e st = record { state = ap (seeing parent) (e ∙ ap (at_moment m) st.state); connections = st.connections }
 
-pub not_elsewhere : (e : EventValue) (v : ServedSlots) (r : EventRefusal) → Some r ≡ refusal_by e v → r ≡ NoSuchInstance → ⊥
+pub not_elsewhere : (e : LoneEvent) (v : ServedSlots) (r : EventRefusal) → Some r ≡ refusal_by e v → r ≡ NoSuchInstance → ⊥
 not_elsewhere e v r h x =
     let P : EventRefusal → Type 0 = λ y. IsReason (Some y) in
     subst P x (subst IsReason (sym h) (is_reason e v))
 
-pub not_for_memory : (e : EventValue) (v : ServedSlots) (r : EventRefusal) → Some r ≡ refusal_by e v → r ≡ NoMemory → ⊥
+pub not_for_memory : (e : LoneEvent) (v : ServedSlots) (r : EventRefusal) → Some r ≡ refusal_by e v → r ≡ NoMemory → ⊥
 not_for_memory e v r h x =
     let P : EventRefusal → Type 0 = λ y. IsReason (Some y) in
     subst P x (subst IsReason (sym h) (is_reason e v))
@@ -246,7 +255,7 @@ what_by : (b : Bool) (r : Option EventRefusal) → (if b then Some TimeWentBack 
 what_by true r h = cc
 what_by false r h = h
 
-pub accepted_what : (e : EventValue) (v : ServedSlots) → refusal_by e v ≡ None → refusal_by_what e.what v.instance.jobs v.connections ≡ None
+pub accepted_what : (e : LoneEvent) (v : ServedSlots) → refusal_by e v ≡ None → refusal_by_what e.what v.instance.jobs v.connections ≡ None
 accepted_what e v h = what_by (nat_lt e.moment v.instance.moment) (refusal_by_what e.what v.instance.jobs v.connections) h
 
 -- whatever the pool is

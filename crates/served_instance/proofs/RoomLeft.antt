@@ -12,7 +12,7 @@ use Rattle.instance_core.specs.Changes.{InstanceChange, Text, Goes, Ends, Wrote,
 use Rattle.instance_core.specs.Answer.{answer, state_after, ending_changes, steps_at}
 use Rattle.instance_core.specs.Room.{all_touched, IsOneOf, LosesForRoom}
 use Rattle.instance_core.proofs.RoomMade.{Holds, of_both, part_holds, loses_from, touched_front}
-use Rattle.server_events.specs.Events.{EventValue, WhatValue, opened, received, took, closed, tick, ended}
+use Rattle.server_events.specs.Events.{LoneEvent, WhatValue, opened, received, took, closed, tick, ended}
 use Rattle.served_instance.specs.Lone.{LoneInstance, lone_at_moment}
 use Rattle.served_instance.specs.Events.{bytes_events}
 use Rattle.served_instance.specs.Room.{touched_by, touched_at}
@@ -80,7 +80,7 @@ effect_holds (closed c) l m ds b cut one h = absurd cut
 effect_holds tick l m ds b same one h = subst (λ (k : LoneInstance). HoldsWithin (given l.state) ds b k.state.visible) (sym same) h
 effect_holds (ended n outcome) l m ds b cut one h = ended_holds n outcome l m ds b cut one h
 
-pub short_loses_for_room : (parent : List Blob) (e : EventValue) (l m : LoneInstance) → IsInstanceWithin l.state → Short parent e l m
+pub short_loses_for_room : (parent : List Blob) (e : LoneEvent) (l m : LoneInstance) → IsInstanceWithin l.state → Short parent e l m
     → LosesForRoom l.state.limits.blobs l.state.quota (touched_at e.what (lone_at_moment e.moment parent l)) l.state.visible m.state.visible
 short_loses_for_room parent e l m w h =
     let here : LoneInstance = lone_at_moment e.moment parent l in

@@ -26,7 +26,7 @@ use Rattle.instance_core.specs.Watching.{WatchAtRest, WatchDuring}
 use Rattle.instance_core.proofs.NamedTexts.{all_append}
 use Rattle.instance_core.proofs.WatchKept.{IsWatched, open_given, made_watched, event_watched, all_filtered}
 use Rattle.instance_core.proofs.WatchTold.{starts_rest, late_rest, ended_rest, tick_rest, cancel_rest, told_there}
-use Rattle.server_events.specs.Events.{EventValue, WhatValue, opened, received, took, closed, tick, ended}
+use Rattle.server_events.specs.Events.{LoneEvent, WhatValue, opened, received, took, closed, tick, ended}
 use Rattle.served_instance.specs.Connections.{open_at, at_open, with_closed}
 use Rattle.served_instance.specs.Calls.{call_id, call_event_on}
 use Rattle.served_instance.specs.Lone.{LoneInstance, after_call_event, after_call_events, due_at, without_due, after_due_on, after_frame_on, is_over, after_frames_on, after_fault_on, after_end_on, unread_frames, after_reading_on, after_bytes_on, after_closing, effect_of, lone_at_moment, after_event}
@@ -216,7 +216,7 @@ acted_rest tick l w h =
 acted_rest (ended job outcome) l w h = happened_rest (end_job job outcome) l (ended_rest l.state job outcome h)
 
 -- neither the moment nor what is seen of the parent matters
-pub accepted_watched : (parent : List Blob) (e : EventValue) (l : LoneInstance) → AreJobs l.state.jobs → WatchAtRest l.state → WatchAtRest (after_event parent e l).state
+pub accepted_watched : (parent : List Blob) (e : LoneEvent) (l : LoneInstance) → AreJobs l.state.jobs → WatchAtRest l.state → WatchAtRest (after_event parent e l).state
 accepted_watched parent e l w h =
     let at : WatchAtRest (lone_at_moment e.moment parent l).state = record { given = h.given; busy = h.busy } in
     let done = acted_rest e.what (lone_at_moment e.moment parent l) w at in
@@ -241,5 +241,5 @@ cut_rest (closed c) l m is w h = absurd is
 cut_rest tick l m is w h = same_lone _ m is (broken_all_rest (state_after l.state time_passes) l)
 cut_rest (ended job outcome) l m b w h = same_lone _ m b.gone (broken_all_rest (without_job job b.left) l)
 
-pub short_watched : (parent : List Blob) (e : EventValue) (l m : LoneInstance) → Short parent e l m → AreJobs l.state.jobs → WatchAtRest l.state → WatchAtRest m.state
+pub short_watched : (parent : List Blob) (e : LoneEvent) (l m : LoneInstance) → Short parent e l m → AreJobs l.state.jobs → WatchAtRest l.state → WatchAtRest m.state
 short_watched parent e l m short w h = cut_rest e.what (lone_at_moment e.moment parent l) m short w (record { given = h.given; busy = h.busy })

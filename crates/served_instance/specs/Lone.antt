@@ -26,7 +26,7 @@ use Rattle.instance_core.specs.State.{InstanceState, LimitsValue, new_instance, 
 use Rattle.instance_core.specs.Visible.{Blob}
 use Rattle.instance_core.specs.Replies.{ReplyValue}
 use Rattle.instance_core.specs.Answer.{answer, orders_at, state_after}
-use Rattle.server_events.specs.Events.{EventValue, WhatValue, opened, received, took, closed, tick, ended}
+use Rattle.server_events.specs.Events.{LoneEvent, WhatValue, opened, received, took, closed, tick, ended}
 use Rattle.served_instance.specs.Connections.{LoneConnection, open_at, at_open, with_closed, at_all_open}
 use Rattle.served_instance.specs.Calls.{call_event_on, owed_items, with_items}
 
@@ -166,7 +166,7 @@ lone_at_moment moment parent l = record l { state = state_at_event moment parent
 abbrev pub lone_at_rest : LoneInstance → LoneInstance
 lone_at_rest l = record l { state = seeing [] l.state }
 
-abbrev pub after_event : List Blob → EventValue → LoneInstance → LoneInstance
+abbrev pub after_event : List Blob → LoneEvent → LoneInstance → LoneInstance
 after_event parent e l =
     after_pump (lone_at_rest (effect_of e.what (lone_at_moment e.moment parent l)))
 

@@ -4,7 +4,7 @@ use Rattle.std.specs.Option.{is_some, option_map_or}
 use Rattle.conn_core.specs.StandsFor.{ConnectionValue}
 use Rattle.job_queue.specs.Jobs.{Jobs, running_job}
 use Rattle.execution.specs.declared.job.Job.{Job}
-use Rattle.server_events.specs.Events.{EventValue, WhatValue, opened, received, took, closed, tick, ended}
+use Rattle.server_events.specs.Events.{LoneEvent, WhatValue, opened, received, took, closed, tick, ended}
 use Rattle.served_instance.specs.declared.open_connection.OpenConnection.{OpenConnection}
 use Rattle.served_instance.specs.declared.refusal.EventRefusal.{EventRefusal}
 use Rattle.served_instance.specs.declared.refusal.EventRefusal.TheVariants.{TimeWentBack, ConnectionExists, TooManyConnections, NoSuchConnection, TookTooMuch, NoSuchJob}
@@ -59,7 +59,7 @@ refusal_by_what (closed c) jobs vs = unless_present c vs
 refusal_by_what tick jobs vs = None
 refusal_by_what (ended job outcome) jobs vs = unless_running job jobs
 
-abbrev pub refusal_by : EventValue → ServedSlots → Option EventRefusal
+abbrev pub refusal_by : LoneEvent → ServedSlots → Option EventRefusal
 refusal_by e v =
     if nat_lt e.moment v.instance.moment then Some TimeWentBack
     else refusal_by_what e.what v.instance.jobs v.connections

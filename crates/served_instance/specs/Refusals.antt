@@ -5,7 +5,7 @@ use Rattle.grpc_sending.specs.Bytes.{untaken_count}
 use Rattle.job_queue.specs.Jobs.{running_job}
 use Rattle.execution.specs.Orders.{OrderValue}
 use Rattle.instance_core.specs.Visible.{Blob}
-use Rattle.server_events.specs.Events.{EventValue, WhatValue, opened, received, took, closed, tick, ended}
+use Rattle.server_events.specs.Events.{LoneEvent, WhatValue, opened, received, took, closed, tick, ended}
 use Rattle.served_instance.specs.declared.refusal.EventRefusal.{EventRefusal}
 use Rattle.served_instance.specs.declared.refusal.EventRefusal.TheVariants.{TimeWentBack, ConnectionExists, TooManyConnections, NoSuchConnection, TookTooMuch, NoSuchJob, NoMemory}
 use Rattle.served_instance.specs.declared.instance.TheConstants.{CONNECTION_LIMIT}
@@ -32,27 +32,27 @@ refusal_of_what (ended job outcome) l =
     if is_some (running_job job l.state.jobs) then None else Some NoSuchJob
 
 -- time does not go back
-abbrev pub refusal_of : EventValue → LoneInstance → Option EventRefusal
+abbrev pub refusal_of : LoneEvent → LoneInstance → Option EventRefusal
 refusal_of e l =
     if nat_lt e.moment l.state.moment then Some TimeWentBack else refusal_of_what e.what l
 
 -- a refused event changes nothing
-abbrev pub after_event_unless : List Blob → EventValue → LoneInstance → Option EventRefusal →
+abbrev pub after_event_unless : List Blob → LoneEvent → LoneInstance → Option EventRefusal →
     LoneInstance
 after_event_unless parent e l None = after_event parent e l
 after_event_unless parent e l (Some refusal) = l
 
 -- what an event makes of an instance, while its parent has these texts
-abbrev pub lone_step : List Blob → EventValue → LoneInstance → LoneInstance
+abbrev pub lone_step : List Blob → LoneEvent → LoneInstance → LoneInstance
 lone_step parent e l = after_event_unless parent e l (refusal_of e l)
 
 -- what an event orders, while the instance's parent has these texts; nothing where it is refused
-abbrev pub orders_unless : List Blob → EventValue → LoneInstance → Option EventRefusal →
+abbrev pub orders_unless : List Blob → LoneEvent → LoneInstance → Option EventRefusal →
     List OrderValue
 orders_unless parent e l None = orders_of_what e.what (lone_at_moment e.moment parent l)
 orders_unless parent e l (Some refusal) = []
 
-abbrev pub lone_orders : List Blob → EventValue → LoneInstance → List OrderValue
+abbrev pub lone_orders : List Blob → LoneEvent → LoneInstance → List OrderValue
 lone_orders parent e l = orders_unless parent e l (refusal_of e l)
 
 -- an event is refused for its reason, where there is one; and for want of memory only where there

@@ -10,7 +10,7 @@ use Rattle.instance_core.specs.State.{InstanceState}
 use Rattle.instance_core.specs.Visible.{Blob}
 use Rattle.instance_core.specs.Changes.{MadeInPart}
 use Rattle.instance_core.specs.Answer.{answer, ending_changes, state_after}
-use Rattle.server_events.specs.Events.{EventValue, WhatValue, opened, received, took, closed, tick, ended}
+use Rattle.server_events.specs.Events.{LoneEvent, WhatValue, opened, received, took, closed, tick, ended}
 use Rattle.served_instance.specs.Connections.{all_closed, with_closed}
 use Rattle.served_instance.specs.Lone.{LoneInstance, lone_at_moment, lone_at_rest}
 use Rattle.served_instance.specs.Events.{bytes_events}
@@ -71,11 +71,11 @@ IsCutEffect (ended job outcome) l m = IsEndedInPart job outcome l m
 
 -- event e, refused for want of memory, leaves m of l, while the instance's parent has these texts:
 -- the moment of the event stands, and some of its effect
-abbrev pub Short : List Blob → EventValue → LoneInstance → LoneInstance → Type 0
+abbrev pub Short : List Blob → LoneEvent → LoneInstance → LoneInstance → Type 0
 Short parent e l m = IsCutEffect e.what (lone_at_moment e.moment parent l) m
 
 -- what is kept stands for something that the event may leave of l
-pub record IsServedShort (parent : List Blob) (e : EventValue) (l : LoneInstance)
+pub record IsServedShort (parent : List Blob) (e : LoneEvent) (l : LoneInstance)
     (v : ServedState) : Type 0 where
   pub left : LoneInstance
   pub short : Short parent e l left

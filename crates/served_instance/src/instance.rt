@@ -6,7 +6,7 @@ ghost use Rattle.server_events.specs.LimitsShown.{limits_value};
 ghost use Rattle.server_events.specs.Shown.{event_value, what_value};
 ghost use Rattle.grpc_sending.specs.Bytes.{most_untaken, pending_bytes};
 ghost use Rattle.conn_core.specs.History.{has_failed};
-ghost use Rattle.conn_core.specs.CallsInCourse.{has_calls};
+ghost use Rattle.conn_core.specs.CallsInCourse.{has_calls, half_calls};
 ghost use Rattle.conn_core.specs.Past.{Past, with_pumped};
 ghost use Rattle.served_instance.specs.Connections.{LoneConnection, AreApart, open_at, open_ones, at_all_open};
 ghost use Rattle.served_instance.specs.Lone.{LoneInstance, new_lone, effect_of, after_opening, after_pump};
@@ -163,28 +163,29 @@ impl ServedInstance {
         requires tidy { AreTidy self.old.connections }
         ensures outcome { (l : LoneInstance) →
             IsServedInstance (served_state_in pool.old self.old) l
-            → IsRefusalOutcome result (refusal_of (event_value event) l) }
+            → IsRefusalOutcome result (refusal_of (event_value event).lone l) }
         ensures stands { (l : LoneInstance) → IsServedInstance (served_state_in pool.old self.old) l
             → (result ≢ Err EventRefusal.NoMemory)
             → IsServedInstance (served_state_in pool.new self.new)
-            (lone_step (visible_in pool.old parent.now) (event_value event) l) }
+            (lone_step (visible_in pool.old parent.now) (event_value event).lone l) }
         ensures short { result ≡ Err EventRefusal.NoMemory → (l : LoneInstance)
             → IsServedInstance (served_state_in pool.old self.old) l
-            → IsServedShort (visible_in pool.old parent.now) (event_value event) l
+            → IsServedShort (visible_in pool.old parent.now) (event_value event).lone l
             (served_state_in pool.new self.new) }
         ensures here { result ≢ Err EventRefusal.NoSuchInstance }
-        ensures memory_free { NeedsNoMemory (event_value event).what
+        ensures memory_free { NeedsNoMemory (event_value event).lone.what
             → result ≢ Err EventRefusal.NoMemory }
         ensures refused { IfErr result (λ refusal. refusal ≢ EventRefusal.NoMemory
             → (self.new ≡ self.old) × (pool.new ≡ pool.old)) }
         ensures settled { OnOk result ((l : LoneInstance) →
             IsServedInstance (served_state_in pool.old self.old) l
-            → AreSettled (lone_step (visible_in pool.old parent.now) (event_value event) l)) }
+            → AreSettled
+            (lone_step (visible_in pool.old parent.now) (event_value event).lone l)) }
         // The orders are those of the event.
         ensures orders { IfOk result (λ orders. (l : LoneInstance) →
             IsServedInstance (served_state_in pool.old self.old) l
             → AreOrders (state_in pool.new self.new.instance).jobs orders.items
-            (lone_orders (visible_in pool.old parent.now) (event_value event) l)) }
+            (lone_orders (visible_in pool.old parent.now) (event_value event).lone l)) }
         // No source is held of a range that is over.
         ensures tidy { AreTidy self.new.connections }
         ensures moves { Moves pool.old pool.new (holders_of self.old) (holders_of self.new) }
@@ -271,6 +272,18 @@ impl ServedInstance {
         }
     }
 
+    /// How many calls are in course on an open connection that their client did not end yet, and of
+    /// which few bytes may end a message that came in part.
+    pub fn half_calls(&self, connection: u32) -> Option<usize>
+        ensures { (l : LoneInstance) → HasConnections self.now l → result
+            ≡ option_map (λ p. half_calls p.history) (open_at connection l.connections) }
+    {
+        match connection_at(&self.connections, connection) {
+            None => None,
+            Some(kept) => Some(kept.half_calls()),
+        }
+    }
+
     /// How many bytes the texts in the pool have together that nobody holds but the ranges of its
     /// connections: those which its Reads have still to put, and which are stored no more.
     pub fn read_bytes(&self, pool: &Pool) -> Result<u128, AllocError>
@@ -302,9 +315,9 @@ fn accept(
     event: &Event,
 ) -> Result<usize, EventRefusal>
     ensures refused { result_err result
-        ≡ refusal_by (event_value event.now) (slots_of instance.now connections.now) }
+        ≡ refusal_by (event_value event.now).lone (slots_of instance.now connections.now) }
     ensures place { IfOk result (λ place.
-        IsPlaceFor (event_value event.now).what place connections.now) }
+        IsPlaceFor (event_value event.now).lone.what place connections.now) }
 {
     if event.moment < instance.moment() {
         return Err(EventRefusal::TimeWentBack);

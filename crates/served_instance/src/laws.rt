@@ -6,7 +6,7 @@ ghost use Rattle.run_outcomes.specs.Outcomes.{OutcomeValue};
 ghost use Rattle.instance_core.specs.Room.{LosesForRoom};
 ghost use Rattle.instance_core.specs.State.{IsInstanceWithin};
 ghost use Rattle.instance_core.specs.Visible.{Blob};
-ghost use Rattle.server_events.specs.Events.{EventValue, ended};
+ghost use Rattle.server_events.specs.Events.{LoneEvent, ended};
 ghost use Rattle.served_instance.specs.Lone.{LoneInstance, lone_at_moment};
 ghost use Rattle.served_instance.specs.Losses.{IsNoOutcome, KeepsJobs, LosesByRules, events_of};
 ghost use Rattle.served_instance.specs.Room.{touched_at};
@@ -16,7 +16,7 @@ ghost use Rattle.served_instance.specs.Short.{Short};
 /// does: of the calls that it brings those of a front were answered, and of the next a front of its
 /// changes was made; and each of these is by rule.
 pub fn want_of_memory_loses_by_rules()
-    ensures { (parent : List Blob) (e : EventValue) (l m : LoneInstance) → Short parent e l m
+    ensures { (parent : List Blob) (e : LoneEvent) (l m : LoneInstance) → Short parent e l m
         → LosesByRules (events_of e.what (lone_at_moment e.moment parent l))
         (lone_at_moment e.moment parent l).state m.state }
 {}
@@ -24,9 +24,9 @@ pub fn want_of_memory_loses_by_rules()
 /// No job is started, timed out or lost by an event that was refused for want of memory, but the
 /// one whose outcome it brought. Jobs that its bytes asked for may wait behind the others.
 pub fn want_of_memory_keeps_jobs()
-    ensures kept { (parent : List Blob) (e : EventValue) (l m : LoneInstance)
+    ensures kept { (parent : List Blob) (e : LoneEvent) (l m : LoneInstance)
         → IsNoOutcome e.what → Short parent e l m → KeepsJobs l.state.jobs m.state.jobs }
-    ensures outcome { (parent : List Blob) (e : EventValue) (l m : LoneInstance) (job : ℕ)
+    ensures outcome { (parent : List Blob) (e : LoneEvent) (l m : LoneInstance) (job : ℕ)
         (outcome : OutcomeValue) → e.what ≡ ended job outcome → Short parent e l m
         → m.state.jobs ≡ jobs_without job l.state.jobs }
 {}
@@ -36,7 +36,7 @@ pub fn want_of_memory_keeps_jobs()
 /// the event brings, or left by the run that it tells of; and these have more bytes together with
 /// it than the quota, or are more than its limits allow.
 pub fn want_of_memory_loses_blobs_for_room()
-    ensures { (parent : List Blob) (e : EventValue) (l m : LoneInstance) → IsInstanceWithin l.state
+    ensures { (parent : List Blob) (e : LoneEvent) (l m : LoneInstance) → IsInstanceWithin l.state
         → Short parent e l m
         → LosesForRoom l.state.limits.blobs l.state.quota
         (touched_at e.what (lone_at_moment e.moment parent l)) l.state.visible m.state.visible }

@@ -13,7 +13,7 @@ use Rattle.blob_pool.specs.Slots.{Slots}
 use Rattle.execution.specs.declared.orders.Order.{Order}
 use Rattle.instance_core.specs.Visible.{Blob}
 use Rattle.instance_view.specs.Shown.{ViewValue, ViewEntry, blobs_in, visible_in, entry_holders}
-use Rattle.server_events.specs.Events.{EventValue}
+use Rattle.server_events.specs.Events.{LoneEvent}
 use Rattle.served_instance.specs.declared.refusal.EventRefusal.{EventRefusal}
 use Rattle.served_instance.specs.declared.refusal.EventRefusal.TheVariants.{NoMemory}
 use Rattle.served_instance.specs.Lone.{LoneInstance}
@@ -43,7 +43,7 @@ beside_other p xs i j a x apart at there s = record {
   named = (within_at p xs j x s.within there).instance.texts.named;
 }
 
-pub acted_reading : (p q : Slots) (bs cs : List Blob) (a b : ServedSlots) (e : EventValue) (r : Result (Vec Order Global) EventRefusal) → bs ≡ cs → IsActed p bs a q b e r → IsActed p cs a q b e r
+pub acted_reading : (p q : Slots) (bs cs : List Blob) (a b : ServedSlots) (e : LoneEvent) (r : Result (Vec Order Global) EventRefusal) → bs ≡ cs → IsActed p bs a q b e r → IsActed p cs a q b e r
 acted_reading p q bs cs a b e r same h = subst (λ (ts : List Blob). IsActed p ts a q b e r) same h
 
 -- ---- parents
@@ -59,18 +59,18 @@ parent_fits parents count n (Some p) good is =
 
 -- ---- what comes of it
 
-module _ (p q : Slots) (parent : List Blob) (xs ys : List ServedSlots) (n : ℕ) (e : EventValue) (r : Result (Vec Order Global) EventRefusal) (h : HasActed p parent xs q ys n e r) where
+module _ (p q : Slots) (parent : List Blob) (xs ys : List ServedSlots) (n : ℕ) (e : LoneEvent) (r : Result (Vec Order Global) EventRefusal) (h : HasActed p parent xs q ys n e r) where
   stood : (l : LoneInstance) → StandsAt n (all_in p xs) l → IsServedInstance (served_state_in p h.before) l
   stood l s = stands_here p xs n h.before l h.at s
 
   pub acted_own : r ≢ Err NoMemory → (l : LoneInstance) → StandsAt n (all_in p xs) l → StandsAt n (all_in q ys) (lone_step parent e l)
   acted_own ne l s = subst (λ (zs : List ServedSlots). StandsAt n (all_in q zs) (lone_step parent e l)) (sym h.is) (stands_after q xs n h.before h.after (lone_step parent e l) h.at (h.acted.stands l (stood l s) ne))
 
-  pub acted_short : r ≡ Err NoMemory → (l : LoneInstance) → StandsAt n (all_in p xs) l → e.instance ≡ n → StandsShortAt parent e l (all_in q ys)
-  acted_short memory l s same =
+  pub acted_short : r ≡ Err NoMemory → (l : LoneInstance) → StandsAt n (all_in p xs) l → StandsShortAt n parent e l (all_in q ys)
+  acted_short memory l s =
       let t = h.acted.short memory l (stood l s) in
       let there : StandsAt n (all_in q ys) t.left = subst (λ (zs : List ServedSlots). StandsAt n (all_in q zs) t.left) (sym h.is) (stands_after q xs n h.before h.after t.left h.at t.stands) in
-      record { left = t.left; short = t.short; stands = subst (λ (k : ℕ). StandsAt k (all_in q ys) t.left) (sym same) there }
+      record { left = t.left; short = t.short; stands = there }
 
   pub acted_settled : OnOk r ((l : LoneInstance) → StandsAt n (all_in p xs) l → AreSettled (lone_step parent e l))
   acted_settled = on_ok_weaker r (λ settled l s. settled l (stood l s)) h.acted.settled

@@ -1,6 +1,6 @@
 -- A family's run beside what its members came to in a server.
 use Rattle.std.proofs.Common.{◌≡◌, ◌≢◌, ℕ, List, [], ◌∷◌, ◌++◌, refl, ap, ◌∙◌, sym, subst, append-nil, inl, inr}
-use Rattle.std.specs.Prelude.{Bool, true, false, cond, ◌==◌, ◌⊎◌, if◌then◌else◌, fold, Option, Some, None}
+use Rattle.std.specs.Prelude.{Bool, true, false, cond, ◌==◌, ◌⊎◌, if◌then◌else◌, filter, fold, map, Option, Some, None}
 use Rattle.std.specs.Option.{option_map, option_map_or, option_and_then}
 use Rattle.std.specs.List.{slice_get}
 use Rattle.std.proofs.lemmas.Bool.{cases_eq, eq-eqb, ne_eqb}
@@ -10,7 +10,7 @@ use Rattle.std.proofs.lemmas.Option.{slice_get-map, none-some, same_Some}
 use Rattle.instance_core.specs.Visible.{Blob}
 use Rattle.server_events.specs.Configs.{ConfigValue, parent_of, parents_of}
 use Rattle.server_events.specs.Faults.{AreParents}
-use Rattle.server_events.specs.Events.{EventValue, own_events}
+use Rattle.server_events.specs.Events.{EventValue, LoneEvent, own_events}
 use Rattle.served_instance.specs.StandsFor.{ServedState}
 use Rattle.server_core.specs.Families.{Family, FamilyEvent, own_event, parent_event, without_parent, family_event, family_events, family_in}
 use Rattle.server_core.specs.LoneOutput.{config_at, lone_output}
@@ -25,14 +25,14 @@ use Rattle.server_core.specs.StandsFor.{ServerState}
 -- what an event is to the instance of number i, whose parent has this number
 pub record IsOwn (i : ℕ) (parent : Option ℕ) (e : EventValue) : Type 0 where
   pub at : e.instance ≡ i
-  pub is : family_event i parent e ≡ own_event e ∷ []
+  pub is : family_event i parent e ≡ own_event e.lone ∷ []
 
 pub record IsParents (i : ℕ) (parent : Option ℕ) (e : EventValue) : Type 0 where
   pub number : ℕ
   pub there : parent ≡ Some number
   pub at : e.instance ≡ number
   pub other : e.instance ≢ i
-  pub is : family_event i parent e ≡ parent_event e ∷ []
+  pub is : family_event i parent e ≡ parent_event e.lone ∷ []
 
 pub record IsStrange (i : ℕ) (parent : Option ℕ) (e : EventValue) : Type 0 where
   pub other : e.instance ≢ i
@@ -48,7 +48,7 @@ whose i parent e = elim (cases_eq e.instance i) [
   | inr ne ↦ inr (of parent ne (of_test (e.instance == i) false e _ _ (ne_eqb e.instance i ne)))
 ]
   where
-    of : (parent : Option ℕ) → e.instance ≢ i → family_event i parent e ≡ cond (option_map_or (λ p. e.instance == p) parent false) (parent_event e ∷ []) [] → IsParents i parent e ⊎ IsStrange i parent e
+    of : (parent : Option ℕ) → e.instance ≢ i → family_event i parent e ≡ cond (option_map_or (λ p. e.instance == p) parent false) (parent_event e.lone ∷ []) [] → IsParents i parent e ⊎ IsStrange i parent e
     of None ne is = inr (record { other = ne; others = λ p h. absurd (none-some p h); is = is })
     of (Some p) ne is = elim (cases_eq e.instance p) [
       | inl same ↦ inl (record { number = p; there = refl; at = same; other = ne; is = is ∙ of_test (e.instance == p) true e _ _ (eq-eqb e.instance p same) })
@@ -103,13 +103,13 @@ own_read s i parent records r there h =
 
 -- what the event makes of each instance and its record
 abbrev pub Stepped : List Blob → EventValue → List ServedState → List RecordValue → List ServedState → List RecordValue → Type 0
-Stepped bs e vs records ws more = (j : ℕ) (r : Run) → HasRun j vs records r → HasRun j ws more (if e.instance == j then run_step bs r e else r)
+Stepped bs e vs records ws more = (j : ℕ) (r : Run) → HasRun j vs records r → HasRun j ws more (if e.instance == j then run_step bs r e.lone else r)
 
-stepped_on : (bs : List Blob) (e : EventValue) (vs ws : List ServedState) (records more : List RecordValue) (j : ℕ) (r : Run) → Stepped bs e vs records ws more → e.instance ≡ j → HasRun j vs records r → HasRun j ws more (run_step bs r e)
-stepped_on bs e vs ws records more j r runs at h = subst (λ (b : Bool). HasRun j ws more (cond b (run_step bs r e) r)) (eq-eqb e.instance j at) (runs j r h)
+stepped_on : (bs : List Blob) (e : EventValue) (vs ws : List ServedState) (records more : List RecordValue) (j : ℕ) (r : Run) → Stepped bs e vs records ws more → e.instance ≡ j → HasRun j vs records r → HasRun j ws more (run_step bs r e.lone)
+stepped_on bs e vs ws records more j r runs at h = subst (λ (b : Bool). HasRun j ws more (cond b (run_step bs r e.lone) r)) (eq-eqb e.instance j at) (runs j r h)
 
 stepped_by : (bs : List Blob) (e : EventValue) (vs ws : List ServedState) (records more : List RecordValue) (j : ℕ) (r : Run) → Stepped bs e vs records ws more → e.instance ≢ j → HasRun j vs records r → HasRun j ws more r
-stepped_by bs e vs ws records more j r runs ne h = subst (λ (b : Bool). HasRun j ws more (cond b (run_step bs r e) r)) (ne_eqb e.instance j ne) (runs j r h)
+stepped_by bs e vs ws records more j r runs ne h = subst (λ (b : Bool). HasRun j ws more (cond b (run_step bs r e.lone) r)) (ne_eqb e.instance j ne) (runs j r h)
 
 -- a parent whose event it is not
 beside_by : (bs : List Blob) (e : EventValue) (vs ws : List ServedState) (records more : List RecordValue) (parent : Option ℕ) (r : Option Run) → Stepped bs e vs records ws more → ((p : ℕ) → parent ≡ Some p → e.instance ≢ p) → HasParentRun parent vs records r → HasParentRun parent ws more r
@@ -118,30 +118,30 @@ beside_by bs e vs ws records more (Some p) None runs ne h = h
 beside_by bs e vs ws records more (Some p) (Some r) runs ne h = stepped_by bs e vs ws records more p r runs (ne p refl) h
 
 -- one whose event it is
-beside_on : (bs : List Blob) (e : EventValue) (vs ws : List ServedState) (records more : List RecordValue) (p : ℕ) (r : Option Run) → Stepped bs e vs records ws more → bs ≡ [] → e.instance ≡ p → HasParentRun (Some p) vs records r → HasParentRun (Some p) ws more (option_map (λ r. run_step [] r e) r)
+beside_on : (bs : List Blob) (e : EventValue) (vs ws : List ServedState) (records more : List RecordValue) (p : ℕ) (r : Option Run) → Stepped bs e vs records ws more → bs ≡ [] → e.instance ≡ p → HasParentRun (Some p) vs records r → HasParentRun (Some p) ws more (option_map (λ r. run_step [] r e.lone) r)
 beside_on bs e vs ws records more p None runs none at h = h
-beside_on bs e vs ws records more p (Some r) runs none at h = subst (λ (ts : List Blob). HasRun p ws more (run_step ts r e)) none (stepped_on bs e vs ws records more p r runs at h)
+beside_on bs e vs ws records more p (Some r) runs none at h = subst (λ (ts : List Blob). HasRun p ws more (run_step ts r e.lone)) none (stepped_on bs e vs ws records more p r runs at h)
 
 pub family_on : (s : ServerState) (e : EventValue) (ws : List ServedState) (records more : List RecordValue) (i : ℕ) (parent : Option ℕ) (f : FamilyRun) → AreParents s.parents → slice_get s.parents i ≡ Some parent → Stepped (parent_texts e.instance s) e s.instances records ws more → HasFamilyRun i parent s.instances records f
     → HasFamilyRun i parent ws more (fold family_step f (family_event i parent e))
 family_on s e ws records more i parent f good there runs h = elim (whose i parent e) [
   | inl own ↦
       let read : parent_texts e.instance s ≡ texts_of_parent f.parent = ap (λ (k : ℕ). parent_texts k s) own.at ∙ own_read s i parent records f.parent there h.beside in
-      let after : HasFamilyRun i parent ws more (family_step f (own_event e)) = record {
-        own = subst (λ (ts : List Blob). HasRun i ws more (run_step ts f.own e)) read (stepped_on (parent_texts e.instance s) e s.instances ws records more i f.own runs own.at h.own);
+      let after : HasFamilyRun i parent ws more (family_step f (own_event e.lone)) = record {
+        own = subst (λ (ts : List Blob). HasRun i ws more (run_step ts f.own e.lone)) read (stepped_on (parent_texts e.instance s) e s.instances ws records more i f.own runs own.at h.own);
         beside = beside_by (parent_texts e.instance s) e s.instances ws records more parent f.parent runs (λ p is at. parent_apart s.parents i p parent good there is (sym at ∙ own.at)) h.beside;
       } in
-      by (own_event e ∷ []) own.is after
+      by (own_event e.lone ∷ []) own.is after
   | inr (inl parents) ↦
       let p = parents.number in
       let none : parent_texts e.instance s ≡ [] = ap (λ (k : ℕ). parent_texts k s) parents.at ∙ parents_read s i p parent good there parents.there in
       let before : HasParentRun (Some p) s.instances records f.parent = subst (λ (o : Option ℕ). HasParentRun o s.instances records f.parent) parents.there h.beside in
-      let after : HasFamilyRun i parent ws more (family_step f (parent_event e)) = record {
+      let after : HasFamilyRun i parent ws more (family_step f (parent_event e.lone)) = record {
         own = stepped_by (parent_texts e.instance s) e s.instances ws records more i f.own runs parents.other h.own;
-        beside = subst (λ (o : Option ℕ). HasParentRun o ws more (option_map (λ r. run_step [] r e) f.parent)) (sym parents.there)
+        beside = subst (λ (o : Option ℕ). HasParentRun o ws more (option_map (λ r. run_step [] r e.lone) f.parent)) (sym parents.there)
             (beside_on (parent_texts e.instance s) e s.instances ws records more p f.parent runs none parents.at before);
       } in
-      by (parent_event e ∷ []) parents.is after
+      by (parent_event e.lone ∷ []) parents.is after
   | inr (inr strange) ↦
       let after : HasFamilyRun i parent ws more f = record {
         own = stepped_by (parent_texts e.instance s) e s.instances ws records more i f.own runs strange.other h.own;
@@ -155,8 +155,14 @@ family_on s e ws records more i parent f good there runs h = elim (whose i paren
 
 -- ---- a parent by itself
 
-own_by : (i : ℕ) (events : List EventValue) (e : EventValue) (b : Bool) → (e.instance == i) ≡ b → own_events i (e ∷ events) ≡ cond b (e ∷ own_events i events) (own_events i events)
-own_by i events e b is = ap (λ (c : Bool). cond c (e ∷ own_events i events) (own_events i events)) is
+taken_in : (xs : List EventValue) (e : EventValue) (b : Bool) → map (λ (x : EventValue). x.lone) (cond b (e ∷ xs) xs) ≡ cond b (e.lone ∷ map (λ (x : EventValue). x.lone) xs) (map (λ (x : EventValue). x.lone) xs)
+taken_in xs e true = refl
+taken_in xs e false = refl
+
+own_by : (i : ℕ) (events : List EventValue) (e : EventValue) (b : Bool) → (e.instance == i) ≡ b → own_events i (e ∷ events) ≡ cond b (e.lone ∷ own_events i events) (own_events i events)
+own_by i events e b is =
+    let xs : List EventValue = filter (λ event. event.instance == i) events in
+    ap (λ (c : Bool). map (λ (x : EventValue). x.lone) (cond c (e ∷ xs) xs)) is ∙ taken_in xs e b
 
 -- an instance that has none
 abbrev by_itself : Run → FamilyRun
@@ -168,24 +174,24 @@ alone_along config i (e ∷ events) r = elim (cases_eq e.instance i) [
   | inl same ↦
       let b = eq-eqb e.instance i same in
       let own = own_by i events e true b in
-      let first : family_event i None e ≡ own_event e ∷ [] = of_test (e.instance == i) true e _ _ b in
+      let first : family_event i None e ≡ own_event e.lone ∷ [] = of_test (e.instance == i) true e _ _ b in
       ap (λ (es : List FamilyEvent). fold family_step (by_itself r) (es ++ family_events i None events)) first
-      ∙ alone_along config i events (run_step [] r e)
-      ∙ ap (λ (es : List EventValue). by_itself (fold (run_step []) r es)) (sym own)
+      ∙ alone_along config i events (run_step [] r e.lone)
+      ∙ ap (λ (es : List LoneEvent). by_itself (fold (run_step []) r es)) (sym own)
   | inr ne ↦
       let b = ne_eqb e.instance i ne in
       let own = own_by i events e false b in
       let first : family_event i None e ≡ [] = of_test (e.instance == i) false e _ _ b in
       ap (λ (es : List FamilyEvent). fold family_step (by_itself r) (es ++ family_events i None events)) first
       ∙ alone_along config i events r
-      ∙ ap (λ (es : List EventValue). by_itself (fold (run_step []) r es)) (sym own)
+      ∙ ap (λ (es : List LoneEvent). by_itself (fold (run_step []) r es)) (sym own)
 ]
 
 pub alone_is : (config : ConfigValue) (i : ℕ) (events : List EventValue) → lone_output (without_parent config) (family_events i None events) ≡ output_of_run (run_of config (own_events i events))
 alone_is config i events = ap (λ (f : FamilyRun). output_of_run f.own) (alone_along config i events (new_run config))
 
 -- a parent's part of a run
-parent_next : (r : Option Run) (e : EventValue) (es : List EventValue) → option_map (λ r. fold (run_step []) r es) (option_map (λ r. run_step [] r e) r) ≡ option_map (λ r. fold (run_step []) r (e ∷ es)) r
+parent_next : (r : Option Run) (e : LoneEvent) (es : List LoneEvent) → option_map (λ r. fold (run_step []) r es) (option_map (λ r. run_step [] r e) r) ≡ option_map (λ r. fold (run_step []) r (e ∷ es)) r
 parent_next None e es = refl
 parent_next (Some r) e es = refl
 
@@ -197,19 +203,19 @@ parent_along i p [] f apart = same f.parent where
 parent_along i p (e ∷ events) f apart = elim (whose i (Some p) e) [
   | inl own ↦
       let other : e.instance ≢ p = λ is. apart (sym is ∙ own.at) in
-      first (own_event e ∷ []) own.is
-      ∙ parent_along i p events (family_step f (own_event e)) apart
-      ∙ ap (λ (es : List EventValue). option_map (λ r. fold (run_step []) r es) f.parent) (sym (own_by p events e false (ne_eqb e.instance p other)))
+      first (own_event e.lone ∷ []) own.is
+      ∙ parent_along i p events (family_step f (own_event e.lone)) apart
+      ∙ ap (λ (es : List LoneEvent). option_map (λ r. fold (run_step []) r es) f.parent) (sym (own_by p events e false (ne_eqb e.instance p other)))
   | inr (inl parents) ↦
       let at : e.instance ≡ p = parents.at ∙ sym (same_Some p parents.number parents.there) in
-      first (parent_event e ∷ []) parents.is
-      ∙ parent_along i p events (family_step f (parent_event e)) apart
-      ∙ parent_next f.parent e (own_events p events)
-      ∙ ap (λ (es : List EventValue). option_map (λ r. fold (run_step []) r es) f.parent) (sym (own_by p events e true (eq-eqb e.instance p at)))
+      first (parent_event e.lone ∷ []) parents.is
+      ∙ parent_along i p events (family_step f (parent_event e.lone)) apart
+      ∙ parent_next f.parent e.lone (own_events p events)
+      ∙ ap (λ (es : List LoneEvent). option_map (λ r. fold (run_step []) r es) f.parent) (sym (own_by p events e true (eq-eqb e.instance p at)))
   | inr (inr strange) ↦
       first [] strange.is
       ∙ parent_along i p events f apart
-      ∙ ap (λ (es : List EventValue). option_map (λ r. fold (run_step []) r es) f.parent) (sym (own_by p events e false (ne_eqb e.instance p (strange.others p refl))))
+      ∙ ap (λ (es : List LoneEvent). option_map (λ r. fold (run_step []) r es) f.parent) (sym (own_by p events e false (ne_eqb e.instance p (strange.others p refl))))
 ]
   where
     first : (es : List FamilyEvent) → family_event i (Some p) e ≡ es → (fold family_step f (family_events i (Some p) (e ∷ events))).parent ≡ (fold family_step f (es ++ family_events i (Some p) events)).parent

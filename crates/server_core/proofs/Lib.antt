@@ -14,7 +14,6 @@ mod Begins
 mod Steps
 mod Ends
 mod Families
-mod Numberless
 mod Runs
 mod Marks
 mod SameTasks

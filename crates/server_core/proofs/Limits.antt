@@ -11,7 +11,7 @@ use Rattle.instance_core.proofs.Limits.{nothing_within}
 use Rattle.instance_core.specs.Calls.{same_call}
 use Rattle.instance_core.specs.State.{IsInstanceWithin, LimitsValue, IsLimits, new_instance}
 use Rattle.server_events.specs.Configs.{ConfigValue}
-use Rattle.server_events.specs.Events.{EventValue}
+use Rattle.server_events.specs.Events.{LoneEvent}
 use Rattle.served_instance.specs.Narrow.{IsNarrow}
 use Rattle.served_instance.specs.Refusals.{refusal_of}
 use Rattle.server_core.specs.Families.{Family, FamilyEvent, IsLimited, AreLimited, own_event, parent_event, event_in}
@@ -23,7 +23,7 @@ pub named_beside : (r : Option Run) → IfSome r (λ k. KeepsLimits k.lone) → 
 named_beside None h = tt
 named_beside (Some r) h = h.within.texts.named
 
-parent_keeps : (r : Option Run) (e : EventValue) → IsNarrow e → IfSome r (λ k. KeepsLimits k.lone) → IfSome (option_map (λ k. run_step [] k e) r) (λ k. KeepsLimits k.lone)
+parent_keeps : (r : Option Run) (e : LoneEvent) → IsNarrow e → IfSome r (λ k. KeepsLimits k.lone) → IfSome (option_map (λ k. run_step [] k e) r) (λ k. KeepsLimits k.lone)
 parent_keeps None e narrow h = tt
 parent_keeps (Some r) e narrow h = stepped_keeps [] e r.lone (refusal_of e r.lone) tt narrow h
 

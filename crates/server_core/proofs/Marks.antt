@@ -13,7 +13,7 @@ use Rattle.execution.specs.declared.orders.Order.{Order}
 use Rattle.server_events.specs.Configs.{ConfigValue, parent_of}
 use Rattle.server_events.specs.Faults.{AreParents}
 use Rattle.instance_core.specs.Visible.{Blob}
-use Rattle.server_events.specs.Events.{EventValue, WhatValue, opened, received, took, closed, tick, ended}
+use Rattle.server_events.specs.Events.{EventValue, LoneEvent, WhatValue, opened, received, took, closed, tick, ended}
 use Rattle.served_instance.specs.declared.refusal.EventRefusal.{EventRefusal}
 use Rattle.served_instance.specs.declared.refusal.EventRefusal.TheVariants.{NoMemory}
 use Rattle.served_instance.specs.Connections.{LoneConnection, AreApart, open_ones, with_closed, all_closed}
@@ -69,14 +69,14 @@ beside_past bs e vs ws records more (Some p) (Some r) runs ne h = (runs p r h).o
 record IsBesideStep (p : ℕ) (e : EventValue) (r : Option Run) (ws : List ServedState) (more : List RecordValue) : Type 0 where
   marked : Bool
   run : Option Run
-  step : IsParentStep r e marked run
+  step : IsParentStep r e.lone marked run
   there : HasParentRun (Some p) ws more run
 
 beside_step : (bs : List Blob) (e : EventValue) (vs ws : List ServedState) (records more : List RecordValue) (p : ℕ) (r : Option Run) → Gone bs e vs records ws more → bs ≡ [] → e.instance ≡ p → HasParentRun (Some p) vs records r → IsBesideStep p e r ws more
 beside_step bs e vs ws records more p None runs none at h = absurd h
 beside_step bs e vs ws records more p (Some r) runs none at h =
     let did = (runs p r h).own at in
-    record { marked = did.marked; run = Some did.run; step = subst (λ (ts : List Blob). IsRunStep ts r e did.marked did.run) none did.step; there = did.there }
+    record { marked = did.marked; run = Some did.run; step = subst (λ (ts : List Blob). IsRunStep ts r e.lone did.marked did.run) none did.step; there = did.there }
 
 come_on : (family : Family) (i : ℕ) (parent : Option ℕ) (events : List EventValue) (e : EventValue) (v w : RunValue) → HasCome family (family_events i parent events) i parent v → AreParents v.server.parents → slice_get v.server.parents i ≡ Some parent → Gone (parent_texts e.instance v.server) e v.server.instances v.records w.server.instances w.records
     → HasCome family (family_events i parent (events ++ e ∷ [])) i parent w
@@ -85,8 +85,8 @@ come_on family i parent events e v w h good there runs = elim (whose i parent e)
       let did = (runs i h.came.run.own h.there.own).own own.at in
       let read : (parent_texts e.instance v.server) ≡ texts_of_parent h.came.run.parent = ap (λ (k : ℕ). parent_texts k v.server) own.at ∙ own_read v.server i parent v.records h.came.run.parent there h.there.beside in
       let g : FamilyRun = record h.came.run { own = did.run } in
-      more (own_event e) did.marked g own.is
-      (subst (λ (ts : List Blob). IsRunStep ts h.came.run.own e did.marked did.run) read did.step, refl)
+      more (own_event e.lone) did.marked g own.is
+      (subst (λ (ts : List Blob). IsRunStep ts h.came.run.own e.lone did.marked did.run) read did.step, refl)
       (record { own = did.there; beside = beside_past (parent_texts e.instance v.server) e v.server.instances w.server.instances v.records w.records parent h.came.run.parent runs (λ p is at. parent_apart v.server.parents i p parent good there is (sym at ∙ own.at)) h.there.beside })
   | inr (inl parents) ↦
       let p = parents.number in
@@ -94,7 +94,7 @@ come_on family i parent events e v w h good there runs = elim (whose i parent e)
       let before : HasParentRun (Some p) v.server.instances v.records h.came.run.parent = subst (λ (o : Option ℕ). HasParentRun o v.server.instances v.records h.came.run.parent) parents.there h.there.beside in
       let did = beside_step (parent_texts e.instance v.server) e v.server.instances w.server.instances v.records w.records p h.came.run.parent runs none parents.at before in
       let g : FamilyRun = record h.came.run { parent = did.run } in
-      more (parent_event e) did.marked g parents.is (refl, did.step)
+      more (parent_event e.lone) did.marked g parents.is (refl, did.step)
       (record { own = (runs i h.came.run.own h.there.own).other parents.other; beside = subst (λ (o : Option ℕ). HasParentRun o w.server.instances w.records did.run) (sym parents.there) did.there })
   | inr (inr strange) ↦
       let same : map event_of h.came.marked ≡ family_events i parent (events ++ e ∷ []) =
@@ -171,7 +171,7 @@ stray_on bs e vs ws records many others none i r h = record {
 pub record IsOwnStep (bs : List Blob) (e : EventValue) (r : Run) (ws : List ServedState) (new : RecordValue) : Type 0 where
   pub marked : Bool
   pub run : Run
-  pub step : IsRunStep bs r e marked run
+  pub step : IsRunStep bs r e.lone marked run
   pub stands : StandsAt e.instance ws run.lone
   pub noted : IsRecord new run
 
@@ -198,7 +198,7 @@ gone_on bs e vs ws records d new others own i r h = record {
 }
 
 -- an event that was not refused for want of memory, which its record notes
-pub noted_on : (bs : List Blob) (outcome : Result (Vec Order Global) EventRefusal) (e : EventValue) (vs ws : List ServedState) (records : List RecordValue) (p : Slots) (served : ServedSlots) (d new : RecordValue) → Own bs e vs ws → Others e vs ws → ((l : LoneInstance) → StandsAt e.instance vs l → IsRefusalOutcome outcome (refusal_of e l)) → instance_at e.instance ws ≡ Some (served_state_in p served) → RangesEndWithin (text_at p) served.connections → OrdersGiven bs outcome e vs ws → Notes bs e outcome p served (get_or records e.instance d) new →
+pub noted_on : (bs : List Blob) (outcome : Result (Vec Order Global) EventRefusal) (e : EventValue) (vs ws : List ServedState) (records : List RecordValue) (p : Slots) (served : ServedSlots) (d new : RecordValue) → Own bs e vs ws → Others e vs ws → ((l : LoneInstance) → StandsAt e.instance vs l → IsRefusalOutcome outcome (refusal_of e.lone l)) → instance_at e.instance ws ≡ Some (served_state_in p served) → RangesEndWithin (text_at p) served.connections → OrdersGiven bs outcome e vs ws → Notes bs e.lone outcome p served (get_or records e.instance d) new →
     (i : ℕ) (r : Run) → HasRun i vs records r → HasGoneOn bs e r i ws (set records e.instance new)
 noted_on bs outcome e vs ws records p served d new own others gave here fit ordered notes =
     gone_on bs e vs ws records d new others (λ r s old.
@@ -206,10 +206,10 @@ noted_on bs outcome e vs ws records p served d new own others gave here fit orde
     let is : t.0 ≡ served_state_in p served = same_Some t.0 (served_state_in p served) (sym t.1 ∙ here) in
     record {
       marked = false;
-      run = run_step bs r e;
+      run = run_step bs r e.lone;
       step = refl;
       stands = t;
-      noted = notes r old (gave r.lone s) (connections_of p served (lone_step bs e r.lone) fit (subst (λ (v : ServedState). IsServedInstance v (lone_step bs e r.lone)) is t.2)) (orders_noted bs outcome e vs ws p served r.lone here ordered s);
+      noted = notes r old (gave r.lone s) (connections_of p served (lone_step bs e.lone r.lone) fit (subst (λ (v : ServedState). IsServedInstance v (lone_step bs e.lone r.lone)) is t.2)) (orders_noted bs outcome e vs ws p served r.lone here ordered s);
     })
 
 -- the run after an event that was done in part
@@ -217,12 +217,12 @@ abbrev short_run : Run → LoneInstance → Run
 short_run r m = record { lone = m; count = r.count + 1; orders = r.orders; refusals = r.refusals ++ (r.count + 1, NoMemory) ∷ [] }
 
 -- an event that was refused for want of memory, which its record notes so
-pub short_on : (bs : List Blob) (e : EventValue) (vs ws : List ServedState) (records : List RecordValue) (d new : RecordValue) → ((l : LoneInstance) → StandsAt e.instance vs l → StandsShortAt bs e l ws) → Others e vs ws → ((l : LoneInstance) → StandsAt e.instance vs l → refusal_of e l ≡ None) →
-    ((r q : Run) → IsRecord (get_or records e.instance d) r → IsShortStep bs r e q → IsRecord new q) → (i : ℕ) (r : Run) → HasRun i vs records r → HasGoneOn bs e r i ws (set records e.instance new)
+pub short_on : (bs : List Blob) (e : EventValue) (vs ws : List ServedState) (records : List RecordValue) (d new : RecordValue) → ((l : LoneInstance) → StandsAt e.instance vs l → StandsShortAt e.instance bs e.lone l ws) → Others e vs ws → ((l : LoneInstance) → StandsAt e.instance vs l → refusal_of e.lone l ≡ None) →
+    ((r q : Run) → IsRecord (get_or records e.instance d) r → IsShortStep bs r e.lone q → IsRecord new q) → (i : ℕ) (r : Run) → HasRun i vs records r → HasGoneOn bs e r i ws (set records e.instance new)
 short_on bs e vs ws records d new short others gave notes =
     gone_on bs e vs ws records d new others (λ r s old.
     let t = short r.lone s in
-    let step : IsShortStep bs r e (short_run r t.left) = record { accepted = gave r.lone s; lone = t.short; count = refl; orders = refl; refusals = refl } in
+    let step : IsShortStep bs r e.lone (short_run r t.left) = record { accepted = gave r.lone s; lone = t.short; count = refl; orders = refl; refusals = refl } in
     record {
       marked = true;
       run = short_run r t.left;
@@ -302,7 +302,7 @@ are_left (Off.AllAndJob n) live ks is taken apart =
     let a = all_left live ks in
     record { sent = a.sent; live_is = a.live_is; taken = a.taken; apart = a.apart }
 
-pub short_noted : (v : RecordValue) (r q : Run) (bs : List Blob) (e : EventValue) (o : Broken) → o ≡ broken_by e.what → IsRecord v r → IsShortStep bs r e q →
+pub short_noted : (v : RecordValue) (r q : Run) (bs : List Blob) (e : LoneEvent) (o : Broken) → o ≡ broken_by e.what → IsRecord v r → IsShortStep bs r e q →
     IsRecord (record { count = v.count + 1; orders = v.orders; refusals = v.refusals ++ (v.count + 1, NoMemory) ∷ []; sent = v.sent; live = open_records_left o v.live }) q
 short_noted v r q bs e o is st step =
     let ks = r.lone.connections in
@@ -327,16 +327,16 @@ push_refused [] ys h = (tt, h)
 push_refused (x ∷ xs) ys h = let later = push_refused xs ys h.1 in ((h.0, later.0), later.1)
 
 -- refusals that are recorded stay
-step_keeps : (bs : List Blob) (r q : Run) (e : EventValue) (marked : Bool) → IsRunStep bs r e marked q → (more : List (ℕ × EventRefusal)) × (q.refusals ≡ r.refusals ++ more)
+step_keeps : (bs : List Blob) (r q : Run) (e : LoneEvent) (marked : Bool) → IsRunStep bs r e marked q → (more : List (ℕ × EventRefusal)) × (q.refusals ≡ r.refusals ++ more)
 step_keeps bs r q e false h = (refusals_at (r.count + 1) (refusal_of e r.lone), ap (λ (k : Run). k.refusals) h)
 step_keeps bs r q e true h = ((r.count + 1, NoMemory) ∷ [], h.refusals)
 
-none_before : (bs : List Blob) (r q : Run) (e : EventValue) (marked : Bool) → IsRunStep bs r e marked q → AllByRecursion IsNotForMemory q.refusals → AllByRecursion IsNotForMemory r.refusals
+none_before : (bs : List Blob) (r q : Run) (e : LoneEvent) (marked : Bool) → IsRunStep bs r e marked q → AllByRecursion IsNotForMemory q.refusals → AllByRecursion IsNotForMemory r.refusals
 none_before bs r q e marked h none =
     let more = step_keeps bs r q e marked h in
     (push_refused r.refusals more.0 (subst (AllByRecursion IsNotForMemory) more.1 none)).0
 
-step_alone : (bs : List Blob) (r q : Run) (e : EventValue) (marked : Bool) → IsRunStep bs r e marked q → AllByRecursion IsNotForMemory q.refusals → q ≡ run_step bs r e
+step_alone : (bs : List Blob) (r q : Run) (e : LoneEvent) (marked : Bool) → IsRunStep bs r e marked q → AllByRecursion IsNotForMemory q.refusals → q ≡ run_step bs r e
 step_alone bs r q e false h none = h
 step_alone bs r q e true h none =
     absurd ((push_refused r.refusals ((r.count + 1, NoMemory) ∷ []) (subst (AllByRecursion IsNotForMemory) h.refusals none)).1.0 refl)
@@ -349,12 +349,12 @@ record NoneRefused (f : FamilyRun) : Type 0 where
   own : AllByRecursion IsNotForMemory f.own.refusals
   beside : NoneOf f.parent
 
-parent_before : (r q : Option Run) (e : EventValue) (marked : Bool) → IsParentStep r e marked q → NoneOf q → NoneOf r
+parent_before : (r q : Option Run) (e : LoneEvent) (marked : Bool) → IsParentStep r e marked q → NoneOf q → NoneOf r
 parent_before None q e marked h none = tt
 parent_before (Some r) None e marked h none = absurd h
 parent_before (Some r) (Some q) e marked h none = none_before [] r q e marked h none
 
-parent_alone : (r q : Option Run) (e : EventValue) (marked : Bool) → IsParentStep r e marked q → NoneOf q → q ≡ option_map (λ k. run_step [] k e) r
+parent_alone : (r q : Option Run) (e : LoneEvent) (marked : Bool) → IsParentStep r e marked q → NoneOf q → q ≡ option_map (λ k. run_step [] k e) r
 parent_alone None q e marked h none = h
 parent_alone (Some r) None e marked h none = absurd h
 parent_alone (Some r) (Some q) e marked h none = ap Some (step_alone [] r q e marked h none)

@@ -7,7 +7,7 @@ use Rattle.served_instance.specs.Bytes.{untaken_count}
 use Rattle.served_instance.proofs.Histories.{append-nil}
 use Rattle.served_instance.specs.Past.{Past}
 use Rattle.instance_core.specs.Visible.{Blob}
-use Rattle.server_events.specs.Events.{EventValue, WhatValue, opened, received, took, closed, tick, ended}
+use Rattle.server_events.specs.Events.{LoneEvent, WhatValue, opened, received, took, closed, tick, ended}
 use Rattle.served_instance.specs.declared.refusal.EventRefusal.{EventRefusal}
 use Rattle.served_instance.specs.declared.refusal.EventRefusal.TheVariants.{NoSuchInstance, NoSuchConnection, ConnectionExists, TooManyConnections, NoSuchJob, TimeWentBack, TookTooMuch, NoMemory}
 use Rattle.served_instance.specs.Connections.{LoneConnection, AreApart, open_at}
@@ -49,7 +49,7 @@ may_what (closed c) l h = tt
 may_what tick l h = tt
 may_what (ended job outcome) l h = tt
 
-may : (e : EventValue) (l : LoneInstance) → refusal_of e l ≡ None → May e.what l.connections
+may : (e : LoneEvent) (l : LoneInstance) → refusal_of e l ≡ None → May e.what l.connections
 may e l h = may_what e.what l (passes (nat_lt e.moment l.state.moment) TimeWentBack (refusal_of_what e.what l) h).later
 
 -- ---- an event that is taken
@@ -58,7 +58,7 @@ length_sent : (ks : List LoneConnection) → length (map sent_bytes_on ks) ≡ l
 length_sent [] = refl
 length_sent (k ∷ ks) = ap suc (length_sent ks)
 
-pub noted_apart : (v : RecordValue) (r : Run) (bs : List Blob) (e : EventValue) → IsRecord v r → refusal_of e r.lone ≡ None → AreApart (lone_step bs e r.lone).connections
+pub noted_apart : (v : RecordValue) (r : Run) (bs : List Blob) (e : LoneEvent) → IsRecord v r → refusal_of e r.lone ≡ None → AreApart (lone_step bs e r.lone).connections
 noted_apart v r bs e st none =
     let ks = r.lone.connections in
     let window = r.lone.state.limits.window in
@@ -68,7 +68,7 @@ noted_apart v r bs e st none =
     let grown : AreGrown k1 m.connections = subst (λ (n : LoneInstance). AreGrown k1 n.connections) (sym step) (accepted_more bs e r.lone) in
     apart_grown k1 m.connections grown (apart_after window e.what ks (may e r.lone none) st.apart)
 
-pub noted : (v : RecordValue) (r : Run) (bs : List Blob) (e : EventValue) (given : List OrderValue) (ordered : List (ℕ × OrderValue)) (ss : List (ℕ × List ℕ)) (os : List OpenRecord) → IsRecord v r → refusal_of e r.lone ≡ None → given ≡ lone_orders bs e r.lone → ordered ≡ v.orders ++ orders_at (v.count + 1) given → ss ≡ sent_bytes_with_all (lone_step bs e r.lone) (open_records_after e.what (length v.sent) v.live) (sent_bytes_after e.what v.sent) → os ≡ map (record_after_noting (lone_step bs e r.lone)) (open_records_after e.what (length v.sent) v.live) → IsRecord (record { count = v.count + 1; orders = ordered; refusals = v.refusals; sent = ss; live = os }) (run_step bs r e)
+pub noted : (v : RecordValue) (r : Run) (bs : List Blob) (e : LoneEvent) (given : List OrderValue) (ordered : List (ℕ × OrderValue)) (ss : List (ℕ × List ℕ)) (os : List OpenRecord) → IsRecord v r → refusal_of e r.lone ≡ None → given ≡ lone_orders bs e r.lone → ordered ≡ v.orders ++ orders_at (v.count + 1) given → ss ≡ sent_bytes_with_all (lone_step bs e r.lone) (open_records_after e.what (length v.sent) v.live) (sent_bytes_after e.what v.sent) → os ≡ map (record_after_noting (lone_step bs e r.lone)) (open_records_after e.what (length v.sent) v.live) → IsRecord (record { count = v.count + 1; orders = ordered; refusals = v.refusals; sent = ss; live = os }) (run_step bs r e)
 noted v r bs e given ordered ss os st none gave ordered_is ss_is os_is =
     let ks = r.lone.connections in
     let m : LoneInstance = lone_step bs e r.lone in
@@ -100,7 +100,7 @@ noted v r bs e given ordered ss os st none gave ordered_is ss_is os_is =
 -- ---- an event that is refused
 
 -- the step of a run, by the reason to refuse the event
-abbrev step_by : List Blob → Run → EventValue → Option EventRefusal → Run
+abbrev step_by : List Blob → Run → LoneEvent → Option EventRefusal → Run
 step_by bs r e o = record {
   lone = after_event_unless bs e r.lone o;
   count = r.count + 1;
@@ -119,7 +119,7 @@ refused_for A TimeWentBack reason ne h = h
 refused_for A TookTooMuch reason ne h = h
 
 -- nothing is put and nothing is ordered
-pub refused_noted : (A : Type 0) (v : RecordValue) (r : Run) (bs : List Blob) (e : EventValue) (refusal : EventRefusal) (told : List (ℕ × EventRefusal)) → IsRecord v r → refusal ≢ NoMemory → IsRefusalOutcome {A = A} (Err refusal) (refusal_of e r.lone) → told ≡ v.refusals ++ (v.count + 1, refusal) ∷ [] → IsRecord (record { count = v.count + 1; orders = v.orders; refusals = told; sent = v.sent; live = v.live }) (run_step bs r e)
+pub refused_noted : (A : Type 0) (v : RecordValue) (r : Run) (bs : List Blob) (e : LoneEvent) (refusal : EventRefusal) (told : List (ℕ × EventRefusal)) → IsRecord v r → refusal ≢ NoMemory → IsRefusalOutcome {A = A} (Err refusal) (refusal_of e r.lone) → told ≡ v.refusals ++ (v.count + 1, refusal) ∷ [] → IsRecord (record { count = v.count + 1; orders = v.orders; refusals = told; sent = v.sent; live = v.live }) (run_step bs r e)
 refused_noted A v r bs e refusal told st ne gave told_is =
     let w : RecordValue = record { count = v.count + 1; orders = v.orders; refusals = told; sent = v.sent; live = v.live } in
     let stepped : IsRecord w (step_by bs r e (Some refusal)) = record {

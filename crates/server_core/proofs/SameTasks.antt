@@ -9,7 +9,7 @@ use Rattle.execution.specs.Orders.{task_of}
 use Rattle.execution.proofs.Tasks.{task-same}
 use Rattle.instance_core.specs.State.{IsInstanceWithin}
 use Rattle.instance_core.specs.Visible.{Blob}
-use Rattle.server_events.specs.Events.{EventValue}
+use Rattle.server_events.specs.Events.{LoneEvent}
 use Rattle.served_instance.specs.Narrow.{IsNarrow}
 use Rattle.served_instance.proofs.JobChanges.{Become, unchanged, become_both, stepped_become, short_becomes}
 use Rattle.server_core.specs.Families.{Family, FamilyEvent, AreLimited, own_event, parent_event, event_in}
@@ -38,7 +38,7 @@ joined_run f (x ∷ xs) ys = joined_run (family_step f x) xs ys
 
 -- ---- runs in which events were done in part
 
-own_becomes : (parent : List Blob) (r q : Run) (e : EventValue) (marked : Bool) → IsRunStep parent r e marked q → Become r.lone.state.jobs q.lone.state.jobs
+own_becomes : (parent : List Blob) (r q : Run) (e : LoneEvent) (marked : Bool) → IsRunStep parent r e marked q → Become r.lone.state.jobs q.lone.state.jobs
 own_becomes parent r q e false is =
     subst (λ (x : Run). Become r.lone.state.jobs x.lone.state.jobs) (sym is) (stepped_become parent e r.lone)
 own_becomes parent r q e true h = short_becomes parent e r.lone q.lone h.lone

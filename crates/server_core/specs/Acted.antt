@@ -9,7 +9,7 @@ use Rattle.execution.specs.declared.orders.Order.{Order}
 use Rattle.instance_core.specs.Slots.{state_in}
 use Rattle.instance_core.specs.Turns.{AreOrders}
 use Rattle.instance_core.specs.Visible.{Blob}
-use Rattle.server_events.specs.Events.{EventValue}
+use Rattle.server_events.specs.Events.{LoneEvent}
 use Rattle.served_instance.specs.declared.refusal.EventRefusal.{EventRefusal}
 use Rattle.served_instance.specs.declared.refusal.EventRefusal.TheVariants.{NoMemory, NoSuchInstance}
 use Rattle.served_instance.specs.Lone.{LoneInstance}
@@ -21,7 +21,7 @@ use Rattle.served_instance.specs.StandsFor.{IsServedInstance, AreSettled}
 
 -- the event turned an instance into another, while its parent had these texts
 pub record IsActed (p : Slots) (parent : List Blob) (a : ServedSlots) (q : Slots) (b : ServedSlots)
-    (e : EventValue) (result : Result (Vec Order Global) EventRefusal) : Type 0 where
+    (e : LoneEvent) (result : Result (Vec Order Global) EventRefusal) : Type 0 where
   pub outcome : (l : LoneInstance) → IsServedInstance (served_state_in p a) l
       → IsRefusalOutcome result (refusal_of e l)
   pub stands : (l : LoneInstance) → IsServedInstance (served_state_in p a) l
@@ -44,7 +44,7 @@ pub record IsActed (p : Slots) (parent : List Blob) (a : ServedSlots) (q : Slots
 
 -- it did so with the instance of this number, and with no other
 pub record HasActed (p : Slots) (parent : List Blob) (xs : List ServedSlots) (q : Slots)
-    (ys : List ServedSlots) (n : ℕ) (e : EventValue)
+    (ys : List ServedSlots) (n : ℕ) (e : LoneEvent)
     (result : Result (Vec Order Global) EventRefusal) : Type 0 where
   pub before : ServedSlots
   pub after : ServedSlots

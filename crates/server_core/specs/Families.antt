@@ -4,7 +4,7 @@ use Rattle.std.specs.Prelude.{◌≤◌, ℕ, ◌==◌, IfSome, false, if◌then
 use Rattle.std.specs.Option.{option_map_or, option_and_then}
 use Rattle.std.specs.List.{slice_get, flat_map}
 use Rattle.server_events.specs.Configs.{ConfigValue, parent_of}
-use Rattle.server_events.specs.Events.{EventValue}
+use Rattle.server_events.specs.Events.{EventValue, LoneEvent}
 use Rattle.server_events.specs.Instance.{quota_limit, slots_limit}
 use Rattle.server_events.specs.Limits.{IsLimits}
 
@@ -35,27 +35,19 @@ pub record AreLimited (family : Family) : Type 0 where
 
 -- something happens to an instance, or to its parent
 pub data FamilyEvent : Type 0 where
-  own_event : EventValue → FamilyEvent
-  parent_event : EventValue → FamilyEvent
+  own_event : LoneEvent → FamilyEvent
+  parent_event : LoneEvent → FamilyEvent
 
-abbrev pub event_in : FamilyEvent → EventValue
+abbrev pub event_in : FamilyEvent → LoneEvent
 event_in (own_event e) = e
 event_in (parent_event e) = e
-
--- what happens, and when, without the number of the instance
-abbrev pub unnumbered : EventValue → EventValue
-unnumbered e = record e { instance = 0 }
-
-abbrev pub without_number : FamilyEvent → FamilyEvent
-without_number (own_event e) = own_event (unnumbered e)
-without_number (parent_event e) = parent_event (unnumbered e)
 
 -- what an event is to the instance of this number with that parent: to others than the two it is
 -- nothing
 abbrev pub family_event : ℕ → Option ℕ → EventValue → List FamilyEvent
 family_event i parent e =
-    if e.instance == i then own_event e ∷ []
-    else if option_map_or (λ p. e.instance == p) parent false then parent_event e ∷ []
+    if e.instance == i then own_event e.lone ∷ []
+    else if option_map_or (λ p. e.instance == p) parent false then parent_event e.lone ∷ []
     else []
 
 -- the events of the instance of this number and of its parent, in their common order

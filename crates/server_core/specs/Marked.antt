@@ -4,7 +4,7 @@
 use Rattle.std.specs.Prelude.{◌≡◌, ◌≢◌, ℕ, ◌+◌, Bool, true, false, List, [], ◌∷◌, ◌++◌, map, Option, Some, None}
 use Rattle.std.specs.Option.{option_map}
 use Rattle.instance_core.specs.Visible.{Blob}
-use Rattle.server_events.specs.Events.{EventValue}
+use Rattle.server_events.specs.Events.{LoneEvent}
 use Rattle.served_instance.specs.declared.refusal.EventRefusal.{EventRefusal}
 use Rattle.served_instance.specs.declared.refusal.EventRefusal.TheVariants.{NoMemory}
 use Rattle.served_instance.specs.Lone.{LoneInstance}
@@ -25,7 +25,7 @@ event_of e = e.0
 
 -- there was no other reason to refuse the event; it was done in part, nothing was ordered, and it
 -- is recorded
-pub record IsShortStep (parent : List Blob) (r : Run) (e : EventValue) (q : Run) : Type 0 where
+pub record IsShortStep (parent : List Blob) (r : Run) (e : LoneEvent) (q : Run) : Type 0 where
   pub accepted : refusal_of e r.lone ≡ None
   pub lone : Short parent e r.lone q.lone
   pub count : q.count ≡ r.count + 1
@@ -34,12 +34,12 @@ pub record IsShortStep (parent : List Blob) (r : Run) (e : EventValue) (q : Run)
 
 -- a step of an instance's run, while its parent has these texts: a marked event is done in part,
 -- any other as it is done otherwise
-abbrev pub IsRunStep : List Blob → Run → EventValue → Bool → Run → Type 0
+abbrev pub IsRunStep : List Blob → Run → LoneEvent → Bool → Run → Type 0
 IsRunStep parent r e false q = q ≡ run_step parent r e
 IsRunStep parent r e true q = IsShortStep parent r e q
 
 -- a step of its parent's run
-abbrev pub IsParentStep : Option Run → EventValue → Bool → Option Run → Type 0
+abbrev pub IsParentStep : Option Run → LoneEvent → Bool → Option Run → Type 0
 IsParentStep None e marked q = q ≡ None
 IsParentStep (Some r) e marked None = ⊥
 IsParentStep (Some r) e marked (Some q) = IsRunStep [] r e marked q
@@ -77,13 +77,13 @@ pub record GivesRunOutput (family : Family) (events : List FamilyEvent)
   pub there : given ≡ Some output
   pub runs : IsRunOutput family events output parent
 
--- the instance of the event stands for some state that the event leaves of l, while its parent has
--- these texts
-pub record StandsShortAt (parent : List Blob) (e : EventValue) (l : LoneInstance)
+-- the instance of this number stands for some state that the event leaves of l, while its parent
+-- has these texts
+pub record StandsShortAt (i : ℕ) (parent : List Blob) (e : LoneEvent) (l : LoneInstance)
     (vs : List ServedState) : Type 0 where
   pub left : LoneInstance
   pub short : Short parent e l left
-  pub stands : StandsAt e.instance vs left
+  pub stands : StandsAt i vs left
 
 -- this event is not recorded as refused for want of memory
 abbrev pub IsNotForMemory : ℕ × EventRefusal → Type 0

@@ -3,7 +3,7 @@ use Rattle.std.specs.Prelude.{◌≡◌, ◌≢◌, ℕ, Bool, List, Option, Som
 use Rattle.std.specs.List.{slice_get}
 use Rattle.served_instance.specs.StandsFor.{ServedState}
 use Rattle.instance_core.specs.Visible.{Blob}
-use Rattle.server_events.specs.Events.{EventValue}
+use Rattle.server_events.specs.Events.{EventValue, LoneEvent}
 use Rattle.server_core.specs.Runs.{Run, FamilyRun}
 use Rattle.server_core.specs.Marked.{IsRunStep}
 use Rattle.server_core.specs.Records.{RecordValue, IsRecord}
@@ -20,7 +20,7 @@ pub record HasRun (i : ℕ) (vs : List ServedState) (records : List RecordValue)
   pub noted : IsNotedAt i records r
 
 -- .. as this run after the event, which may have been refused for want of memory
-pub record HasStepped (parent : List Blob) (e : EventValue) (r : Run) (i : ℕ)
+pub record HasStepped (parent : List Blob) (e : LoneEvent) (r : Run) (i : ℕ)
     (vs : List ServedState) (records : List RecordValue) : Type 0 where
   pub marked : Bool
   pub run : Run
@@ -30,7 +30,7 @@ pub record HasStepped (parent : List Blob) (e : EventValue) (r : Run) (i : ℕ)
 -- the event took its instance, whose parent has these texts, a step on, and no other
 pub record HasGoneOn (parent : List Blob) (e : EventValue) (r : Run) (i : ℕ)
     (vs : List ServedState) (records : List RecordValue) : Type 0 where
-  pub own : e.instance ≡ i → HasStepped parent e r i vs records
+  pub own : e.instance ≡ i → HasStepped parent e.lone r i vs records
   pub other : e.instance ≢ i → HasRun i vs records r
 
 -- an instance's parent, if it has one, has come as far as this run

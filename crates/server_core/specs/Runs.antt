@@ -6,7 +6,7 @@ use Rattle.std.specs.Option.{option_map, option_map_or}
 use Rattle.execution.specs.Orders.{OrderValue}
 use Rattle.instance_core.specs.Visible.{Blob}
 use Rattle.server_events.specs.Configs.{ConfigValue}
-use Rattle.server_events.specs.Events.{EventValue}
+use Rattle.server_events.specs.Events.{LoneEvent}
 use Rattle.served_instance.specs.declared.refusal.EventRefusal.{EventRefusal}
 use Rattle.served_instance.specs.Lone.{LoneInstance, new_lone, all_sent_bytes}
 use Rattle.served_instance.specs.Refusals.{refusal_of, lone_step, lone_orders}
@@ -38,7 +38,7 @@ refusals_at place None = []
 refusals_at place (Some refusal) = (place, refusal) ∷ []
 
 -- an event happens while the instance's parent has these texts
-abbrev pub run_step : List Blob → Run → EventValue → Run
+abbrev pub run_step : List Blob → Run → LoneEvent → Run
 run_step parent r e = record {
   lone = lone_step parent e r.lone;
   count = r.count + 1;
@@ -47,7 +47,7 @@ run_step parent r e = record {
 }
 
 -- of an instance that builds on no other
-abbrev pub run_of : ConfigValue → List EventValue → Run
+abbrev pub run_of : ConfigValue → List LoneEvent → Run
 run_of config events = fold (run_step []) (new_run config) events
 
 -- ---- an instance and its parent

@@ -9,7 +9,7 @@ ghost use Rattle.server_events.specs.Configs.{ConfigValue, parent_of};
 ghost use Rattle.server_events.specs.Events.{EventValue, own_events};
 ghost use Rattle.served_instance.specs.Narrow.{IsNarrow};
 ghost use Rattle.served_instance.specs.Lone.{LoneInstance};
-ghost use Rattle.server_core.specs.Families.{Family, FamilyEvent, AreLimited, without_number, without_parent, event_in, family_events, family_in};
+ghost use Rattle.server_core.specs.Families.{Family, FamilyEvent, AreLimited, without_parent, event_in, family_events, family_in};
 ghost use Rattle.server_core.specs.LoneOutput.{config_at, lone_output};
 ghost use Rattle.server_core.specs.Runs.{FamilyRun, run_of, run_of_family, output_of_run};
 ghost use Rattle.server_core.specs.Outputs.{InstanceOutputValue};
@@ -25,14 +25,13 @@ pub fn equal_events_give_equal_outputs()
     ensures outputs { (these those : List ConfigValue) (i j : ℕ) (this that : ConfigValue)
         (events others : List EventValue) → config_at i these ≡ Some this
         → config_at j those ≡ Some that → family_in these this ≡ family_in those that
-        → map without_number (family_events i (parent_of these this) events)
-        ≡ map without_number (family_events j (parent_of those that) others)
+        → family_events i (parent_of these this) events
+        ≡ family_events j (parent_of those that) others
         → lone_output (family_in these this) (family_events i (parent_of these this) events)
         ≡ lone_output (family_in those that) (family_events j (parent_of those that) others) }
     // .. so also its state, from which all later answers follow.
     ensures state { (this that : Family) (events others : List FamilyEvent) → this ≡ that
-        → map without_number events ≡ map without_number others
-        → run_of_family this events ≡ run_of_family that others }
+        → events ≡ others → run_of_family this events ≡ run_of_family that others }
 {}
 
 /// An instance that builds on no other gives what its own configuration and its own events alone

@@ -2,7 +2,7 @@
 
 ghost use Rattle.std.specs.Prelude.{◌≡◌, ◌≢◌, ◌<◌, ◌+◌, ◌-◌, ◌^◌, ◌==◌, ◌++◌, List, not, map, filter, length, drop, Result, Err, IfOk, OnOk, OnErr};
 ghost use Rattle.server_events.specs.Configs.{ConfigValue};
-ghost use Rattle.server_events.specs.Events.{EventValue};
+ghost use Rattle.server_events.specs.Events.{LoneEvent};
 ghost use Rattle.server_events.specs.Shown.{what_value};
 ghost use Rattle.served_instance.specs.Connections.{AreApart};
 ghost use Rattle.served_instance.specs.Lone.{LoneInstance};
@@ -118,7 +118,7 @@ impl InstanceRecord {
     ) -> Result<(), AllocError>
         requires memory { outcome ≢ Err EventRefusal.NoMemory }
         requires room { self.old.count < 2 ^ 64 - 1 }
-        ensures stands { OnOk result ((r : Run) (parent : List Blob) (event : EventValue)
+        ensures stands { OnOk result ((r : Run) (parent : List Blob) (event : LoneEvent)
             → IsRecord self.old r → change ≡ connection_change event.what
             → IsRefusalOutcome outcome (refusal_of event r.lone)
             → HasConnections instance.now (lone_step parent event r.lone)
@@ -150,7 +150,7 @@ impl InstanceRecord {
     /// is to be dropped.
     pub fn note_short(&mut self, broken: Broken) -> Result<(), AllocError>
         requires room { self.old.count < 2 ^ 64 - 1 }
-        ensures stands { OnOk result ((r q : Run) (parent : List Blob) (event : EventValue)
+        ensures stands { OnOk result ((r q : Run) (parent : List Blob) (event : LoneEvent)
             → IsRecord self.old r → broken ≡ broken_by event.what
             → IsShortStep parent r event q → IsRecord self.new q) }
         ensures count { self.new.count ≡ self.old.count + 1 }

@@ -7,7 +7,7 @@ ghost use Rattle.server_events.specs.Faults.{AreParents};
 ghost use Rattle.server_events.specs.Shown.{event_value};
 ghost use Rattle.served_instance.specs.Bytes.{most_untaken, pending_bytes};
 ghost use Rattle.served_instance.specs.History.{has_failed};
-ghost use Rattle.served_instance.specs.CallsInCourse.{has_calls};
+ghost use Rattle.served_instance.specs.CallsInCourse.{has_calls, half_calls};
 ghost use Rattle.served_instance.specs.Past.{Past};
 ghost use Rattle.served_instance.specs.Connections.{open_at};
 ghost use Rattle.served_instance.specs.Lone.{LoneInstance, new_lone};
@@ -139,26 +139,27 @@ impl Server {
         ensures own { result ≢ Err EventRefusal.NoMemory → (l : LoneInstance)
             → StandsAt event.instance self.old.instances l
             → StandsAt event.instance self.new.instances
-            (lone_step (parent_texts event.instance self.old) (event_value event) l) }
+            (lone_step (parent_texts event.instance self.old) (event_value event).lone l) }
         // Where memory is refused it did a part of that.
         ensures short { result ≡ Err EventRefusal.NoMemory → (l : LoneInstance)
             → StandsAt event.instance self.old.instances l
-            → StandsShortAt (parent_texts event.instance self.old) (event_value event) l
-            self.new.instances }
+            → StandsShortAt event.instance (parent_texts event.instance self.old)
+            (event_value event).lone l self.new.instances }
         ensures settled { OnOk result ((l : LoneInstance) →
             StandsAt event.instance self.old.instances l → AreSettled
-            (lone_step (parent_texts event.instance self.old) (event_value event) l)) }
+            (lone_step (parent_texts event.instance self.old) (event_value event).lone l)) }
         // The orders are those that it would give by itself.
         ensures orders { IfOk result (λ orders. (l : LoneInstance)
             → StandsAt event.instance self.old.instances l
             → OrdersStand event.instance self.new.instances orders
-            (lone_orders (parent_texts event.instance self.old) (event_value event) l)) }
+            (lone_orders (parent_texts event.instance self.old)
+            (event_value event).lone l)) }
         // No other instance changes, whatever came of the event.
         ensures others { (j : ℕ) → j ≢ event.instance
             → instance_at j self.new.instances ≡ instance_at j self.old.instances }
         // Each refusal has its reason, and but for want of memory changes nothing.
         ensures outcome { (l : LoneInstance) → StandsAt event.instance self.old.instances l
-            → IsRefusalOutcome result (refusal_of (event_value event) l) }
+            → IsRefusalOutcome result (refusal_of (event_value event).lone l) }
         ensures stray { (result ≡ Err EventRefusal.NoSuchInstance)
             ↔ (length self.old.instances ≤ event.instance) }
         ensures refused { IfErr result (λ refusal. refusal ≢ EventRefusal.NoMemory
@@ -166,7 +167,7 @@ impl Server {
         // Each instance keeps its limits, also where the event is refused.
         ensures within { AllByRecursion IsServedWithin self.new.instances }
         // An event that takes no memory is never refused for want of it.
-        ensures memory_free { NeedsNoMemory (event_value event).what
+        ensures memory_free { NeedsNoMemory (event_value event).lone.what
             → result ≢ Err EventRefusal.NoMemory }
         ensures count { length self.new.instances ≡ length self.old.instances }
         // Each instance builds on the one that it built on.
@@ -208,6 +209,16 @@ impl Server {
             → result ≡ option_map (λ p. has_calls p.history) (open_at connection l.connections) }
     {
         self.instance(instance)?.has_calls(connection)
+    }
+
+    /// How many calls are in course on an open connection that their client did not end yet, and of
+    /// which few bytes may end a message that came in part.
+    pub fn half_calls(&self, instance: u32, connection: u32) -> Option<usize>
+        ensures none { instance_at instance self.now.instances ≡ None → result ≡ None }
+        ensures calls { (l : LoneInstance) → StandsAt instance self.now.instances l → result
+            ≡ option_map (λ p. half_calls p.history) (open_at connection l.connections) }
+    {
+        self.instance(instance)?.half_calls(connection)
     }
 
     /// The texts that the instances hold: those of their blobs, those that their jobs keep which
@@ -316,30 +327,31 @@ fn step_one(
         → StandsAt event.instance (all_in pool.old instances.old) l
         → StandsAt event.instance (all_in pool.new instances.new)
         (lone_step (texts_of_one (parent_at event.instance parents.now)
-        (all_in pool.old instances.old)) (event_value event) l) }
+        (all_in pool.old instances.old)) (event_value event).lone l) }
     ensures short { result ≡ Err EventRefusal.NoMemory → (l : LoneInstance)
         → StandsAt event.instance (all_in pool.old instances.old) l
-        → StandsShortAt (texts_of_one (parent_at event.instance parents.now)
-        (all_in pool.old instances.old)) (event_value event) l (all_in pool.new instances.new) }
+        → StandsShortAt event.instance (texts_of_one (parent_at event.instance parents.now)
+        (all_in pool.old instances.old)) (event_value event).lone l
+        (all_in pool.new instances.new) }
     ensures settled { OnOk result ((l : LoneInstance) → StandsAt event.instance
         (all_in pool.old instances.old) l → AreSettled
         (lone_step (texts_of_one (parent_at event.instance parents.now)
-        (all_in pool.old instances.old)) (event_value event) l)) }
+        (all_in pool.old instances.old)) (event_value event).lone l)) }
     ensures orders { IfOk result (λ orders. (l : LoneInstance)
         → StandsAt event.instance (all_in pool.old instances.old) l
         → OrdersStand event.instance (all_in pool.new instances.new) orders
         (lone_orders (texts_of_one (parent_at event.instance parents.now)
-        (all_in pool.old instances.old)) (event_value event) l)) }
+        (all_in pool.old instances.old)) (event_value event).lone l)) }
     ensures others { (j : ℕ) → j ≢ event.instance
         → instance_at j (all_in pool.new instances.new)
         ≡ instance_at j (all_in pool.old instances.old) }
     ensures outcome { (l : LoneInstance) → StandsAt event.instance (all_in pool.old instances.old) l
-        → IsRefusalOutcome result (refusal_of (event_value event) l) }
+        → IsRefusalOutcome result (refusal_of (event_value event).lone l) }
     ensures stray { (result ≡ Err EventRefusal.NoSuchInstance)
         ↔ (length instances.old ≤ event.instance) }
     ensures refused { IfErr result (λ refusal. refusal ≢ EventRefusal.NoMemory
         → all_in pool.new instances.new ≡ all_in pool.old instances.old) }
-    ensures memory_free { NeedsNoMemory (event_value event).what
+    ensures memory_free { NeedsNoMemory (event_value event).lone.what
         → result ≢ Err EventRefusal.NoMemory }
     ensures server { IsServer pool.new instances.new }
     ensures count { length instances.new ≡ length instances.old }
@@ -367,7 +379,7 @@ fn step_at(
     requires parent { IfSome parent (λ p. (p < length instances.old) × (p ≢ number)) }
     requires spare { spare.old.instance.view.entries ≡ [] }
     ensures acted { HasActed pool.old (texts_of_one parent (all_in pool.old instances.old))
-        instances.old pool.new instances.new number (event_value event) result }
+        instances.old pool.new instances.new number (event_value event).lone result }
     ensures spare { spare.new ≡ spare.old }
 {
     match parent {
@@ -391,7 +403,7 @@ fn step_beside(
     requires place { place < length instances.old }
     requires apart { place ≢ number }
     ensures acted { HasActed pool.old (texts_at place (all_in pool.old instances.old))
-        instances.old pool.new instances.new number (event_value event) result }
+        instances.old pool.new instances.new number (event_value event).lone result }
     ensures spare { spare.new ≡ spare.old }
 {
     swap(&mut instances[number], spare);

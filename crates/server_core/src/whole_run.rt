@@ -257,7 +257,8 @@ fn step_and_note(
     ensures runs { OnOk result ((i : ℕ) (r : Run) → HasRun i server.old.instances records.old r
         → HasRun i server.new.instances records.new
         (if event.instance == i
-        then run_step (parent_texts event.instance server.old) r (event_value event) else r)) }
+        then run_step (parent_texts event.instance server.old) r (event_value event).lone
+        else r)) }
     ensures strays { OnOk result (strays.new.items
         ≡ strays.old.items ++ stray_at place (length server.old.instances)
         (event_value event)) }

@@ -1,5 +1,5 @@
 -- What happens to a server, and what of it happens to one instance.
-use Rattle.std.specs.Prelude.{ℕ, ◌==◌, List, filter}
+use Rattle.std.specs.Prelude.{ℕ, ◌==◌, List, filter, map}
 use Rattle.run_outcomes.specs.Outcomes.{OutcomeValue}
 
 -- a connection was opened, got bytes, had some taken or was closed; time went on; or a job's run
@@ -12,12 +12,17 @@ pub data WhatValue : Type 0 where
   tick : WhatValue
   ended : ℕ → OutcomeValue → WhatValue
 
--- what happens at a moment, in milliseconds, to the instance of a number
-pub record EventValue : Type 0 where
+-- what happens at a moment, in milliseconds
+pub record LoneEvent : Type 0 where
   pub moment : ℕ
-  pub instance : ℕ
   pub what : WhatValue
 
--- the events of the instance of one number, in order
-abbrev pub own_events : ℕ → List EventValue → List EventValue
-own_events instance events = filter (λ event. event.instance == instance) events
+-- .. to the instance of a number
+pub record EventValue : Type 0 where
+  pub instance : ℕ
+  pub lone : LoneEvent
+
+-- what happens to the instance of one number, in order
+abbrev pub own_events : ℕ → List EventValue → List LoneEvent
+own_events instance events =
+    map (λ event. event.lone) (filter (λ event. event.instance == instance) events)

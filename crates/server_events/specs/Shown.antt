@@ -28,5 +28,5 @@ what_value Tick = tick
 what_value (Outcome job outcome) = ended job (outcome_shown outcome)
 
 abbrev pub event_value : Event → EventValue
-event_value event =
-    record { moment = event.moment; instance = event.instance; what = what_value event.what }
+event_value e =
+    record { instance = e.instance; lone = record { moment = e.moment; what = what_value e.what } }

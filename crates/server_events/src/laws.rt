@@ -31,7 +31,8 @@ pub fn own_events_are_those_of_the_instance()
     ensures append { (instance : ℕ) (earlier later : List EventValue)
         → own_events instance (earlier ++ later) ≡ own_events instance earlier
         ++ own_events instance later }
-    ensures own { (event : EventValue) → own_events event.instance (event ∷ []) ≡ event ∷ [] }
+    ensures own { (event : EventValue)
+        → own_events event.instance (event ∷ []) ≡ event.lone ∷ [] }
     ensures other { (instance : ℕ) (event : EventValue)
         → event.instance ≢ instance → own_events instance (event ∷ []) ≡ [] }
 {}

@@ -16,4 +16,4 @@ returns-in-Some-clause-faultless c = accepted_has_none _ _ c.requires c.in-Ok.en
 
 pub returns-in-None-clause-fault : goal.returns-in-None-clause-fault
 returns-in-None-clause-fault c =
-    c.bad_value.ensures (map (string_bytes {Z = Global}) c.args.words.now) (asked_is _ _ _ c.requires c.in-Ok.ensures.ok.2 ∙ sym c.in_ok-invocation.ensures ∙ ap (option_map invocation_value) c.in-None.is)
+    c.value_fault.ensures (map (string_bytes {Z = Global}) c.args.words.now) (asked_is _ _ _ c.requires c.in-Ok.ensures.ok.2 ∙ sym c.in_ok-invocation.ensures ∙ ap (option_map invocation_value) c.in-None.is)

@@ -25,8 +25,8 @@ static HELP: [(&str, Wanted); 7] = [
             Options:\n  \
             -h, --help     Print help\n  \
             -V, --version  Print version\n\n\
-            A number of bytes in an option may have a unit behind it: K, M, G or T, powers of \
-            1,024.\n\
+            A number of bytes, blobs or results in an option may have a unit: K, M, G or T, powers \
+            of 1,024.\n\
             8G is 8589934592, 500M is 524288000. In a word for an instance it is digits \
             alone.\n\n\
             Statuses:\n  \
@@ -34,7 +34,8 @@ static HELP: [(&str, Wanted); 7] = [
             1  something cannot be read, written, made, opened or begun\n  \
             2  the command line is wrong\n  \
             3  unary, replay: a line of the script is wrong, and nothing was carried out\n  \
-            4  probe: too few bytes came; check: the server does not answer\n  \
+            4  probe: too few bytes came; check: the server does not answer, or its figures are \
+            old\n  \
             5  out of memory\n\
             Standard error says why, in lines that begin with `remoted: ` or `error: `.\n\n\
             Examples:\n  \
@@ -163,8 +164,8 @@ static HELP: [(&str, Wanted); 7] = [
             0  it answers, or its figures are told\n  \
             1  FILE cannot be read, or standard output cannot be written\n  \
             2  the command line is wrong\n  \
-            4  it does not answer, not in time, or refuses, or FILE has no such instance; \
-            standard error says which\n  \
+            4  it does not answer, not in time, or refuses; FILE has no such instance, or was written \
+            more than 60 seconds ago; standard error says which\n  \
             5  out of memory\n\n\
             Examples:\n  \
             remoted check --port 8980\n  \

@@ -149,8 +149,9 @@ static MISTAKES: [(&str, Wanted); 35] = [
         "remoted serve --work here --turns 9223372036854775808 a:1:2:3",
         Ends(
             2,
-            "error: --turns is not a number from 0 to 9223372036854775807, and not endless\n\n\
-            Usage: remoted [COMMAND]\n\n\
+            "error: --turns is not a number from 0 to 9223372036854775807, and not endless: \
+            '9223372036854775808'\n\n\
+            Usage: remoted serve [OPTIONS] --work <DIR> <NAME:PORT:QUOTA:SLOTS[:PARENT]>...\n\n\
             For more information, try '--help'.\n",
         ),
     ),
@@ -158,8 +159,9 @@ static MISTAKES: [(&str, Wanted); 35] = [
         "remoted serve --work here --turns 18446744073709551615 a:1:2:3",
         Ends(
             2,
-            "error: --turns is not a number from 0 to 9223372036854775807, and not endless\n\n\
-            Usage: remoted [COMMAND]\n\n\
+            "error: --turns is not a number from 0 to 9223372036854775807, and not endless: \
+            '18446744073709551615'\n\n\
+            Usage: remoted serve [OPTIONS] --work <DIR> <NAME:PORT:QUOTA:SLOTS[:PARENT]>...\n\n\
             For more information, try '--help'.\n",
         ),
     ),
@@ -167,8 +169,9 @@ static MISTAKES: [(&str, Wanted); 35] = [
         "remoted serve --work here --turns Endless a:1:2:3",
         Ends(
             2,
-            "error: --turns is not a number from 0 to 9223372036854775807, and not endless\n\n\
-            Usage: remoted [COMMAND]\n\n\
+            "error: --turns is not a number from 0 to 9223372036854775807, and not endless: \
+            'Endless'\n\n\
+            Usage: remoted serve [OPTIONS] --work <DIR> <NAME:PORT:QUOTA:SLOTS[:PARENT]>...\n\n\
             For more information, try '--help'.\n",
         ),
     ),
@@ -176,8 +179,9 @@ static MISTAKES: [(&str, Wanted); 35] = [
         "remoted serve --work here --turns= a:1:2:3",
         Ends(
             2,
-            "error: --turns is not a number from 0 to 9223372036854775807, and not endless\n\n\
-            Usage: remoted [COMMAND]\n\n\
+            "error: --turns is not a number from 0 to 9223372036854775807, and not endless: \
+            ''\n\n\
+            Usage: remoted serve [OPTIONS] --work <DIR> <NAME:PORT:QUOTA:SLOTS[:PARENT]>...\n\n\
             For more information, try '--help'.\n",
         ),
     ),
@@ -234,8 +238,8 @@ static MISTAKES: [(&str, Wanted); 35] = [
         "remoted check",
         Ends(
             2,
-            "error: either --port is given, or --metrics\n\n\
-            Usage: remoted [COMMAND]\n\n\
+            "error: neither --port is given, nor --metrics\n\n\
+            Usage: remoted check [OPTIONS]\n\n\
             For more information, try '--help'.\n",
         ),
     ),
@@ -243,8 +247,8 @@ static MISTAKES: [(&str, Wanted); 35] = [
         "remoted check --port 1 --metrics out",
         Ends(
             2,
-            "error: either --port is given, or --metrics\n\n\
-            Usage: remoted [COMMAND]\n\n\
+            "error: --port and --metrics are given, and one of them is asked at a time\n\n\
+            Usage: remoted check [OPTIONS]\n\n\
             For more information, try '--help'.\n",
         ),
     ),
@@ -252,7 +256,8 @@ static MISTAKES: [(&str, Wanted); 35] = [
         "remoted serve --work here --blobs 0 a:1:2:3",
         Ends(
             2,
-            "error: invalid value '0' for '--blobs <N>': 0 is not in 1..=2147483648\n\n\
+            "error: --blobs is not a number from 1 to 2147483648, as 65536, 64K or 1M: '0'\n\n\
+            Usage: remoted serve [OPTIONS] --work <DIR> <NAME:PORT:QUOTA:SLOTS[:PARENT]>...\n\n\
             For more information, try '--help'.\n",
         ),
     ),
@@ -260,8 +265,9 @@ static MISTAKES: [(&str, Wanted); 35] = [
         "remoted replay --results 2147483649 in.txt",
         Ends(
             2,
-            "error: invalid value '2147483649' for '--results <N>': 2147483649 is not in \
-            0..=2147483648\n\n\
+            "error: --results is not a number from 0 to 2147483648, as 10000 or 64K: \
+            '2147483649'\n\n\
+            Usage: remoted replay [OPTIONS] <FILE>\n\n\
             For more information, try '--help'.\n",
         ),
     ),
@@ -269,9 +275,9 @@ static MISTAKES: [(&str, Wanted); 35] = [
         "remoted serve --work here --result-bytes 4095K a:1:2:3",
         Ends(
             2,
-            "error: --result-bytes is not a number of bytes from 4194304 to 2147483648, as 64M or \
-            2G\n\n\
-            Usage: remoted [COMMAND]\n\n\
+            "error: --result-bytes is not a number of bytes from 4194304 to 2147483648, as 64M \
+            or 2G: '4095K'\n\n\
+            Usage: remoted serve [OPTIONS] --work <DIR> <NAME:PORT:QUOTA:SLOTS[:PARENT]>...\n\n\
             For more information, try '--help'.\n",
         ),
     ),
@@ -279,8 +285,9 @@ static MISTAKES: [(&str, Wanted); 35] = [
         "remoted unary --window 2G in.txt",
         Ends(
             2,
-            "error: --window is not a number of bytes from 65535 to 2147483647, as 64K or 4M\n\n\
-            Usage: remoted [COMMAND]\n\n\
+            "error: --window is not a number of bytes from 65535 to 2147483647, as 64K or 4M: \
+            '2G'\n\n\
+            Usage: remoted unary [OPTIONS] <FILE>\n\n\
             For more information, try '--help'.\n",
         ),
     ),
@@ -318,53 +325,106 @@ static MISTAKES: [(&str, Wanted); 35] = [
     ),
 ];
 
-/// What is told where `--want` is no number of bytes.
-const NO_BYTES: &str =
-    "error: --want is not a number of bytes from 0 to 9223372036854775807, as 1000, \
-    64K, 500M or 8G\n\n\
-    Usage: remoted [COMMAND]\n\n\
-    For more information, try '--help'.\n";
-
 static NO_NUMBERS_OF_BYTES: [(&str, Wanted); 10] = [
     (
         "remoted probe --port 1 --send in.bin --want 9223372036854775808",
-        Ends(2, NO_BYTES),
+        Ends(
+            2,
+            "error: --want is not a number of bytes from 0 to 9223372036854775807, as 1000, 64K, \
+            500M or 8G: '9223372036854775808'\n\n\
+            Usage: remoted probe [OPTIONS] --port <P> --send <FILE> --want <N>\n\n\
+            For more information, try '--help'.\n",
+        ),
     ),
     (
         "remoted probe --port 1 --send in.bin --want 8388608T",
-        Ends(2, NO_BYTES),
+        Ends(
+            2,
+            "error: --want is not a number of bytes from 0 to 9223372036854775807, as 1000, 64K, \
+            500M or 8G: '8388608T'\n\n\
+            Usage: remoted probe [OPTIONS] --port <P> --send <FILE> --want <N>\n\n\
+            For more information, try '--help'.\n",
+        ),
     ),
     (
         "remoted probe --port 1 --send in.bin --want 16777216T",
-        Ends(2, NO_BYTES),
+        Ends(
+            2,
+            "error: --want is not a number of bytes from 0 to 9223372036854775807, as 1000, 64K, \
+            500M or 8G: '16777216T'\n\n\
+            Usage: remoted probe [OPTIONS] --port <P> --send <FILE> --want <N>\n\n\
+            For more information, try '--help'.\n",
+        ),
     ),
     (
         "remoted probe --port 1 --send in.bin --want 8g",
-        Ends(2, NO_BYTES),
+        Ends(
+            2,
+            "error: --want is not a number of bytes from 0 to 9223372036854775807, as 1000, 64K, \
+            500M or 8G: '8g'\n\n\
+            Usage: remoted probe [OPTIONS] --port <P> --send <FILE> --want <N>\n\n\
+            For more information, try '--help'.\n",
+        ),
     ),
     (
         "remoted probe --port 1 --send in.bin --want 8GB",
-        Ends(2, NO_BYTES),
+        Ends(
+            2,
+            "error: --want is not a number of bytes from 0 to 9223372036854775807, as 1000, 64K, \
+            500M or 8G: '8GB'\n\n\
+            Usage: remoted probe [OPTIONS] --port <P> --send <FILE> --want <N>\n\n\
+            For more information, try '--help'.\n",
+        ),
     ),
     (
         "remoted probe --port 1 --send in.bin --want 8G1",
-        Ends(2, NO_BYTES),
+        Ends(
+            2,
+            "error: --want is not a number of bytes from 0 to 9223372036854775807, as 1000, 64K, \
+            500M or 8G: '8G1'\n\n\
+            Usage: remoted probe [OPTIONS] --port <P> --send <FILE> --want <N>\n\n\
+            For more information, try '--help'.\n",
+        ),
     ),
     (
         "remoted probe --port 1 --send in.bin --want G",
-        Ends(2, NO_BYTES),
+        Ends(
+            2,
+            "error: --want is not a number of bytes from 0 to 9223372036854775807, as 1000, 64K, \
+            500M or 8G: 'G'\n\n\
+            Usage: remoted probe [OPTIONS] --port <P> --send <FILE> --want <N>\n\n\
+            For more information, try '--help'.\n",
+        ),
     ),
     (
         "remoted probe --port 1 --send in.bin --want=",
-        Ends(2, NO_BYTES),
+        Ends(
+            2,
+            "error: --want is not a number of bytes from 0 to 9223372036854775807, as 1000, 64K, \
+            500M or 8G: ''\n\n\
+            Usage: remoted probe [OPTIONS] --port <P> --send <FILE> --want <N>\n\n\
+            For more information, try '--help'.\n",
+        ),
     ),
     (
         "remoted probe --port 1 --send in.bin --want 1.5G",
-        Ends(2, NO_BYTES),
+        Ends(
+            2,
+            "error: --want is not a number of bytes from 0 to 9223372036854775807, as 1000, 64K, \
+            500M or 8G: '1.5G'\n\n\
+            Usage: remoted probe [OPTIONS] --port <P> --send <FILE> --want <N>\n\n\
+            For more information, try '--help'.\n",
+        ),
     ),
     (
         "remoted probe --port 1 --send in.bin --want +8G",
-        Ends(2, NO_BYTES),
+        Ends(
+            2,
+            "error: --want is not a number of bytes from 0 to 9223372036854775807, as 1000, 64K, \
+            500M or 8G: '+8G'\n\n\
+            Usage: remoted probe [OPTIONS] --port <P> --send <FILE> --want <N>\n\n\
+            For more information, try '--help'.\n",
+        ),
     ),
 ];
 

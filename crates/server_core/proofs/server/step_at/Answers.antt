@@ -30,7 +30,7 @@ returns-in-None-clause-acted c =
     let d = c.index-instances-number.result in
     let a = get_or xs n d in
     let b = c.step.new.self in
-    let e = event_value c.args.event in
+    let e = (event_value c.args.event).lone in
     let r = c.step.result in
     let read : visible_in p c.view.result.now ≡ [] = nothing_read p c.view.result.now (ap (λ (v : ViewValue). v.entries) c.view.ensures ∙ c.requires.spare) in
     let did = c.step.ensures in
@@ -58,4 +58,4 @@ pub returns-in-Some-clause-acted : goal.returns-in-Some-clause-acted
 returns-in-Some-clause-acted c =
     let p = c.args.pool.now in
     let xs = c.args.instances.now in
-    subst (λ (o : Option ℕ). HasActed p (texts_of_one o (all_in p xs)) xs c.step_beside.new.pool c.step_beside.new.instances c.args.number (event_value c.args.event) c.step_beside.result) (sym c.in-Some.is) c.step_beside.ensures.acted
+    subst (λ (o : Option ℕ). HasActed p (texts_of_one o (all_in p xs)) xs c.step_beside.new.pool c.step_beside.new.instances c.args.number (event_value c.args.event).lone c.step_beside.result) (sym c.in-Some.is) c.step_beside.ensures.acted

@@ -34,7 +34,7 @@ pub returns-clause-acted : goal.returns-clause-acted
 returns-clause-acted c =
     let p = c.args.pool.now in
     let q = c.step-outcome.new.pool in
-    let e = event_value c.args.event in
+    let e = (event_value c.args.event).lone in
     let r = c.step-outcome.result in
     let xs = c.args.instances.now in
     let n = c.args.number in

@@ -32,8 +32,8 @@ returns-then-matches-clause-runs c =
     let memory : c.step-outcome.result ≡ Err NoMemory = grind (arith, common_steps) in
     on_ok_weaker c.note_short.result
     (λ notes. short_on _ e _ _ _ _ _ (did.short memory) did.others
-    (λ l s. subst (λ (o : Result (Vec Order Global) EventRefusal). IsRefusalOutcome o (refusal_of e l)) memory (did.outcome l s))
-    (λ r q old step. notes r q (parent_texts c.args.event.instance c.args.server.now) e old c.by-broken.ensures step))
+    (λ l s. subst (λ (o : Result (Vec Order Global) EventRefusal). IsRefusalOutcome o (refusal_of e.lone l)) memory (did.outcome l s))
+    (λ r q old step. notes r q (parent_texts c.args.event.instance c.args.server.now) e.lone old c.by-broken.ensures step))
     c.note_short.ensures.stands
 
 pub returns-then-matches-clause-strays : goal.returns-then-matches-clause-strays
@@ -47,7 +47,7 @@ pub returns-else-matches-clause-runs : goal.returns-else-matches-clause-runs
 returns-else-matches-clause-runs c =
     let did = c.step-outcome.ensures in
     let ne : c.step-outcome.result ≢ Err NoMemory = grind (arith, common_steps) in
-    on_ok_weaker c.note.result (λ notes. noted_on _ c.step-outcome.result (event_value c.args.event) _ _ _ c.in-Some.pool.now c.in-Some.served.now _ _ (did.own ne) did.others did.outcome (sym c.in-Some.ensures.found) c.in-Some.ensures.fit did.orders (λ r st. notes r (parent_texts c.args.event.instance c.args.server.now) (event_value c.args.event) st c.made_by-change.ensures)) c.note.ensures.stands
+    on_ok_weaker c.note.result (λ notes. noted_on _ c.step-outcome.result (event_value c.args.event) _ _ _ c.in-Some.pool.now c.in-Some.served.now _ _ (did.own ne) did.others did.outcome (sym c.in-Some.ensures.found) c.in-Some.ensures.fit did.orders (λ r st. notes r (parent_texts c.args.event.instance c.args.server.now) (event_value c.args.event).lone st c.made_by-change.ensures)) c.note.ensures.stands
 
 pub returns-else-matches-clause-strays : goal.returns-else-matches-clause-strays
 returns-else-matches-clause-strays c =

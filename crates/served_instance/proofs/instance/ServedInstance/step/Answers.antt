@@ -29,20 +29,20 @@ use Rattle.served_instance.proofs.BrokenOff.{IsBroken, is_left, still_tidy}
 use Rattle.served_instance.proofs.instance.ServedInstance.step.Goals as goal
 
 pub returns-in-Err-clause-outcome : goal.returns-in-Err-clause-outcome
-returns-in-Err-clause-outcome c = λ l s. refused_outcome c.args.pool.now (Unit {0}) (event_value c.args.event) c.args.self.now l c.in-Err.refusal (seen_refusal (event_value c.args.event) c.self.inside.instance c.deref.result.now c.self.inside.connections.items c.args.self.now (Some c.in-Err.refusal) c.deref.ensures.value c.self.view_is c.in-Err.ensures.refused) c.requires.kept.fit s
+returns-in-Err-clause-outcome c = λ l s. refused_outcome c.args.pool.now (Unit {0}) (event_value c.args.event).lone c.args.self.now l c.in-Err.refusal (seen_refusal (event_value c.args.event).lone c.self.inside.instance c.deref.result.now c.self.inside.connections.items c.args.self.now (Some c.in-Err.refusal) c.deref.ensures.value c.self.view_is c.in-Err.ensures.refused) c.requires.kept.fit s
 
 pub returns-in-Err-clause-stands : goal.returns-in-Err-clause-stands
-returns-in-Err-clause-stands c = λ l s n. kept_at_refusal (visible_in c.args.pool.now c.args.parent.now) c.args.pool.now (event_value c.args.event) c.args.self.now l c.in-Err.refusal (seen_refusal (event_value c.args.event) c.self.inside.instance c.deref.result.now c.self.inside.connections.items c.args.self.now (Some c.in-Err.refusal) c.deref.ensures.value c.self.view_is c.in-Err.ensures.refused) c.requires.kept.fit s
+returns-in-Err-clause-stands c = λ l s n. kept_at_refusal (visible_in c.args.pool.now c.args.parent.now) c.args.pool.now (event_value c.args.event).lone c.args.self.now l c.in-Err.refusal (seen_refusal (event_value c.args.event).lone c.self.inside.instance c.deref.result.now c.self.inside.connections.items c.args.self.now (Some c.in-Err.refusal) c.deref.ensures.value c.self.view_is c.in-Err.ensures.refused) c.requires.kept.fit s
 
 pub returns-in-Err-act-clause-outcome : goal.returns-in-Err-act-clause-outcome
-returns-in-Err-act-clause-outcome c = λ l s. no_reason c.args.pool.now (event_value c.args.event) c.args.self.now l (seen_refusal (event_value c.args.event) c.self.inside.instance c.deref.result.now c.self.inside.connections.items c.args.self.now None c.deref.ensures.value c.self.view_is c.in-Ok.ensures.refused) c.requires.kept.fit s
+returns-in-Err-act-clause-outcome c = λ l s. no_reason c.args.pool.now (event_value c.args.event).lone c.args.self.now l (seen_refusal (event_value c.args.event).lone c.self.inside.instance c.deref.result.now c.self.inside.connections.items c.args.self.now None c.deref.ensures.value c.self.view_is c.in-Ok.ensures.refused) c.requires.kept.fit s
 
 pub returns-in-Ok-act-clause-outcome : goal.returns-in-Ok-act-clause-outcome
-returns-in-Ok-act-clause-outcome c = λ l s. no_reason c.args.pool.now (event_value c.args.event) c.args.self.now l (seen_refusal (event_value c.args.event) c.self.inside.instance c.deref.result.now c.self.inside.connections.items c.args.self.now None c.deref.ensures.value c.self.view_is c.in-Ok.ensures.refused) c.requires.kept.fit s
+returns-in-Ok-act-clause-outcome c = λ l s. no_reason c.args.pool.now (event_value c.args.event).lone c.args.self.now l (seen_refusal (event_value c.args.event).lone c.self.inside.instance c.deref.result.now c.self.inside.connections.items c.args.self.now None c.deref.ensures.value c.self.view_is c.in-Ok.ensures.refused) c.requires.kept.fit s
 
 pub returns-in-Ok-act-clause-stands : goal.returns-in-Ok-act-clause-stands
 returns-in-Ok-act-clause-stands c = λ l s n.
-    let e = event_value c.args.event in
+    let e = (event_value c.args.event).lone in
     let p = c.args.pool.now in
     let parent = c.args.parent.now in
     let seen = visible_in p parent in
@@ -58,11 +58,11 @@ returns-in-Ok-act-clause-stands c = λ l s n.
     let rested = at_rest parent q j ns (effect_of e.what m) acts in
     let pumped = c.pump.ensures.stands k (record { state = rested.state; connections = rested.connections }) in
     let here = served_by c.pump.new.pool c.pump.new.self (after_pump k) (accepted_watched seen e l jobs s.watched) c.pump.ensures.tidy c.pump.ensures.kept.fit pumped in
-    stands_accepted seen p e c.args.self.now (served_state_in c.pump.new.pool c.pump.new.self) l (seen_refusal (event_value c.args.event) c.self.inside.instance c.deref.result.now c.self.inside.connections.items c.args.self.now None c.deref.ensures.value c.self.view_is c.in-Ok.ensures.refused) c.requires.kept.fit s here
+    stands_accepted seen p e c.args.self.now (served_state_in c.pump.new.pool c.pump.new.self) l (seen_refusal (event_value c.args.event).lone c.self.inside.instance c.deref.result.now c.self.inside.connections.items c.args.self.now None c.deref.ensures.value c.self.view_is c.in-Ok.ensures.refused) c.requires.kept.fit s here
 
 pub returns-in-Ok-act-clause-settled : goal.returns-in-Ok-act-clause-settled
 returns-in-Ok-act-clause-settled c = λ l s.
-    let e = event_value c.args.event in
+    let e = (event_value c.args.event).lone in
     let p = c.args.pool.now in
     let parent = c.args.parent.now in
     let seen = visible_in p parent in
@@ -72,11 +72,11 @@ returns-in-Ok-act-clause-settled c = λ l s.
     let q = c.act.new.pool in
     let ns = c.act.new.connections.items in
     let acts = c.in-Ok-act.ensures.acted m rest came in
-    settled_accepted seen p e c.args.self.now l (seen_refusal (event_value c.args.event) c.self.inside.instance c.deref.result.now c.self.inside.connections.items c.args.self.now None c.deref.ensures.value c.self.view_is c.in-Ok.ensures.refused) c.requires.kept.fit s (pump_settles (text_at q) (map connection_shown ns) (effect_of e.what m).connections acts.connections)
+    settled_accepted seen p e c.args.self.now l (seen_refusal (event_value c.args.event).lone c.self.inside.instance c.deref.result.now c.self.inside.connections.items c.args.self.now None c.deref.ensures.value c.self.view_is c.in-Ok.ensures.refused) c.requires.kept.fit s (pump_settles (text_at q) (map connection_shown ns) (effect_of e.what m).connections acts.connections)
 
 pub returns-in-Ok-act-clause-orders : goal.returns-in-Ok-act-clause-orders
 returns-in-Ok-act-clause-orders c = λ l s.
-    let e = event_value c.args.event in
+    let e = (event_value c.args.event).lone in
     let p = c.args.pool.now in
     let parent = c.args.parent.now in
     let seen = visible_in p parent in
@@ -96,16 +96,16 @@ returns-in-Ok-act-clause-orders c = λ l s.
     let orders = c.in-Ok-act.orders.items in
     let are : AreOrders (state_in c.pump.new.pool c.pump.new.self.instance).jobs orders (orders_of_what e.what m) =
     subst (λ (js : Jobs JobValue). AreOrders js orders (orders_of_what e.what m)) (sym same) (c.in-Ok-act.ensures.orders m came) in
-    orders_accepted seen p e c.args.self.now l (state_in c.pump.new.pool c.pump.new.self.instance).jobs orders (seen_refusal (event_value c.args.event) c.self.inside.instance c.deref.result.now c.self.inside.connections.items c.args.self.now None c.deref.ensures.value c.self.view_is c.in-Ok.ensures.refused) c.requires.kept.fit s are
+    orders_accepted seen p e c.args.self.now l (state_in c.pump.new.pool c.pump.new.self.instance).jobs orders (seen_refusal (event_value c.args.event).lone c.self.inside.instance c.deref.result.now c.self.inside.connections.items c.args.self.now None c.deref.ensures.value c.self.view_is c.in-Ok.ensures.refused) c.requires.kept.fit s are
 
 pub act-requires : goal.act-requires
 act-requires c =
-    let e = event_value c.args.event in
+    let e = (event_value c.args.event).lone in
     let p = c.args.pool.now in
     let P : ServedSlots → Type 0 = λ v. refusal_by e v ≡ None in
     let vs = map connection_shown c.self.inside.connections.items in
     let at : ServedSlots = slots_at c.self.inside.instance vs in
-    let none : refusal_by e c.args.self.now ≡ None = sym (seen_refusal (event_value c.args.event) c.self.inside.instance c.deref.result.now c.self.inside.connections.items c.args.self.now None c.deref.ensures.value c.self.view_is c.in-Ok.ensures.refused) in
+    let none : refusal_by e c.args.self.now ≡ None = sym (seen_refusal (event_value c.args.event).lone c.self.inside.instance c.deref.result.now c.self.inside.connections.items c.args.self.now None c.deref.ensures.value c.self.view_is c.in-Ok.ensures.refused) in
     let Q : ServedSlots → Type 0 = λ v. IsServedInPool p v in
     let kept : IsServedInPool p at = subst Q (sym c.self.view_is) c.requires.kept in
     record {
@@ -123,19 +123,19 @@ act-requires c =
 pub returns-in-Err-clause-here : goal.returns-in-Err-clause-here
 returns-in-Err-clause-here c = λ h.
     let same : c.in-Err.refusal ≡ NoSuchInstance = cc in
-    not_elsewhere (event_value c.args.event) c.args.self.now c.in-Err.refusal (seen_refusal (event_value c.args.event) c.self.inside.instance c.deref.result.now c.self.inside.connections.items c.args.self.now (Some c.in-Err.refusal) c.deref.ensures.value c.self.view_is c.in-Err.ensures.refused) same
+    not_elsewhere (event_value c.args.event).lone c.args.self.now c.in-Err.refusal (seen_refusal (event_value c.args.event).lone c.self.inside.instance c.deref.result.now c.self.inside.connections.items c.args.self.now (Some c.in-Err.refusal) c.deref.ensures.value c.self.view_is c.in-Err.ensures.refused) same
 
 pub returns-in-Err-clause-memory_free : goal.returns-in-Err-clause-memory_free
 returns-in-Err-clause-memory_free c = λ free h.
     let same : c.in-Err.refusal ≡ NoMemory = cc in
-    not_for_memory (event_value c.args.event) c.args.self.now c.in-Err.refusal (seen_refusal (event_value c.args.event) c.self.inside.instance c.deref.result.now c.self.inside.connections.items c.args.self.now (Some c.in-Err.refusal) c.deref.ensures.value c.self.view_is c.in-Err.ensures.refused) same
+    not_for_memory (event_value c.args.event).lone c.args.self.now c.in-Err.refusal (seen_refusal (event_value c.args.event).lone c.self.inside.instance c.deref.result.now c.self.inside.connections.items c.args.self.now (Some c.in-Err.refusal) c.deref.ensures.value c.self.view_is c.in-Err.ensures.refused) same
 
 pub break_off_by-requires : goal.break_off_by-requires
 break_off_by-requires c = c.act.ensures.kept
 
 pub returns-in-Err-act-clause-short : goal.returns-in-Err-act-clause-short
 returns-in-Err-act-clause-short c = λ memory l s.
-    let e = event_value c.args.event in
+    let e = (event_value c.args.event).lone in
     let p = c.args.pool.now in
     let parent = c.args.parent.now in
     let seen = visible_in p parent in
@@ -167,7 +167,7 @@ returns-in-Err-act-clause-short c = λ memory l s.
 
 pub returns-in-Err-act-clause-tidy : goal.returns-in-Err-act-clause-tidy
 returns-in-Err-act-clause-tidy c =
-    let e = event_value c.args.event in
+    let e = (event_value c.args.event).lone in
     let T : ServedSlots → Type 0 = λ v. AreTidy v.connections in
     let os = c.self.inside.connections.items in
     let ns = c.act.new.connections.items in

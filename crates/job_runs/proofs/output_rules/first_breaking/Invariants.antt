@@ -1,0 +1,11 @@
+use Rattle.std.proofs.Common.{◌≡◌, length, map}
+use Rattle.run_outcomes.specs.Shown.{output_shown}
+use Rattle.job_runs.specs.OutputRules.{first_breaking}
+use Rattle.job_runs.proofs.output_rules.first_breaking.Given as goal
+
+abbrev pub invariant-loop-left : goal.invariant-loop-left
+invariant-loop-left l =
+    first_breaking (map output_shown l.left) ≡ first_breaking (map output_shown l.outputs)
+
+abbrev pub decreases-loop-left : goal.decreases-loop-left
+decreases-loop-left l = length l.left

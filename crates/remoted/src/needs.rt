@@ -1,0 +1,59 @@
+//! What a launcher says that it needs.
+
+use crate::beginning::folder_of;
+use std::fs::{self, File};
+use std::io::{self, ErrorKind, Read, Write};
+use std::str;
+
+/// How many bytes of a launcher are looked at.
+const MOST_BYTES: u64 = 4096;
+
+/// How a line of it begins that names the files that it needs beside it, and behind ` - ` where
+/// they come from.
+const NEEDS: &str = "# needs: ";
+
+/// The beginning of a file.
+fn beginning_of(rt: &HostRuntime, path: &str) -> io::Result<Vec<u8>> {
+    let mut bytes = Vec::new(rt.alloc());
+    let file: File = File::open(rt, path)?;
+    file.take(MOST_BYTES).read_to_end(&mut bytes)?;
+    Ok(bytes)
+}
+
+/// What a line says that is needed, and where it comes from; none where it says nothing of that.
+fn need_of(line: &[u8]) -> Option<(&str, &str)> {
+    let need = str::from_utf8(line).ok()?.strip_prefix(NEEDS)?;
+    Some(need.split_once(" - ").unwrap_or((need, "it needs that")))
+}
+
+/// Whether there is no file of this name in a folder.
+fn is_lacking(rt: &HostRuntime, folder: &str, name: &str) -> io::Result<bool> {
+    let path = format!(in rt.alloc(); "{folder}/{name}")?;
+    match fs::metadata(rt, path.as_str()) {
+        Err(error) if error.kind() == ErrorKind::NotFound => Ok(true),
+        _ => Ok(false),
+    }
+}
+
+/// Tells the first file that a launcher lacks beside it, of those that it says that it needs. Of
+/// one that cannot be read nothing is told.
+pub fn tell_lacking<E: Write>(rt: &HostRuntime, path: &str, errors: &mut E) -> io::Result<()> {
+    let Ok(text) = beginning_of(rt, path) else {
+        return Ok(());
+    };
+    let folder = folder_of(path);
+    for line in text.split(|byte| *byte == b'\n') {
+        let Some((names, origin)) = need_of(line) else {
+            continue;
+        };
+        for name in names.split_ascii_whitespace() {
+            if is_lacking(rt, folder, name)? {
+                return writeln!(
+                    errors,
+                    "remoted: {path} lacks {name} beside it, so each action will fail: {origin}"
+                );
+            }
+        }
+    }
+    Ok(())
+}

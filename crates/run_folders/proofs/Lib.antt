@@ -1,0 +1,3 @@
+pub mod Nowhere
+mod PlaceLemmas
+mod SegmentLemmas

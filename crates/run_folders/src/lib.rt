@@ -1,0 +1,21 @@
+//! The directories of runs, on any system: gone down into by no link; what is in them is looked at,
+//! made, opened, listed and removed.
+//!
+//! Each function is proved for every right to look at places and to change them. So what it
+//! requires is all that it can look at or change, whatever programs do meanwhile.
+#![tactic(auto)]
+
+mod entering;
+mod files;
+mod listing;
+mod names;
+mod removing;
+mod segments;
+
+pub use entering::{Entered, enter, make};
+pub use files::{
+    Kept, kept_file, look_in, make_node, open_regular, open_to_add, open_to_read, read_part,
+};
+pub use listing::{Listed, list_in};
+pub use names::{Names, entry_name};
+pub use removing::{PRIVATE_MODE, is_absence, remove, remove_some, set_aside};

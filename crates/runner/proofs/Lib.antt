@@ -12,5 +12,6 @@ pub mod Popped
 pub mod WentOn
 pub mod Trees
 pub mod Stopped
+pub mod Bounds
 pub mod Whole
 pub mod Begun

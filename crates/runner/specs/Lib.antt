@@ -7,6 +7,7 @@ pub mod Listed
 pub mod Sizes
 pub mod Steps
 pub mod Stops
+pub mod Bounds
 pub mod Runs
 pub mod Whole
 pub mod Begun

@@ -135,6 +135,14 @@ abbrev pub run_kept : Place → Option State → List Run
 run_kept place (Some s) = run_of place s ∷ []
 run_kept place None = []
 
+abbrev pub first_kept : List Run → Option State → List Run
+first_kept [] kept = []
+first_kept (run ∷ runs) kept = run_kept run.place kept ++ runs
+
+-- these runs, where the one that stands there is kept in a state, or is done with
+abbrev pub kept_at : List Run → ℕ → Option State → List Run
+kept_at runs at kept = take at runs ++ first_kept (drop at runs) kept
+
 -- a run that is over, where something is left to do for it
 abbrev pub run_left : Place → Option Ending → List Run
 run_left place left = run_kept place (option_map Over left)
@@ -207,15 +215,6 @@ Becomes text place stage (Ok (Some (outcomes.Exited e))) kept f_before f_now p_b
 Becomes text place stage (Err fault) kept f_before f_now p_before p_now =
     (left : Option Ending) × (kept ≡ option_map Over left)
     × FailsBy text place stage record { fault = fault; ending = left } f_before f_now p_before p_now
-
--- it is put in its place among the others, unless it is done with
-pub record HasGone (text : ℕ → List ℕ) (place : Place) (stage : Stage)
-    (result : Result (Option Outcome) RunFault) (at : ℕ) (others new : List Run)
-    (f_before f_now : Option (List FolderCall))
-    (p_before p_now : Option (List ProgramCall)) : Type 0 where
-  pub kept : Option State
-  pub put : new ≡ take at others ++ (run_kept place kept ++ drop at others)
-  pub becomes : Becomes text place stage result kept f_before f_now p_before p_now
 
 -- one of these runs, which has this key, was not over; the others stay
 pub record GoesOn (text : ℕ → List ℕ) (key : RunKey) (result : Result (Option Outcome) RunFault)

@@ -145,3 +145,8 @@ IsCounted (stages.TreeFile g t f) =
 abbrev pub IsCountedThen : Step → Type 0
 IsCountedThen (steps.Goes s cost) = IsCounted s
 IsCountedThen (steps.Exits e) = exited_length e ≤ most_bytes
+
+-- of a step after which the run goes on
+abbrev pub GoesCounted : Step → Type 0
+GoesCounted (steps.Goes s cost) = IsCounted s
+GoesCounted (steps.Exits e) = ⊥

@@ -6,8 +6,9 @@ ghost use Rattle.runner.specs.Steps.{FolderGoes, FolderGoesWith, exited_told, fi
 ghost use Rattle.run_calls.specs.Calls.{file_asked};
 ghost use Rattle.runner.specs.Listed.{IsNext, IsStack, file_names, inner_asked, inner_shown, inners_of, most_nodes, stack_of, walk_before};
 ghost use Rattle.runner.specs.Gathered.{end_item, output_items};
+ghost use Rattle.runner.specs.Bounds.{ExitsUnasked, FolderAsks};
 ghost use Rattle.runner.specs.Faults.{FolderCounts};
-ghost use Rattle.runner.specs.Sizes.{IsCounted, IsCountedThen, exited_length, nodes_length};
+ghost use Rattle.runner.specs.Sizes.{GoesCounted, IsCounted, IsCountedThen, exited_length, nodes_length};
 ghost use Rattle.runner.specs.Stops.{FolderStops, FolderStopsWith};
 ghost use Rattle.runner.specs.declared.stage.Stage.TheVariants as Stages;
 
@@ -41,6 +42,9 @@ pub(crate) fn next_output<F: Folder>(
     requires counted { IsCounted (Stages.Outputs gathering) }
     ensures goes { IfOk result (λ step. FolderGoes (place_shown place.now)
         (Stages.Outputs gathering) step (F.asked folder.old) (F.asked folder.new)) }
+    ensures few { FolderAsks (F.asked folder.old) (F.asked folder.new) }
+    ensures exits { IfOk result (λ step.
+        ExitsUnasked step (F.asked folder.old) (F.asked folder.new)) }
     ensures counts { FolderCounts result (F.failures folder.old) (F.failures folder.new) }
     ensures counted { IfOk result IsCountedThen }
     ensures stops { IfErr result (λ fault. FolderStops (place_shown place.now)
@@ -78,8 +82,9 @@ pub(crate) fn read_file<F: Folder>(
     requires counted { IsCounted (Stages.File gathering file) }
     ensures goes { IfOk result (λ step. FolderGoes (place_shown place.now)
         (Stages.File gathering file) step (F.asked folder.old) (F.asked folder.new)) }
+    ensures few { FolderAsks (F.asked folder.old) (F.asked folder.new) }
     ensures counts { FolderCounts result (F.failures folder.old) (F.failures folder.new) }
-    ensures counted { IfOk result IsCountedThen }
+    ensures counted { IfOk result GoesCounted }
     ensures stops { IfErr result (λ fault. FolderStops (place_shown place.now)
         (Stages.File gathering file) fault (F.asked folder.old) (F.asked folder.new)) }
 {
@@ -155,8 +160,9 @@ pub(crate) fn list_output<F: Folder>(
     requires counted { IsCounted (Stages.Listing gathering path) }
     ensures goes { IfOk result (λ step. FolderGoes (place_shown place.now)
         (Stages.Listing gathering path) step (F.asked folder.old) (F.asked folder.new)) }
+    ensures few { FolderAsks (F.asked folder.old) (F.asked folder.new) }
     ensures counts { FolderCounts result (F.failures folder.old) (F.failures folder.new) }
-    ensures counted { IfOk result IsCountedThen }
+    ensures counted { IfOk result GoesCounted }
     ensures stops { IfErr result (λ fault. FolderStops (place_shown place.now)
         (Stages.Listing gathering path) fault (F.asked folder.old) (F.asked folder.new)) }
 {
@@ -201,8 +207,9 @@ pub(crate) fn next_in_tree<F: Folder>(
     requires counted { IsCounted (Stages.Tree gathering tree) }
     ensures goes { IfOk result (λ step. FolderGoes (place_shown place.now)
         (Stages.Tree gathering tree) step (F.asked folder.old) (F.asked folder.new)) }
+    ensures few { FolderAsks (F.asked folder.old) (F.asked folder.new) }
     ensures counts { FolderCounts result (F.failures folder.old) (F.failures folder.new) }
-    ensures counted { IfOk result IsCountedThen }
+    ensures counted { IfOk result GoesCounted }
     ensures stops { IfErr result (λ fault. FolderStops (place_shown place.now)
         (Stages.Tree gathering tree) fault (F.asked folder.old) (F.asked folder.new)) }
 {
@@ -257,8 +264,9 @@ fn look_in_tree<F: Folder>(
         (file_asked (place_shown place.now) (string_bytes tree.path)
         (tree.nodes.above ++ string_bytes name ∷ []))) (place_shown place.now)
         (Stages.Tree gathering tree) step (F.asked folder.old) (F.asked folder.new)) }
+    ensures few { FolderAsks (F.asked folder.old) (F.asked folder.new) }
     ensures counts { FolderCounts result (F.failures folder.old) (F.failures folder.new) }
-    ensures counted { IfOk result IsCountedThen }
+    ensures counted { IfOk result GoesCounted }
     ensures stops { IfErr result (λ fault. FolderStopsWith (walk_before (place_shown place.now) tree
         (file_asked (place_shown place.now) (string_bytes tree.path)
         (tree.nodes.above ++ string_bytes name ∷ []))) (place_shown place.now)
@@ -297,8 +305,9 @@ fn list_in_tree<F: Folder>(
         (inner_asked (place_shown place.now) (string_bytes tree.path) tree.nodes.above
         (inner_shown inner))) (place_shown place.now)
         (Stages.Tree gathering tree) step (F.asked folder.old) (F.asked folder.new)) }
+    ensures few { FolderAsks (F.asked folder.old) (F.asked folder.new) }
     ensures counts { FolderCounts result (F.failures folder.old) (F.failures folder.new) }
-    ensures counted { IfOk result IsCountedThen }
+    ensures counted { IfOk result GoesCounted }
     ensures stops { IfErr result (λ fault. FolderStopsWith (walk_before (place_shown place.now) tree
         (inner_asked (place_shown place.now) (string_bytes tree.path) tree.nodes.above
         (inner_shown inner))) (place_shown place.now)
@@ -323,8 +332,9 @@ pub(crate) fn read_in_tree<F: Folder>(
     requires counted { IsCounted (Stages.TreeFile gathering tree file) }
     ensures goes { IfOk result (λ step. FolderGoes (place_shown place.now)
         (Stages.TreeFile gathering tree file) step (F.asked folder.old) (F.asked folder.new)) }
+    ensures few { FolderAsks (F.asked folder.old) (F.asked folder.new) }
     ensures counts { FolderCounts result (F.failures folder.old) (F.failures folder.new) }
-    ensures counted { IfOk result IsCountedThen }
+    ensures counted { IfOk result GoesCounted }
     ensures stops { IfErr result (λ fault. FolderStops (place_shown place.now)
         (Stages.TreeFile gathering tree file) fault (F.asked folder.old) (F.asked folder.new)) }
 {

@@ -43,11 +43,10 @@ impl Going {
     }
 
     /// What is to be done for it where it is to be over.
-    pub(crate) fn ending(self) -> Option<Ending>
-        ensures { result ≡ ending_at self }
+    pub(crate) fn ending(&self) -> Option<Ending>
+        ensures { result ≡ ending_at self.now }
     {
-        let Going { stage } = self;
-        stage.ending()
+        self.stage.ending()
     }
 
     /// Whether it can go on at once: it waits neither for room for its folder, nor for its program

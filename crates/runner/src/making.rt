@@ -6,8 +6,9 @@ ghost use Rattle.run_calls.specs.Values.{PlaceValue, place_shown, command_shown}
 ghost use Rattle.run_calls.specs.Calls.{ProgramCall, start_asked};
 ghost use Rattle.runner.specs.Made.{kind_made};
 ghost use Rattle.runner.specs.Steps.{Goes, FolderGoes, ProgramGoes, above_behind, making_left, making_outputs, making_starts, nodes_left};
+ghost use Rattle.runner.specs.Bounds.{AddsAtMost, FolderAsks, ProgramAsks};
 ghost use Rattle.runner.specs.Faults.{Counted, FolderCounts, ProgramsCounts};
-ghost use Rattle.runner.specs.Sizes.{IsCountedThen};
+ghost use Rattle.runner.specs.Sizes.{GoesCounted};
 ghost use Rattle.runner.specs.Stops.{Stops, FolderStops, ProgramStops};
 ghost use Rattle.runner.specs.declared.stage.Stage.TheVariants as Stages;
 ghost use Rattle.runner.specs.declared.stage.Making.TheVariants as Makings;
@@ -49,8 +50,9 @@ fn cost_of_path(path: &str) -> u32 {
 fn make_root<F: Folder>(folder: &mut F, place: &Place, nodes: Nodes) -> Result<Step, RunFault>
     ensures goes { IfOk result (λ step. FolderGoes (place_shown place.now)
         (Stages.Making (Makings.Root nodes)) step (F.asked folder.old) (F.asked folder.new)) }
+    ensures few { FolderAsks (F.asked folder.old) (F.asked folder.new) }
     ensures counts { FolderCounts result (F.failures folder.old) (F.failures folder.new) }
-    ensures counted { IfOk result IsCountedThen }
+    ensures counted { IfOk result GoesCounted }
     ensures stops { IfErr result (λ fault. FolderStops (place_shown place.now)
         (Stages.Making (Makings.Root nodes)) fault (F.asked folder.old) (F.asked folder.new)) }
 {
@@ -96,8 +98,9 @@ fn left_above(nodes: Nodes) -> Nodes
 fn make_node<F: Folder>(folder: &mut F, place: &Place, nodes: Nodes) -> Result<Step, RunFault>
     ensures goes { IfOk result (λ step. FolderGoes (place_shown place.now)
         (Stages.Making (Makings.Nodes nodes)) step (F.asked folder.old) (F.asked folder.new)) }
+    ensures few { FolderAsks (F.asked folder.old) (F.asked folder.new) }
     ensures counts { FolderCounts result (F.failures folder.old) (F.failures folder.new) }
-    ensures counted { IfOk result IsCountedThen }
+    ensures counted { IfOk result GoesCounted }
     ensures stops { IfErr result (λ fault. FolderStops (place_shown place.now)
         (Stages.Making (Makings.Nodes nodes)) fault (F.asked folder.old) (F.asked folder.new)) }
 {
@@ -124,8 +127,9 @@ fn write_part<F: Folder, T: Texts>(
         Goes (T.text_of texts.now) (place_shown place.now)
         (Stages.Making (Makings.Writing writing)) step
         (F.asked folder.old) (F.asked folder.new) p p) }
+    ensures few { FolderAsks (F.asked folder.old) (F.asked folder.new) }
     ensures counts { FolderCounts result (F.failures folder.old) (F.failures folder.new) }
-    ensures counted { IfOk result IsCountedThen }
+    ensures counted { IfOk result GoesCounted }
     ensures stops { IfErr result (λ fault. (p : Option (List ProgramCall)) →
         Stops (T.text_of texts.now) (place_shown place.now)
         (Stages.Making (Makings.Writing writing)) fault
@@ -152,8 +156,9 @@ fn make_directory<F: Folder>(
     ensures goes { IfOk result (λ step. FolderGoes (place_shown place.now)
         (Stages.Making (Makings.Directory prepared)) step
         (F.asked folder.old) (F.asked folder.new)) }
+    ensures few { FolderAsks (F.asked folder.old) (F.asked folder.new) }
     ensures counts { FolderCounts result (F.failures folder.old) (F.failures folder.new) }
-    ensures counted { IfOk result IsCountedThen }
+    ensures counted { IfOk result GoesCounted }
     ensures stops { IfErr result (λ fault. FolderStops (place_shown place.now)
         (Stages.Making (Makings.Directory prepared)) fault
         (F.asked folder.old) (F.asked folder.new)) }
@@ -172,8 +177,9 @@ fn make_parents<F: Folder>(
 ) -> Result<Step, RunFault>
     ensures goes { IfOk result (λ step. FolderGoes (place_shown place.now)
         (Stages.Making (Makings.Parents parents)) step (F.asked folder.old) (F.asked folder.new)) }
+    ensures few { FolderAsks (F.asked folder.old) (F.asked folder.new) }
     ensures counts { FolderCounts result (F.failures folder.old) (F.failures folder.new) }
-    ensures counted { IfOk result IsCountedThen }
+    ensures counted { IfOk result GoesCounted }
     ensures stops { IfErr result (λ fault. FolderStops (place_shown place.now)
         (Stages.Making (Makings.Parents parents)) fault (F.asked folder.old) (F.asked folder.new)) }
 {
@@ -192,8 +198,9 @@ fn start<P: Programs>(programs: &mut P, place: &Place, prepared: Prepared) -> Re
     ensures goes { IfOk result (λ step. ProgramGoes (place_shown place.now)
         (Stages.Making (Makings.Starting prepared)) step
         (P.asked programs.old) (P.asked programs.new)) }
+    ensures few { ProgramAsks (P.asked programs.old) (P.asked programs.new) }
     ensures counts { ProgramsCounts result (P.failures programs.old) (P.failures programs.new) }
-    ensures counted { IfOk result IsCountedThen }
+    ensures counted { IfOk result GoesCounted }
     ensures stops { IfErr result (λ fault. ProgramStops (place_shown place.now)
         (Stages.Making (Makings.Starting prepared)) fault
         (P.asked programs.old) (P.asked programs.new)) }
@@ -213,9 +220,11 @@ pub(crate) fn make<F: Folder, P: Programs, T: Texts>(
     ensures goes { IfOk result (λ step. Goes (T.text_of texts.now) (place_shown place.now)
         (Stages.Making making) step (F.asked folder.old) (F.asked folder.new)
         (P.asked programs.old) (P.asked programs.new)) }
+    ensures few { AddsAtMost 1 (F.asked folder.old) (F.asked folder.new)
+        (P.asked programs.old) (P.asked programs.new) }
     ensures faults { Counted result (F.failures folder.old) (F.failures folder.new)
         (P.failures programs.old) (P.failures programs.new) }
-    ensures counted { IfOk result IsCountedThen }
+    ensures counted { IfOk result GoesCounted }
     ensures stops { IfErr result (λ fault. Stops (T.text_of texts.now) (place_shown place.now)
         (Stages.Making making) fault (F.asked folder.old) (F.asked folder.new)
         (P.asked programs.old) (P.asked programs.new)) }

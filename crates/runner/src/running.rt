@@ -3,8 +3,9 @@
 ghost use Rattle.std.specs.Prelude.{◌≡◌, [], ◌∷◌, ◌++◌, IfErr, IfOk};
 ghost use Rattle.run_calls.specs.Values.{PlaceValue, place_shown};
 ghost use Rattle.runner.specs.Steps.{ProgramGoes, exited_told};
+ghost use Rattle.runner.specs.Bounds.{ProgramAsks};
 ghost use Rattle.runner.specs.Faults.{ProgramsCounts, StaysOrRises};
-ghost use Rattle.runner.specs.Sizes.{IsCounted, IsCountedThen};
+ghost use Rattle.runner.specs.Sizes.{GoesCounted, IsCounted};
 ghost use Rattle.runner.specs.Stops.{ProgramStops};
 ghost use Rattle.runner.specs.Told.{code_item, killed_item, whole_stream};
 ghost use Rattle.run_calls.specs.declared.programs.Stream.TheVariants as StreamKinds;
@@ -28,8 +29,9 @@ pub(crate) fn ask<P: Programs>(
 ) -> Result<Step, RunFault>
     ensures goes { IfOk result (λ step. ProgramGoes (place_shown place.now)
         (Stages.Running outputs) step (P.asked programs.old) (P.asked programs.new)) }
+    ensures few { ProgramAsks (P.asked programs.old) (P.asked programs.new) }
     ensures counts { ProgramsCounts result (P.failures programs.old) (P.failures programs.new) }
-    ensures counted { IfOk result IsCountedThen }
+    ensures counted { IfOk result GoesCounted }
     ensures stops { IfErr result (λ fault. ProgramStops (place_shown place.now)
         (Stages.Running outputs) fault (P.asked programs.old) (P.asked programs.new)) }
 {
@@ -49,8 +51,9 @@ fn ended(code: i32, outputs: Wanted) -> Step
 pub(crate) fn stop<P: Programs>(programs: &mut P, place: &Place, ended: Ended) -> Step
     ensures goes { ProgramGoes (place_shown place.now)
         (Stages.Stopping ended) result (P.asked programs.old) (P.asked programs.new) }
+    ensures few { ProgramAsks (P.asked programs.old) (P.asked programs.new) }
     ensures counts { StaysOrRises (P.failures programs.old) (P.failures programs.new) }
-    ensures counted { IsCountedThen result }
+    ensures counted { GoesCounted result }
 {
     match programs.kill(place.run) {
         Ok(true) => Step::Goes(Stage::Measuring(ended), 1),
@@ -68,8 +71,9 @@ pub(crate) fn measure<P: Programs>(
 ) -> Result<Step, RunFault>
     ensures goes { IfOk result (λ step. ProgramGoes (place_shown place.now)
         (Stages.Measuring ended) step (P.asked programs.old) (P.asked programs.new)) }
+    ensures few { ProgramAsks (P.asked programs.old) (P.asked programs.new) }
     ensures counts { ProgramsCounts result (P.failures programs.old) (P.failures programs.new) }
-    ensures counted { IfOk result IsCountedThen }
+    ensures counted { IfOk result GoesCounted }
     ensures stops { IfErr result (λ fault. ProgramStops (place_shown place.now)
         (Stages.Measuring ended) fault (P.asked programs.old) (P.asked programs.new)) }
 {
@@ -91,8 +95,9 @@ pub(crate) fn read_output<P: Programs>(
     requires counted { IsCounted (Stages.Output ended content) }
     ensures goes { IfOk result (λ step. ProgramGoes (place_shown place.now)
         (Stages.Output ended content) step (P.asked programs.old) (P.asked programs.new)) }
+    ensures few { ProgramAsks (P.asked programs.old) (P.asked programs.new) }
     ensures counts { ProgramsCounts result (P.failures programs.old) (P.failures programs.new) }
-    ensures counted { IfOk result IsCountedThen }
+    ensures counted { IfOk result GoesCounted }
     ensures stops { IfErr result (λ fault. ProgramStops (place_shown place.now)
         (Stages.Output ended content) fault (P.asked programs.old) (P.asked programs.new)) }
 {
@@ -122,8 +127,9 @@ pub(crate) fn read_error<P: Programs>(
     requires counted { IsCounted (Stages.Error ended stdout content) }
     ensures goes { IfOk result (λ step. ProgramGoes (place_shown place.now)
         (Stages.Error ended stdout content) step (P.asked programs.old) (P.asked programs.new)) }
+    ensures few { ProgramAsks (P.asked programs.old) (P.asked programs.new) }
     ensures counts { ProgramsCounts result (P.failures programs.old) (P.failures programs.new) }
-    ensures counted { IfOk result IsCountedThen }
+    ensures counted { IfOk result GoesCounted }
     ensures stops { IfErr result (λ fault. ProgramStops (place_shown place.now)
         (Stages.Error ended stdout content) fault (P.asked programs.old) (P.asked programs.new)) }
 {

@@ -1,21 +1,25 @@
 //! Runs, from their start to their end.
 
-ghost use Rattle.std.specs.Prelude.{◌≡◌, ◌<◌, ◌≤◌, ◌++◌, ◌∷◌, ◌⊎◌, [], false, not, None, Ok, List, IfOk, IfErr, IfSome, IfNone, OnOk, OnErr, length, vec_len, vec_capacity, take, drop, insert, option_map, slice_get};
+ghost use Rattle.std.specs.Prelude.{◌≡◌, ◌<◌, ◌≤◌, ◌++◌, ◌∷◌, ◌⊎◌, [], false, not, None, Some, Ok, IfOk, IfErr, IfSome, IfNone, OnOk, OnErr, length, vec_len, option_map, slice_get};
 ghost use Rattle.std.specs.List.{list_any};
 ghost use Rattle.std.specs.Option.{option_map_or};
+ghost use Rattle.runner.specs.Bounds.{AddsAtMost, most_calls};
 ghost use Rattle.runner.specs.Faults.{Counted, FaultFailed};
 ghost use Rattle.runner.specs.Sizes.{IsCounted};
-ghost use Rattle.runner.specs.Runs.{EndsBy, HasGone, KillsBy, HasNone, can_go_on, ending_of, IsAt, IsAsked, IsKilled, IsOver, IsStarted, is_run_of, run_left};
+ghost use Rattle.runner.specs.Runs.{Becomes, EndsBy, KillsBy, HasNone, can_go_on, ending_of, IsAt, IsAsked, IsKilled, IsOver, IsStarted, is_run_of, kept_at, still_left};
+ghost use Rattle.runner.specs.declared.stage.Ending.TheVariants.{Removing};
 ghost use Rattle.runner.specs.declared.stage.Run.{Run};
+ghost use Rattle.runner.specs.declared.stage.State.TheVariants.{Over};
 
 use crate::fault::RunFault;
 use crate::going::Going;
-use crate::stage::{Ending, Making, Nodes, Prepared, Run, Stage, State, Step, Stopped};
+use crate::stage::{Ending, Making, Nodes, Prepared, Run, Stage, State, Step};
 use crate::turn::turn;
 use crate::wanted::Wanted;
 use run_calls::{Folder, Place, Programs, RunKey, Task, Texts};
 use run_outcomes::{Outcome, Streams};
 use std::alloc::{AllocError, Global};
+use std::mem;
 
 fn is_run_of(key: RunKey, run: &Run) -> bool
     ensures { result ≡ is_run_of key run.now }
@@ -37,6 +41,7 @@ fn can_go_on(state: &State) -> bool
 /// Where the run of a key stands.
 fn place_of(runs: &[Run], key: RunKey) -> Option<usize>
     ensures first { IfSome result (λ at. IsAt key runs.now at) }
+    ensures inside { IfSome result (λ at. at < length runs.now) }
     ensures none { IfNone result (HasNone key runs.now) }
 {
     let mut at = 0;
@@ -51,28 +56,26 @@ fn place_of(runs: &[Run], key: RunKey) -> Option<usize>
     None
 }
 
-/// Takes the run of a key out of its place.
-fn take_out(runs: &mut Vec<Run>, key: RunKey) -> Option<(usize, Run)>
-    ensures taken { IfSome result (λ found.
-        runs.old.items ≡ take found.0 runs.new.items ++ found.1 ∷ drop found.0 runs.new.items) }
-    ensures key { IfSome result (λ found. found.1.place.run ≡ key) }
-    ensures inside { IfSome result (λ found. found.0 ≤ vec_len runs.new) }
-    ensures room { IfSome result (λ found. vec_len runs.new < vec_capacity runs.new) }
-    ensures none { IfNone result (HasNone key runs.old.items) }
-    ensures same { IfNone result (runs.new ≡ runs.old) }
+/// Takes the state of a run, which stays in its place. Another stands there until one is kept.
+fn take_state(runs: &mut Vec<Run>, at: usize) -> State
+    requires { at < vec_len runs.old }
+    ensures state { option_map (λ (run : Run). run.state) (slice_get runs.old.items at)
+        ≡ Some result }
+    ensures runs { runs.new.items ≡ kept_at runs.old.items at (Some (Over Removing)) }
+    ensures inside { vec_len runs.new ≡ vec_len runs.old }
 {
-    let at = place_of(runs, key)?;
-    let run = runs.remove(at);
-    Some((at, run))
+    mem::replace(&mut runs[at].state, State::Over(Ending::Removing))
 }
 
-/// Puts a run into its place again.
-fn put_back(runs: &mut Vec<Run>, at: usize, run: Run)
-    requires inside { at ≤ vec_len runs.old }
-    requires room { vec_len runs.old < vec_capacity runs.old }
-    ensures { runs.new.items ≡ take at runs.old.items ++ run ∷ drop at runs.old.items }
+/// Keeps a run in a state, or forgets it where none is given. Only then do others move.
+fn keep(runs: &mut Vec<Run>, at: usize, kept: Option<State>)
+    requires { at < vec_len runs.old }
+    ensures { runs.new.items ≡ kept_at runs.old.items at kept }
 {
-    runs.insert(at, run).unwrap();
+    match kept {
+        Some(state) => runs[at].state = state,
+        None => drop(runs.remove(at)),
+    }
 }
 
 /// A run of which nothing is done yet. It has room for what its program writes, so that none is
@@ -172,6 +175,9 @@ impl<F: Folder + Drop, P: Programs + Drop> Runner<F, P> {
             result self.old.runs.items self.new.runs.items
             (F.asked self.old.folder) (F.asked self.new.folder)
             (P.asked self.old.programs) (P.asked self.new.programs) }
+        ensures few { AddsAtMost most_calls
+            (F.asked self.old.folder) (F.asked self.new.folder)
+            (P.asked self.old.programs) (P.asked self.new.programs) }
         ensures faults { Counted result
             (F.failures self.old.folder) (F.failures self.new.folder)
             (P.failures self.old.programs) (P.failures self.new.programs)
@@ -179,62 +185,26 @@ impl<F: Folder + Drop, P: Programs + Drop> Runner<F, P> {
             × (result ≡ Ok None)) }
     {
         let key = RunKey { instance, job };
-        let Some((at, run)) = take_out(&mut self.runs, key) else {
+        let Some(at) = place_of(&self.runs, key) else {
             return Ok(None);
         };
-        let Run { place, state } = run;
-        match state {
+        match take_state(&mut self.runs, at) {
             State::Over(ending) => {
-                let left = end(&mut self.folder, &mut self.programs, key, Some(ending))?;
-                put_left(&mut self.runs, at, place, left);
-                Ok(None)
+                let ended = end(&mut self.folder, &mut self.programs, key, Some(ending));
+                keep(&mut self.runs, at, state_left(&ended));
+                ended.and(Ok(None))
             }
-            State::Live(going) => self.go_on(at, texts, place, going.stage()),
-        }
-    }
-
-    /// Does a piece of work for a run that is not over, which was taken out of its place.
-    fn go_on<T: Texts>(
-        &mut self,
-        at: usize,
-        texts: &T,
-        place: Place,
-        stage: Stage,
-    ) -> Result<Option<Outcome>, RunFault>
-        requires inside { at ≤ vec_len self.old.runs }
-        requires room { vec_len self.old.runs < vec_capacity self.old.runs }
-        requires counted { IsCounted stage }
-        ensures went { HasGone (T.text_of texts.now) place stage result at
-            self.old.runs.items self.new.runs.items
-            (F.asked self.old.folder) (F.asked self.new.folder)
-            (P.asked self.old.programs) (P.asked self.new.programs) }
-        ensures faults { Counted result
-            (F.failures self.old.folder) (F.failures self.new.folder)
-            (P.failures self.old.programs) (P.failures self.new.programs) }
-    {
-        let alloc = *self.runs.allocator();
-        match turn(
-            alloc,
-            &mut self.folder,
-            &mut self.programs,
-            texts,
-            &place,
-            stage,
-        ) {
-            Ok(Step::Goes(next, _spent)) => {
-                let state = State::Live(Going::new(next));
-                put_back(&mut self.runs, at, Run { place, state });
-                Ok(None)
-            }
-            Ok(Step::Exits(exited)) => {
-                self.programs.forget(place.run);
-                let state = State::Over(Ending::Removing);
-                put_back(&mut self.runs, at, Run { place, state });
-                Ok(Some(Outcome::Exited(exited)))
-            }
-            Err(Stopped { fault, ending }) => {
-                put_left(&mut self.runs, at, place, ending);
-                Err(fault)
+            State::Live(going) => {
+                let (kept, told) = go_on(
+                    *self.runs.allocator(),
+                    &mut self.folder,
+                    &mut self.programs,
+                    texts,
+                    &self.runs[at].place,
+                    going.stage(),
+                );
+                keep(&mut self.runs, at, kept);
+                told
             }
         }
     }
@@ -255,14 +225,13 @@ impl<F: Folder + Drop, P: Programs + Drop> Runner<F, P> {
             (P.failures self.old.programs) (P.failures self.new.programs)) }
     {
         let key = RunKey { instance, job };
-        let Some((at, run)) = take_out(&mut self.runs, key) else {
+        let Some(at) = place_of(&self.runs, key) else {
             return Ok(());
         };
-        let Run { place, state } = run;
-        let ending = ending_of(state);
-        let left = end(&mut self.folder, &mut self.programs, key, ending)?;
-        put_left(&mut self.runs, at, place, left);
-        Ok(())
+        let ending = ending_of(&self.runs[at].state);
+        let ended = end(&mut self.folder, &mut self.programs, key, ending);
+        keep(&mut self.runs, at, state_left(&ended));
+        ended.and(Ok(()))
     }
 
     /// How many runs there are, those included that are only to be ended.
@@ -321,13 +290,42 @@ impl<F: Folder + Drop, P: Programs + Drop> Runner<F, P> {
     }
 }
 
+/// Does a piece of work for a run that is not over. The state that it is kept in, unless it is done
+/// with, and what came of it.
+fn go_on<F: Folder, P: Programs, T: Texts>(
+    alloc: Global,
+    folder: &mut F,
+    programs: &mut P,
+    texts: &T,
+    place: &Place,
+    stage: Stage,
+) -> (Option<State>, Result<Option<Outcome>, RunFault>)
+    requires counted { IsCounted stage }
+    ensures becomes { Becomes (T.text_of texts.now) place.now stage result.1 result.0
+        (F.asked folder.old) (F.asked folder.new) (P.asked programs.old) (P.asked programs.new) }
+    ensures few { AddsAtMost most_calls
+        (F.asked folder.old) (F.asked folder.new) (P.asked programs.old) (P.asked programs.new) }
+    ensures faults { Counted result.1 (F.failures folder.old) (F.failures folder.new)
+        (P.failures programs.old) (P.failures programs.new) }
+{
+    match turn(alloc, folder, programs, texts, place, stage) {
+        Ok(Step::Goes(next, _spent)) => (Some(State::Live(Going::new(next))), Ok(None)),
+        Ok(Step::Exits(exited)) => {
+            programs.forget(place.run);
+            let kept = State::Over(Ending::Removing);
+            (Some(kept), Ok(Some(Outcome::Exited(exited))))
+        }
+        Err(stopped) => (stopped.ending.map(State::Over), Err(stopped.fault)),
+    }
+}
+
 /// What is to be done for a run that is to be over.
-fn ending_of(state: State) -> Option<Ending>
-    ensures { result ≡ ending_of state }
+fn ending_of(state: &State) -> Option<Ending>
+    ensures { result ≡ ending_of state.now }
 {
     match state {
         State::Live(going) => going.ending(),
-        State::Over(ending) => Some(ending),
+        State::Over(ending) => Some(*ending),
     }
 }
 
@@ -369,15 +367,12 @@ fn kill_program<P: Programs>(programs: &mut P, key: RunKey) -> Ending
     }
 }
 
-/// Puts a run that is over into its place again, where something is left to do for it.
-fn put_left(runs: &mut Vec<Run>, at: usize, place: Place, left: Option<Ending>)
-    requires inside { at ≤ vec_len runs.old }
-    requires room { vec_len runs.old < vec_capacity runs.old }
-    ensures { runs.new.items
-        ≡ take at runs.old.items ++ (run_left place left ++ drop at runs.old.items) }
+/// The state that a run is kept in which is over, where something is left to do for it.
+fn state_left(ended: &Result<Option<Ending>, RunFault>) -> Option<State>
+    ensures { result ≡ option_map Over (still_left ended.now) }
 {
-    if let Some(ending) = left {
-        let state = State::Over(ending);
-        put_back(runs, at, Run { place, state });
+    match ended {
+        Ok(Some(ending)) => Some(State::Over(*ending)),
+        Ok(None) | Err(_) => None,
     }
 }

@@ -312,6 +312,7 @@ impl Stage {
 }
 
 /// Why a run stopped, and what is to be done for it.
+#[derive(Drop)]
 pub(crate) struct Stopped {
     pub(crate) fault: RunFault,
     pub(crate) ending: Option<Ending>,

@@ -3,6 +3,7 @@
 ghost use Rattle.std.specs.Prelude.{◌≡◌, IfErr, IfOk};
 ghost use Rattle.run_calls.specs.Values.{place_shown};
 ghost use Rattle.runner.specs.Steps.{Goes};
+ghost use Rattle.runner.specs.Bounds.{AddsAtMost, most_of_step, most_of_steps};
 ghost use Rattle.runner.specs.Faults.{Counted};
 ghost use Rattle.runner.specs.Runs.{FailsBy, fault_of};
 ghost use Rattle.runner.specs.Sizes.{IsCounted, IsCountedThen};
@@ -32,6 +33,8 @@ fn step<F: Folder, P: Programs, T: Texts>(
     ensures goes { IfOk result (λ step. Goes (T.text_of texts.now) (place_shown place.now) stage
         step (F.asked folder.old) (F.asked folder.new)
         (P.asked programs.old) (P.asked programs.new)) }
+    ensures few { AddsAtMost (most_of_step result) (F.asked folder.old)
+        (F.asked folder.new) (P.asked programs.old) (P.asked programs.new) }
     ensures faults { Counted result (F.failures folder.old) (F.failures folder.new)
         (P.failures programs.old) (P.failures programs.new) }
     ensures counted { IfOk result IsCountedThen }
@@ -95,6 +98,8 @@ fn step_if_ready<F: Folder, P: Programs, T: Texts>(
     ensures goes { IfOk result (λ step. Goes (T.text_of texts.now) (place_shown place.now) stage
         step (F.asked folder.old) (F.asked folder.new)
         (P.asked programs.old) (P.asked programs.new)) }
+    ensures few { AddsAtMost (most_of_step result) (F.asked folder.old)
+        (F.asked folder.new) (P.asked programs.old) (P.asked programs.new) }
     ensures faults { Counted result (F.failures folder.old) (F.failures folder.new)
         (P.failures programs.old) (P.failures programs.new) }
     ensures counted { IfOk result IsCountedThen }
@@ -121,6 +126,8 @@ pub(crate) fn turn<F: Folder, P: Programs, T: Texts>(
     ensures goes { IfOk result (λ step. Goes (T.text_of texts.now) (place_shown place.now) stage
         step (F.asked folder.old) (F.asked folder.new)
         (P.asked programs.old) (P.asked programs.new)) }
+    ensures few { AddsAtMost (most_of_steps result) (F.asked folder.old)
+        (F.asked folder.new) (P.asked programs.old) (P.asked programs.new) }
     ensures faults { Counted (fault_of result) (F.failures folder.old) (F.failures folder.new)
         (P.failures programs.old) (P.failures programs.new) }
     ensures counted { IfOk result IsCountedThen }

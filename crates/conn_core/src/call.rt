@@ -3,6 +3,7 @@
 ghost use Rattle.std.specs.Prelude.{◌≡◌, ◌≢◌, ◌++◌, ◌∷◌, ◌<◌, [], List, ℕ, IfOk, OnOk, OnSome, length, count_by, filter, take, drop};
 ghost use Rattle.std.specs.List.{list_any};
 ghost use Rattle.std.specs.Option.{option_to_list};
+ghost use Rattle.http2_streams.specs.Rules.{number_is};
 ghost use Rattle.grpc_messages.specs.Reader.{bytes_left};
 ghost use Rattle.grpc_messages.specs.declared.error.MessagesError.{MessagesError};
 ghost use Rattle.conn_core.specs.Calls.{messages_of, events_of_content, events_at_end, message_refusal};
@@ -200,7 +201,25 @@ pub(crate) fn drop_closed_if_fewer(calls: &mut Vec<Call>, live: &[Stream], count
 fn drop_closed(calls: &mut Vec<Call>, live: &[Stream])
     ensures { calls.new.items ≡ filter (has_live_stream live.now) calls.old.items }
 {
-    calls.retain(|call| is_live(live, call.stream));
+    // Calls stand in the order in which they were begun, as live streams do.
+    let mut place = 0;
+    calls.retain(
+        |call: &Call| -> bool
+            ensures live { live.exit.now ≡ live.entry.now }
+            ensures kept { result ≡ has_live_stream live.entry.now call.now }
+        { is_live_from(live, &mut place, call.stream) },
+    );
+}
+
+/// Whether the stream is live. It is looked for at the place first, which is then left behind it.
+fn is_live_from(live: &[Stream], place: &mut usize, stream: u32) -> bool
+    ensures { result ≡ list_any (number_is stream) live.now }
+{
+    if *place < live.len() && live[*place].number == stream {
+        *place += 1;
+        return true;
+    }
+    is_live(live, stream)
 }
 
 /// The stream was reset.

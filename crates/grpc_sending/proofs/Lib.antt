@@ -12,6 +12,7 @@ pub mod Pumping
 pub mod Settles
 pub mod Received
 pub mod Dues
+pub mod Done
 pub mod Filling
 pub mod Spans
 pub mod Sources

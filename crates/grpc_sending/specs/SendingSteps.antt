@@ -1,5 +1,6 @@
 -- For the code alone: no promise speaks of it.
-use Rattle.std.specs.Prelude.{◌≡◌, ℕ, suc, ℤ, ◌==◌, nat_lt, if◌then◌else◌, Bool, false, List, [], ◌∷◌, ◌++◌, length, take, drop, map, Option, Some, None}
+use Rattle.std.specs.Prelude.{◌≡◌, ◌<◌, ℕ, suc, ℤ, ◌==◌, nat_lt, if◌then◌else◌, Bool, false, List, [], ◌∷◌, ◌++◌, length, take, drop, map, Option, Some, None}
+use Rattle.std.specs.List.{AllByRecursion}
 use Rattle.http2_streams.specs.Credit.{window_left}
 use Rattle.http2_frames.specs.declared.frame.Frame.TheVariants.{Data}
 use Rattle.http2_frames.specs.Writing.{text_of}
@@ -114,3 +115,23 @@ due_on qs connection_window x = due_of connection_window x (stored_on x.number q
 -- the turn of the first stream that has one
 abbrev pub next_due : List StoredQueue → ℤ → List Stream → Option Due
 next_due qs connection_window xs = first_of (due_on qs connection_window) xs
+
+-- ---- streams that have no turn
+
+abbrev pub stream_due : Due → ℕ
+stream_due (Opens s block ended_by_client) = s
+stream_due (Gives s n) = s
+
+-- none of these streams below s has a turn
+abbrev pub NoneDueBelow : ℕ → List StoredQueue → ℤ → List Stream → Type 0
+NoneDueBelow s qs connection_window xs =
+    AllByRecursion (λ (x : Stream). x.number < s → due_on qs connection_window x ≡ None) xs
+
+-- nothing can be put on the live streams below s
+abbrev pub IsDoneBelow : ℕ → Standing → StoredSending → Type 0
+IsDoneBelow s streams v =
+    NoneDueBelow s v.queues (window_left streams.connection_window) streams.live
+
+-- what is still to be put on all streams but s is the same
+abbrev pub KeepsOthers : ℕ → List StoredQueue → List StoredQueue → Type 0
+KeepsOthers s qs rs = (t : ℕ) → (s == t) ≡ false → stored_on t rs ≡ stored_on t qs

@@ -5,13 +5,14 @@ ghost use Rattle.http2_frames.specs.Writing.{raw_of, text_of};
 ghost use Rattle.http2_frames.specs.declared.frame.Frame.TheVariants.{Data, RstStream};
 ghost use Rattle.http2_streams.specs.History.{Entry, Out, Took, is_not_closed, has_failed};
 ghost use Rattle.digest.specs.declared.Digest.{Digest};
+ghost use Rattle.http2_streams.specs.Sending.{LeavesOthers};
 ghost use Rattle.http2_streams.specs.StandsFor.{AreStreams};
 ghost use Rattle.grpc_messages.specs.Wire.{message_length_limit};
 ghost use Rattle.grpc_sending.specs.Bytes.{most_untaken};
 ghost use Rattle.grpc_sending.specs.Owed.{OwedItem, Headed, Message, Range, owed_with_item};
 ghost use Rattle.grpc_sending.specs.Pump.{history_after_pump, next_frames};
 ghost use Rattle.grpc_sending.specs.StoredSending.{Tells, PumpsEnded, AddsNothing, AddsToLive, Enters, DropsClosed, DropsAll, Owes, OwesRange, IsAtRest, PumpsStreams, PumpsSending, KeepsFit, KeepsFitWith, SourceTexts, StoredSending, IsStoredSending, QueuesEndWithin, EndsWithinText, KeepsSources, HoldsMore, HasFewSources, new_stored_sending, sending_in, sources_of, stored_on};
-ghost use Rattle.grpc_sending.specs.SendingSteps.{EndsBy, PutsBy, ResetsBy, FinishesBy, front_bytes, front_frame};
+ghost use Rattle.grpc_sending.specs.SendingSteps.{EndsBy, IsDoneBelow, KeepsOthers, PutsBy, ResetsBy, FinishesBy, front_bytes, front_frame};
 ghost use Rattle.grpc_sending.specs.SortedQueues.{AreSorted};
 ghost use Rattle.grpc_sending.specs.Step.{Puts, Rests, IsControl, Finishes, Resets};
 ghost use Rattle.http2_frames.specs.declared.reader.TheConstants.{MAX_FRAME_SIZE};
@@ -249,6 +250,7 @@ impl Sender {
     }
 
     /// Puts all that can be put.
+    #[tactic(auto, using(crate::proofs::Done::done_at_start))]
     pub fn pump<P: Parts>(&mut self, streams: &mut Streams, parts: &P)
         requires fit { QueuesEndWithin (P.text_of parts.now) self.old.queues }
         ensures streams { PumpsStreams (P.text_of parts.now) streams.old self.old streams.new }
@@ -263,12 +265,16 @@ impl Sender {
         ensures room { length self.old.pending ≤ CONTROL_LIMIT →
             length self.new.pending ≤ CONTROL_LIMIT }
     {
-        'turns: while self.put_next(streams, parts) {}
+        // Where the last turn was. It changed nothing for the streams below, which had no turn.
+        let mut from = 0;
+        'turns: while self.put_next(streams, parts, &mut from) {}
     }
 
-    /// Puts what comes next, if anything can be put.
-    fn put_next<P: Parts>(&mut self, streams: &mut Streams, parts: &P) -> bool
+    /// Puts what comes next, if anything can be put. On the streams below `from` nothing can, and
+    /// neither on those below the stream of this turn, where `from` is then.
+    fn put_next<P: Parts>(&mut self, streams: &mut Streams, parts: &P, from: &mut u32) -> bool
         requires fit { QueuesEndWithin (P.text_of parts.now) self.old.queues }
+        requires done { IsDoneBelow from.old streams.old self.old }
         ensures puts { IsTrue result → PutsBy
             (P.text_of parts.now) streams.old self.old streams.new self.new }
         ensures grows { IsTrue result → ((length self.old.pending < length self.new.pending)
@@ -282,11 +288,12 @@ impl Sender {
         ensures none { AddsNothing self.old self.new }
         ensures fit { KeepsFit self.old self.new }
         ensures sources { KeepsSources self.old self.new }
+        ensures done { IsTrue result → IsDoneBelow from.new streams.new self.new }
     {
         if streams.has_failed() || self.buffer.len() >= PUMP_LIMIT {
             return false;
         }
-        match next_due(self.backlog.queues(), streams) {
+        match next_due(self.backlog.queues(), streams, *from) {
             None => false,
             Some(
                 Due::Opens {
@@ -295,6 +302,7 @@ impl Sender {
                     ended_by_client,
                 },
             ) => {
+                *from = stream;
                 let is_last = block.is_last();
                 self.buffer
                     .put_block(stream, is_last, self.position, block.as_slice());
@@ -307,6 +315,7 @@ impl Sender {
                 true
             }
             Some(Due::Gives { stream, count }) => {
+                *from = stream;
                 put_content(
                     &mut self.buffer,
                     self.backlog.queues(),
@@ -333,13 +342,15 @@ impl Sender {
         ensures sources { KeepsSources self.old self.new }
         ensures grows { length self.old.pending ≤ length self.new.pending }
         ensures size { length self.new.pending ≤ length self.old.pending + (HEADER_LENGTH + 4) }
+        ensures streams { LeavesOthers stream streams.old streams.new }
+        ensures queues { KeepsOthers stream self.old.queues self.new.queues }
     {
         if ended_by_client {
-            self.forget(stream);
+            self.backlog.forget(stream);
             return;
         }
         self.put_reset(streams, stream);
-        self.forget(stream);
+        self.backlog.forget(stream);
     }
 
     fn put_reset(&mut self, streams: &mut Streams, stream: u32)
@@ -350,6 +361,8 @@ impl Sender {
         ensures sources { KeepsSources self.old self.new }
         ensures grows { length self.old.pending ≤ length self.new.pending }
         ensures size { length self.new.pending ≤ length self.old.pending + (HEADER_LENGTH + 4) }
+        ensures streams { LeavesOthers stream streams.old streams.new }
+        ensures queues { self.new.queues ≡ self.old.queues }
     {
         self.put_control(&no_error(stream));
         streams.on_reset_put(stream);

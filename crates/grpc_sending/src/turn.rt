@@ -1,9 +1,9 @@
 //! Whose turn it is.
 
-ghost use Rattle.std.specs.Prelude.{◌≡◌, ◌≤◌, length};
+ghost use Rattle.std.specs.Prelude.{◌≡◌, ◌≤◌, length, OnSome, IfSome};
 ghost use Rattle.http2_streams.specs.Credit.{window_left};
 ghost use Rattle.grpc_sending.specs.Pump.{part_size};
-ghost use Rattle.grpc_sending.specs.SendingSteps.{count_due, due_of, due_on, next_due};
+ghost use Rattle.grpc_sending.specs.SendingSteps.{NoneDueBelow, count_due, due_of, due_on, next_due, stream_due};
 ghost use Rattle.grpc_sending.specs.SortedQueues.{AreSorted};
 
 use crate::piece::{BlockText, StoredPiece};
@@ -87,12 +87,16 @@ fn due_on<'a>(
     }
 }
 
+/// The turn of the first of these streams that has one. Those below `from` have none, and are not
+/// looked at.
 fn first_turn<'a>(
     queues: &'a [StoredQueue],
     connection_window: i64,
     live: &[Stream],
+    from: u32,
 ) -> Option<Due<'a>>
     requires sorted { AreSorted queues.now }
+    requires skipped { NoneDueBelow from queues.now connection_window live.now }
     ensures { result ≡ next_due queues.now connection_window live.now }
 {
     let mut left = live;
@@ -100,20 +104,30 @@ fn first_turn<'a>(
     // many steps as there are queues and streams.
     let mut place = 0;
     'streams: while let [stream, rest @ ..] = left {
-        let turn = due_on(queues, &mut place, connection_window, stream);
-        if turn.is_some() {
-            return turn;
+        if stream.number >= from {
+            let turn = due_on(queues, &mut place, connection_window, stream);
+            if turn.is_some() {
+                return turn;
+            }
         }
         left = rest;
     }
     None
 }
 
-/// The turn of the first of the live streams that has one.
-pub(crate) fn next_due<'a>(queues: &'a [StoredQueue], streams: &Streams) -> Option<Due<'a>>
+/// The turn of the first of the live streams that has one. Those below `from` have none.
+pub(crate) fn next_due<'a>(
+    queues: &'a [StoredQueue],
+    streams: &Streams,
+    from: u32,
+) -> Option<Due<'a>>
     requires sorted { AreSorted queues.now }
-    ensures { result ≡ next_due queues.now
+    requires skipped { NoneDueBelow from queues.now
         (window_left streams.now.connection_window) streams.now.live }
+    ensures first { result ≡ next_due queues.now
+        (window_left streams.now.connection_window) streams.now.live }
+    ensures below { IfSome result (λ due. NoneDueBelow (stream_due due) queues.now
+        (window_left streams.now.connection_window) streams.now.live) }
 {
-    first_turn(queues, streams.connection_window(), streams.live())
+    first_turn(queues, streams.connection_window(), streams.live(), from)
 }

@@ -1,4 +1,5 @@
 mod StreamLists
+mod Rising
 mod Lists
 mod Bools
 mod Sides

@@ -1,6 +1,7 @@
 pub mod History
 pub mod Standing
 pub mod Rules
+pub mod Rising
 pub mod Entries
 pub mod StandsFor
 pub mod Sending

@@ -1,7 +1,9 @@
--- What one entry changes of what is kept. For the code alone: no public contract speaks of it.
+-- What one entry changes of what is kept. For the code alone: but for `without_stream`, no public
+-- contract speaks of it.
 use Rattle.std.specs.Prelude.{ℕ, ◌==◌, nat_lt, length, if◌then◌else◌, Bool, true, false, not, ◌&&◌, List, [], ◌∷◌, ◌++◌, map, filter, fold, Option, Some, None, Result, Ok, Err, pos, ◌+ℤ◌, ◌-ℤ◌}
 use Rattle.std.specs.Option.{option_map_or}
-use Rattle.http2_flow.specs.Credit.{Credit}
+use Rattle.std.specs.Int.Signed.{lt_z}
+use Rattle.http2_flow.specs.Credit.{Credit, window_left}
 use Rattle.http2_frames.specs.declared.codes.setting.TheConstants.{INITIAL_WINDOW_SIZE}
 use Rattle.http2_frames.specs.declared.codes.ErrorCode.{ErrorCode}
 use Rattle.http2_frames.specs.declared.settings.Setting.{Setting}
@@ -47,6 +49,11 @@ credit_after_grant n w = record w { change = w.change +ℤ pos n }
 abbrev pub credit_after_spending : ℕ → Credit → Credit
 credit_after_spending n w = record w { change = w.change -ℤ pos n }
 
+-- a window that is for fewer bytes is left as it was
+abbrev pub credit_after_put : ℕ → Credit → Credit
+credit_after_put n w =
+    if lt_z (window_left w) (pos n) then w else credit_after_spending n w
+
 abbrev pub stream_after_grant : ℕ → ℕ → Stream → Stream
 stream_after_grant s n x =
     if x.number == s then record x { window = credit_after_grant n x.window } else x
@@ -54,6 +61,10 @@ stream_after_grant s n x =
 abbrev pub stream_after_spending : ℕ → ℕ → Stream → Stream
 stream_after_spending s n x =
     record x { window = if x.number == s then credit_after_spending n x.window else x.window }
+
+abbrev pub stream_after_put : ℕ → ℕ → Stream → Stream
+stream_after_put s n x =
+    record x { window = if x.number == s then credit_after_put n x.window else x.window }
 
 abbrev pub stream_after_resize : ℕ → Stream → Stream
 stream_after_resize size x =

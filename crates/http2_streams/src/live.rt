@@ -4,7 +4,7 @@ ghost use Rattle.std.specs.Prelude.{◌≡◌, ◌≢◌, ◌<◌, ◌≤◌, �
 ghost use Rattle.std.specs.List.{list_any};
 ghost use Rattle.http2_flow.specs.Credit.{window_limit};
 ghost use Rattle.http2_streams.specs.Rules.{number_is, receives, overflows, is_above};
-ghost use Rattle.http2_streams.specs.Step.{without_stream, is_ended_by, streams_after_end, with_end, stream_after_grant, stream_after_spending, stream_after_resize};
+ghost use Rattle.http2_streams.specs.Step.{without_stream, is_ended_by, streams_after_end, with_end, stream_after_grant, stream_after_put, stream_after_resize};
 ghost use Rattle.http2_streams.specs.Sending.{lacks};
 
 use crate::stream::{Side, Stream};
@@ -81,8 +81,7 @@ pub(crate) fn lacks(live: &[Stream], number: u32, count: u32) -> bool
 }
 
 pub(crate) fn spend(live: &mut [Stream], number: u32, count: u32)
-    ensures { list_any (lacks number count) live.old ≡ false →
-        live.new ≡ map (stream_after_spending number count) live.old }
+    ensures { live.new ≡ map (stream_after_put number count) live.old }
 {
     for stream in live.iter_mut() {
         stream.spend(number, count);

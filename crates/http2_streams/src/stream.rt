@@ -4,7 +4,7 @@ ghost use Rattle.std.specs.Prelude.{◌≡◌, ◌≢◌, ◌<◌, ◌==◌, ◌
 ghost use Rattle.http2_flow.specs.Credit.{window_left, window_limit};
 ghost use Rattle.http2_streams.specs.Rules.{number_is, receives, overflows, is_above, may_grow};
 ghost use Rattle.http2_streams.specs.Sending.{lacks};
-ghost use Rattle.http2_streams.specs.Step.{is_ended_by, other, with_end, stream_after_grant, stream_after_spending, stream_after_resize};
+ghost use Rattle.http2_streams.specs.Step.{credit_after_put, is_ended_by, other, with_end, stream_after_grant, stream_after_put, stream_after_resize};
 
 use http2_flow::{MAX_SIZE, Window};
 
@@ -24,6 +24,13 @@ impl Side {
             Side::Server => Side::Client,
         }
     }
+}
+
+/// Takes so many bytes off a window. One that is for fewer is left as it was.
+pub(crate) fn spend(window: &mut Window, count: u32)
+    ensures { window.new ≡ credit_after_put count window.old }
+{
+    let _ = window.spend(count);
 }
 
 /// A stream that is open or half-closed (RFC 9113 section 5.1).
@@ -105,12 +112,10 @@ impl Stream {
     }
 
     pub(crate) fn spend(&mut self, number: u32, count: u32)
-        ensures { lacks number count self.old ≡ false →
-            self.new ≡ stream_after_spending number count self.old }
+        ensures { self.new ≡ stream_after_put number count self.old }
     {
         if self.number == number {
-            // Where nothing lacks, the window is for so many bytes.
-            let _ = self.window.spend(count);
+            spend(&mut self.window, count);
         }
     }
 

@@ -7,7 +7,8 @@ ghost use Rattle.http2_frames.specs.Wire.{increment_limit};
 ghost use Rattle.http2_frames.specs.declared.frame.Frame.TheVariants.{Data, Headers, RstStream};
 ghost use Rattle.http2_headers.specs.Decoding.{Gives};
 ghost use Rattle.http2_streams.specs.History.{Entry, Out, has_failed};
-ghost use Rattle.http2_streams.specs.Sending.{CanSend};
+ghost use Rattle.http2_streams.specs.Rising.{RiseTo};
+ghost use Rattle.http2_streams.specs.Sending.{CanSend, LeavesOthers};
 ghost use Rattle.http2_streams.specs.StandsFor.{AreStreams, InMemory};
 ghost use Rattle.http2_streams.specs.Rules.{answer_after, answer_to, is_idle, is_live_at, is_in_turn, on_content};
 ghost use Rattle.http2_streams.specs.Entries.{entries_of, control_frames};
@@ -23,7 +24,7 @@ mod window_updates;
 
 use crate::event::StreamEvent;
 use crate::live;
-use crate::stream::{Side, Stream};
+use crate::stream::{self, Side, Stream};
 use crate::streams::answers::{PROTOCOL_ERROR, nothing, on_ping};
 use http2_flow::{INITIAL_SIZE, Window};
 use http2_frames::{Frame, RawFrame, flag, frame_type, interpret};
@@ -76,6 +77,7 @@ impl Model for Streams {
     ghost use Rattle.std.specs.Prelude.{◌≡◌, ◌<◌, ◌≤◌, length, vec_capacity};
     ghost use Rattle.std.specs.VecDeque.{deque_len, deque_capacity};
     ghost use Rattle.http2_flow.specs.Credit.{window_limit};
+    ghost use Rattle.http2_streams.specs.Rising.{RiseTo};
     ghost use Rattle.http2_streams.specs.Standing.{Standing};
     ghost use Rattle.http2_streams.specs.declared.streams.TheConstants.{MAX_STREAMS, MAX_REMEMBERED};
 
@@ -95,6 +97,7 @@ impl Model for Streams {
 
     ghost invariant = { λ s. (length s.live.items ≤ MAX_STREAMS)
         × (MAX_STREAMS ≤ vec_capacity s.live)
+        × RiseTo s.highest s.live.items
         × (deque_len s.remembered ≡ length s.remembered.items)
         × (deque_len s.remembered ≤ MAX_REMEMBERED)
         × (MAX_REMEMBERED ≤ deque_capacity s.remembered)
@@ -143,6 +146,7 @@ impl Streams {
     pub fn live(&self) -> &[Stream]
         ensures list { result.now ≡ self.now.live }
         ensures few { length result.now ≤ MAX_STREAMS }
+        ensures rise { RiseTo self.now.highest result.now }
     {
         &self.live
     }
@@ -191,6 +195,7 @@ impl Streams {
             CanSend self.old stream count → AreStreams self.old d →
             AreStreams self.new (d ++ Out (Data stream end_stream content) ∷ []) }
         ensures highest { self.new.highest ≡ self.old.highest }
+        ensures others { LeavesOthers stream self.old self.new }
     {
         self.put_data(stream, count, end_stream);
     }
@@ -202,6 +207,7 @@ impl Streams {
             AreStreams self.old d →
             AreStreams self.new (d ++ Out (Headers stream end_stream end_headers fragment) ∷ []) }
         ensures highest { self.new.highest ≡ self.old.highest }
+        ensures others { LeavesOthers stream self.old self.new }
     {
         self.end_by_server(stream, end_stream);
     }
@@ -213,6 +219,7 @@ impl Streams {
             AreStreams self.old d →
             AreStreams self.new (d ++ Out (RstStream stream code) ∷ []) }
         ensures highest { self.new.highest ≡ self.old.highest }
+        ensures others { LeavesOthers stream self.old self.new }
     {
         self.reset(stream);
     }
@@ -231,13 +238,14 @@ impl Streams {
         ensures spent { CanSend self.old stream count →
             self.new ≡ after_server_end (after_data self.old stream count) stream end_stream }
         ensures highest { self.new.highest ≡ self.old.highest }
+        ensures others { LeavesOthers stream self.old self.new }
     {
         live::spend(&mut self.live, stream, count);
-        // Where `CanSend` holds, the window is for so many bytes.
-        let _ = self.connection_window.spend(count);
+        stream::spend(&mut self.connection_window, count);
         self.end_by_server(stream, end_stream);
     }
 
+    #[tactic(auto, using(crate::proofs::Rising::ended_rises))]
     fn end_by_server(&mut self, stream: u32, end_stream: bool)
         ensures { self.new ≡ after_server_end self.old stream end_stream }
     {

@@ -14,6 +14,7 @@ use http2_frames::{ErrorCode, Octets};
 use http2_headers::ConnectionFault;
 
 impl Streams {
+    #[tactic(auto, using(crate::proofs::Rising::ended_rises))]
     pub(super) fn on_data<'a>(
         &mut self,
         length: u32,

@@ -1,8 +1,10 @@
 //! Header lists: HEADERS and CONTINUATION (RFC 9113 sections 6.2 and 6.10).
 
 ghost use Rattle.std.specs.Prelude.{◌≡◌, ◌<◌, ◌++◌, ◌∷◌, [], length, true, IfOk, OnErr};
+ghost use Rattle.std.specs.List.{AllByRecursion};
 ghost use Rattle.http2_headers.specs.Decoding.{Gives, list_of_block, list_of_continuation};
 ghost use Rattle.http2_headers.specs.HeaderBlock.{new_block};
+ghost use Rattle.http2_streams.specs.declared.stream.Stream.{Stream};
 ghost use Rattle.http2_streams.specs.Rules.{is_receiving, on_header_list, on_block, on_request, on_trailers};
 ghost use Rattle.http2_streams.specs.Step.{after_answer, after_block, after_new_block, after_continuation, after_client_end, with_live, new_stream};
 
@@ -81,7 +83,7 @@ impl Streams {
         Err(ConnectionFault::Connection(ErrorCode::StreamClosed))
     }
 
-    #[tactic(auto, using(crate::proofs::StreamLists::without_fresh))]
+    #[tactic(auto, using(crate::proofs::StreamLists::without_fresh, crate::proofs::Rising::rise_raised))]
     fn on_request<'a>(&mut self, block: HeaderList) -> StreamEvent<'a>
         requires { self.old.highest < block.stream }
         ensures answer { result ≡ on_request self.old block }
@@ -110,7 +112,9 @@ impl Streams {
 
     /// Adds a live stream.
     fn open(&mut self, stream: u32, end_stream: bool)
-        requires { length self.old.live < MAX_STREAMS }
+        requires few { length self.old.live < MAX_STREAMS }
+        requires above { AllByRecursion (λ (x : Stream). x.number < stream) self.old.live }
+        requires highest { self.old.highest ≡ stream }
         ensures { self.new ≡ with_live self.old
             (self.old.live ++ new_stream self.old.initial_window_size stream end_stream ∷ []) }
     {
@@ -125,6 +129,7 @@ impl Streams {
             .unwrap();
     }
 
+    #[tactic(auto, using(crate::proofs::Rising::ended_rises))]
     fn on_trailers<'a>(&mut self, stream: u32, end_stream: bool) -> StreamEvent<'a>
         requires { is_receiving self.old stream ≡ true }
         ensures answer { result ≡ on_trailers self.old stream end_stream }

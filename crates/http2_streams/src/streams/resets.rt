@@ -33,6 +33,7 @@ impl Streams {
     }
 
     /// Ends the stream by the server's RST_STREAM, and remembers it.
+    #[tactic(auto, using(crate::proofs::Rising::removed_rises))]
     pub(super) fn reset(&mut self, stream: u32)
         ensures { self.new ≡ after_reset self.old stream }
     {
@@ -52,6 +53,7 @@ impl Streams {
         }
     }
 
+    #[tactic(auto, using(crate::proofs::Rising::removed_rises))]
     pub(super) fn on_reset<'a>(&mut self, stream: u32) -> Result<StreamEvent<'a>, ConnectionFault>
         ensures answer { Gives result (on_reset self.old stream) }
         ensures state { IfOk result (λ a. self.new

@@ -103,6 +103,11 @@ impl<'a> Sockets for FakeSockets<'a> {
         self.turns.saturating_add(1).saturating_mul(1_000)
     }
 
+    /// Something may have come in each turn.
+    fn news(&self, _instance: u32) -> u64 {
+        self.turns
+    }
+
     /// The server is never without a processor.
     fn processor(&self) -> ProcessorTime {
         ProcessorTime {

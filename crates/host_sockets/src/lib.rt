@@ -12,9 +12,11 @@ ghost use Rattle.host_sockets.specs.Told.{ArePassedOn, AreTold, StaysToldAt, Sta
 mod counts;
 mod laws;
 mod lingering;
+mod news;
 mod port;
 mod watched;
 
+use crate::news::{MOST_PORTS, count_news};
 use crate::port::Port;
 pub use counts::SocketCounts;
 pub use laws::{what_is_laid, wrong_bodies_are_refused};
@@ -49,6 +51,8 @@ pub struct HostSockets<'a, H: Host> {
     host: H,
     /// By the instances' numbers.
     ports: Vec<Port<H::Door>>,
+    /// How often something was told at each.
+    told: Vec<u64>,
     /// What the clock showed last.
     moment: u64,
     faults: u64,
@@ -90,6 +94,7 @@ impl<'a, H: Host> HostSockets<'a, H> {
         Ok(HostSockets {
             host,
             ports: Vec::new(alloc),
+            told: vec![in alloc; 0; MOST_PORTS]?,
             moment: 0,
             faults: 0,
             counts: None,
@@ -227,6 +232,9 @@ impl<'a, H: Host> HostSockets<'a, H> {
     fn wait_of(&self, most: u64) -> u64
         ensures { result ≡ wait_of most self.now.ports.items }
     {
+        if most == 0 {
+            return 0;
+        }
         if port::have_more(&self.ports) {
             most.min(1)
         } else {
@@ -245,6 +253,7 @@ impl<'a, H: Host> HostSockets<'a, H> {
         let looked = self.host.look(most);
         self.count(&looked);
         port::tell(&self.host, &mut self.ports);
+        count_news(&self.host, &mut self.told);
     }
 }
 
@@ -268,6 +277,13 @@ impl<'a, H: Host> Sockets for HostSockets<'a, H> {
     /// It is 0 where the clock cannot be read.
     fn passed(&self) -> u64 {
         self.host.passed().unwrap_or(0)
+    }
+
+    fn news(&self, instance: u32) -> u64 {
+        match self.told.get(instance as usize) {
+            Some(told) => *told,
+            None => 0,
+        }
     }
 
     fn processor(&self) -> ProcessorTime {

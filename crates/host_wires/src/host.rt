@@ -12,10 +12,11 @@
 use crate::options::{ask_after_clients, give_up_later};
 use crate::processor_clock::ProcessorClock;
 use crate::turn_clock::TurnClock;
+use crate::untold::Untold;
 use mio::event::Event;
 use mio::net::{TcpListener, TcpStream};
 use mio::{Events, Interest, Poll, Registry, Token};
-use std::io::{self, Read, Write};
+use std::io::{self, ErrorKind, Read, Write};
 use std::net::{Shutdown, SocketAddr};
 use std::rc::Rc;
 use std::time::{Duration, Instant};
@@ -31,10 +32,8 @@ fn wire_token(place: usize, number: u32) -> Token {
     Token(place.wrapping_add(1) << 32 | number as usize)
 }
 
-/// What the system tells.
-fn news_of(event: &Event) -> News {
-    let token = event.token().0;
-    let has_failed = event.is_error();
+/// That this came on what has a token.
+fn news_of(token: usize, may_read: bool, may_write: bool) -> News {
     let (place, number) = match token >> 32 {
         0 => (token, None),
         upper => (upper - 1, Some((token & 0xffff_ffff) as u32)),
@@ -42,9 +41,17 @@ fn news_of(event: &Event) -> News {
     News {
         place,
         number,
-        may_read: event.is_readable() || event.is_read_closed() || has_failed,
-        may_write: event.is_writable() || event.is_write_closed() || has_failed,
+        may_read,
+        may_write,
     }
+}
+
+/// What the system tells.
+fn told_of(event: &Event) -> News {
+    let has_failed = event.is_error();
+    let may_read = event.is_readable() || event.is_read_closed() || has_failed;
+    let may_write = event.is_writable() || event.is_write_closed() || has_failed;
+    news_of(event.token().0, may_read, may_write)
 }
 
 /// A connection of this host.
@@ -53,11 +60,49 @@ pub struct HostWire {
     stream: TcpStream,
     /// Of its door.
     place: usize,
+    token: Token,
+    /// Whether the system tells what comes.
+    is_watched: bool,
+    /// How often it was read since it was shut, if it was.
+    shut: Option<u64>,
+    registry: Rc<Registry>,
+    untold: Rc<Untold>,
     turns: Rc<TurnClock>,
+}
+
+impl HostWire {
+    /// Has the system tell what comes. Where it is short of what that takes, it is tried again later.
+    fn watch(&mut self) -> io::Result<()> {
+        let both = Interest::READABLE | Interest::WRITABLE;
+        let registry = self.registry.as_ref();
+        match registry.register(&mut self.stream, self.token, both) {
+            Ok(()) => {
+                self.is_watched = true;
+                self.untold.as_ref().remove(self.token.0);
+                Ok(())
+            }
+            Err(error) => match error.kind() {
+                ErrorKind::StorageFull | ErrorKind::OutOfMemory => {
+                    Ok(self.untold.as_ref().add(self.token.0)?)
+                }
+                _ => Err(error),
+            },
+        }
+    }
 }
 
 impl Wire for HostWire {
     fn read(&mut self, room: &mut [u8]) -> io::Result<usize> {
+        if !self.is_watched {
+            self.watch()?;
+        }
+        // What comes then is dropped, and looked for each eighth time: nobody is charged for that.
+        if let Some(count) = self.shut {
+            self.shut = Some(count.wrapping_add(1));
+            if count % 8 != 0 {
+                return Err(io::Error::from(ErrorKind::WouldBlock));
+            }
+        }
         self.turns.as_ref().note_read(self.place);
         self.stream.read(room)
     }
@@ -68,6 +113,8 @@ impl Wire for HostWire {
 
     fn shut(&mut self) -> io::Result<()> {
         give_up_later(&self.stream);
+        self.untold.as_ref().remove(self.token.0);
+        self.shut = Some(0);
         self.stream.shutdown(Shutdown::Write)
     }
 }
@@ -78,6 +125,7 @@ pub struct HostDoor {
     listener: TcpListener,
     place: usize,
     registry: Rc<Registry>,
+    untold: Rc<Untold>,
     turns: Rc<TurnClock>,
 }
 
@@ -85,18 +133,22 @@ impl Door for HostDoor {
     type Wire = HostWire;
 
     fn next(&mut self, number: u32) -> io::Result<HostWire> {
-        let (mut stream, _) = self.listener.accept()?;
+        let (stream, _) = self.listener.accept()?;
         // Otherwise the end of a response waits for the client's acknowledgement of what was before
         // it.
         stream.set_nodelay(true)?;
-        let token = wire_token(self.place, number);
-        let both = Interest::READABLE | Interest::WRITABLE;
-        self.registry.as_ref().register(&mut stream, token, both)?;
-        Ok(HostWire {
+        let mut wire = HostWire {
             stream,
             place: self.place,
+            token: wire_token(self.place, number),
+            is_watched: false,
+            shut: None,
+            registry: self.registry.clone()?,
+            untold: self.untold.clone()?,
             turns: self.turns.clone()?,
-        })
+        };
+        wire.watch()?;
+        Ok(wire)
     }
 
     fn number(&self) -> io::Result<u16> {
@@ -113,6 +165,8 @@ pub struct ThisHost<'a> {
     registry: Rc<Registry>,
     /// What it told last.
     told: Events,
+    /// Of what it does not tell.
+    untold: Rc<Untold>,
     start: Instant,
     processors: ProcessorClock,
     /// What is noted of turns.
@@ -134,6 +188,7 @@ impl<'a> ThisHost<'a> {
             registry: Rc::new(rt.alloc(), registry)?,
             poll,
             told: Events::with_capacity(rt.alloc(), NEWS_LIMIT)?,
+            untold: Rc::new(rt.alloc(), Untold::new(rt.alloc()))?,
             start: Instant::now(rt)?,
             processors: ProcessorClock::new(rt),
             turns,
@@ -156,6 +211,7 @@ impl<'a> Host for ThisHost<'a> {
             listener,
             place,
             registry,
+            untold: self.untold.clone()?,
             turns: self.turns.clone()?,
         })
     }
@@ -169,8 +225,14 @@ impl<'a> Host for ThisHost<'a> {
     }
 
     fn news(&self, nth: usize) -> Option<News> {
-        let event = self.told.iter().nth(nth)?;
-        Some(news_of(event))
+        match self.told.iter().nth(nth) {
+            Some(event) => Some(told_of(event)),
+            None => {
+                let behind = nth.checked_sub(self.told.iter().count())?;
+                let token = self.untold.as_ref().get(behind)?;
+                Some(news_of(token, true, true))
+            }
+        }
     }
 
     fn passed(&self) -> io::Result<u64> {

@@ -5,6 +5,7 @@ mod host;
 mod options;
 mod processor_clock;
 mod turn_clock;
+mod untold;
 
 pub use host::{HostDoor, HostWire, ThisHost};
 pub use turn_clock::TurnClock;

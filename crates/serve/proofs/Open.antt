@@ -247,7 +247,7 @@ added_by known c count held now next m is has = subst (λ (l : List OpenSocket).
 -- .. or is closed at once
 pub refused_open : (old mid new : Option (List SocketEvent)) (i n count : ℕ) (cs held seen : List OpenSocket) (was next : Option ℕ) (m : ℕ) → i < count → was ≡ Some n → Adds old mid (port i (accepted n) ∷ []) → held ≡ cs → seen ≡ held → IsNext n (sockets_of seen) next → StayOpenBut (at i n) mid new → HasOpen count cs was m old → HasOpen count held next m new
 refused_open old mid new i n count cs held seen was next m lt is adds reserved looked after closes has =
-    let c : OpenSocket = record { socket = at i n; moved = m; tried = m; heard = m; received = 0; course = record { left = 0; head = 0; length = 0 } } in
+    let c : OpenSocket = record { socket = at i n; moved = m; tried = m; news = None; heard = m; received = 0; course = record { left = 0; head = 0; length = 0 } } in
     subst (λ (l : List OpenSocket). HasOpen count l next m new) (append-nil held)
     (closes count held c [] next m refl (accepted_by old mid i n c count cs held seen was next m refl refl refl lt is adds reserved looked after has))
 

@@ -9,11 +9,14 @@ ghost use Rattle.serve.specs.Reads.{HasSeveralHalves, frame_rest};
 ghost use Rattle.serve.specs.Silence.{MayMakeRoom, IsLongestSilent};
 
 use crate::frame_course::FrameCourse;
-use crate::sockets::Socket;
+use crate::sockets::{Socket, Sockets};
 use server_core::Server;
 
 /// For how many milliseconds after something moved on a connection it is tried in each turn.
 const BUSY_TIME: u64 = 20;
+
+/// After so many milliseconds a connection is tried, though nothing was told at its port.
+const QUIET_TIME: u64 = 16;
 
 /// For how many milliseconds no byte came from a client, where its connection may make room.
 const SILENCE_LIMIT: u64 = 60_000;
@@ -32,6 +35,8 @@ pub(crate) struct OpenSocket {
     pub(crate) moved: u64,
     /// When it was tried last.
     pub(crate) tried: u64,
+    /// What the news of its port were before that, where no job could put bytes on it.
+    pub(crate) news: Option<u64>,
     /// When a byte came last, or it was opened.
     heard: u64,
     /// How many bytes came, or 2^64 - 1 where more came.
@@ -51,6 +56,7 @@ impl OpenSocket {
             socket,
             moved: moment,
             tried: moment,
+            news: None,
             heard: moment,
             received: 0,
             course: FrameCourse::new(),
@@ -60,6 +66,14 @@ impl OpenSocket {
     /// Whether it is to be tried now: where nothing moved on it for long, once a millisecond.
     pub(crate) fn is_due(&self, moment: u64) -> bool {
         moment.saturating_sub(self.moved) <= BUSY_TIME || moment != self.tried
+    }
+
+    /// Whether it need not be tried now, with these news of its port: nothing moved on it for long,
+    /// and nothing was told there since it was tried.
+    pub(crate) fn is_quiet(&self, moment: u64, news: u64) -> bool {
+        self.news == Some(news)
+            && moment.saturating_sub(self.moved) > BUSY_TIME
+            && moment.saturating_sub(self.tried) < QUIET_TIME
     }
 
     /// How many bytes came, or 2^64 - 1 where more came.
@@ -121,6 +135,26 @@ impl OpenSocket {
         ensures { IsTrue result ↔ silence_limit self.now.received ≤ moment - self.now.heard }
     {
         moment.saturating_sub(self.heard) >= self.silence_limit()
+    }
+}
+
+/// The news of an instance's port; none where jobs of it wait or run: what ends these puts bytes on
+/// connections of which nothing comes.
+pub(crate) fn news_of<S: Sockets>(server: &Server, sockets: &S, instance: u32) -> Option<u64> {
+    if has_jobs(server, instance) {
+        return None;
+    }
+    Some(sockets.news(instance))
+}
+
+/// Whether jobs of an instance wait or run.
+fn has_jobs(server: &Server, instance: u32) -> bool {
+    match server.instance(instance) {
+        Some(served) => {
+            let sizes = served.instance().sizes();
+            sizes.waiting > 0 || sizes.running > 0
+        }
+        None => false,
     }
 }
 

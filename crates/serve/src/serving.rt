@@ -16,7 +16,7 @@ use crate::counts::{Occurrence, ServeCounts};
 use crate::error_lines::ErrorLines;
 use crate::exchange::{Rooms, Tried, close, exchange};
 use crate::numbering::number_after;
-use crate::open_socket::{OpenSocket, longest_silent};
+use crate::open_socket::{OpenSocket, longest_silent, news_of};
 use crate::pace::Pace;
 use crate::runs::Runs;
 use crate::sockets::{Socket, Sockets};
@@ -343,11 +343,14 @@ impl Serving {
     }
 
     /// Whether the connection at this place is tried now.
-    fn is_tried(&self, at: usize) -> bool {
-        match self.connections.get(at) {
-            Some(open) => open.is_due(self.moment) && self.pace.goes(open.socket.instance),
-            None => false,
-        }
+    fn is_tried<S: Sockets>(&self, sockets: &S, at: usize) -> bool {
+        let Some(open) = self.connections.get(at) else {
+            return false;
+        };
+        let instance = open.socket.instance;
+        open.is_due(self.moment)
+            && self.pace.goes(instance)
+            && !open.is_quiet(self.moment, sockets.news(instance))
     }
 
     /// The same of those that stand from one place on, and before another.
@@ -373,12 +376,13 @@ impl Serving {
         let mut moved = false;
         let mut at = first;
         while at < end && at < self.connections.len() {
-            if !self.is_tried(at) {
+            if !self.is_tried(sockets, at) {
                 at += 1;
                 continue;
             }
             let mut open = self.connections[at];
             let instance = open.socket.instance;
+            let news = news_of(&self.counting.server, sockets, instance);
             self.rooms.until = self.pace.until();
             self.rooms.is_long = self.pace.is_long(instance);
             let (counting, rooms) = (&mut self.counting, &mut self.rooms);
@@ -405,6 +409,7 @@ impl Serving {
                 }
                 Tried::NotReady => {
                     open.tried = self.moment;
+                    open.news = news;
                     self.connections[at] = open;
                     at += 1;
                 }

@@ -200,6 +200,11 @@ impl<'a> Sockets for Fake<'a> {
         self.moment.saturating_add(1).saturating_mul(1_000)
     }
 
+    /// Something may have come in each millisecond.
+    fn news(&self, _instance: u32) -> u64 {
+        self.passed()
+    }
+
     /// The server is never without a processor.
     fn processor(&self) -> ProcessorTime {
         ProcessorTime {

@@ -69,6 +69,10 @@ impl<'a> Sockets for WithPeers<'a> {
         self.sockets.processor()
     }
 
+    fn news(&self, instance: u32) -> u64 {
+        self.sockets.news(instance)
+    }
+
     fn accept(&mut self, socket: Socket) -> io::Result<()> {
         self.sockets.accept(socket)
     }

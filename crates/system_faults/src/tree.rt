@@ -1,0 +1,189 @@
+//! A tree of directories, files and links in memory.
+
+ghost use Rattle.std.specs.Prelude.{◌≤◌, IfOk, length};
+
+use std::alloc::Global;
+use std::io::{self, ErrorKind};
+
+/// A node, by its place among those that were ever made.
+#[derive(Clone, Copy, Debug, PartialEq, Eq)]
+pub struct NodeId(usize);
+
+/// The directory of the start.
+pub const START: NodeId = NodeId(0);
+
+/// What a node is.
+#[derive(Clone, Copy, PartialEq, Eq)]
+pub enum What {
+    Directory,
+    File,
+    /// A link, and where it leads.
+    Link(Option<NodeId>),
+    Fifo,
+}
+
+/// Who made a node.
+#[derive(Clone, Copy, PartialEq, Eq)]
+pub enum Maker {
+    /// The run whose folder it is about.
+    Run,
+    /// Another run, whose folder nobody may touch.
+    Other,
+    /// A call.
+    Call,
+    /// A program, between two calls.
+    Program,
+}
+
+#[derive(Drop)]
+pub struct Node {
+    pub inode: u64,
+    pub what: What,
+    pub mode: u32,
+    pub maker: Maker,
+    /// What is in a file, or what a link says.
+    pub bytes: Vec<u8>,
+}
+
+/// A name of a node.
+#[derive(Drop)]
+struct Entry {
+    above: NodeId,
+    name: Vec<u8>,
+    node: NodeId,
+    /// The place among all names that were ever given.
+    serial: u64,
+}
+
+/// A tree in memory.
+#[derive(Drop)]
+pub struct Tree {
+    alloc: Global,
+    nodes: Vec<Node>,
+    entries: Vec<Entry>,
+    last_serial: u64,
+}
+
+fn not_found() -> io::Error {
+    io::Error::from(ErrorKind::NotFound)
+}
+
+impl Tree {
+    /// The directory of the start, and nothing in it.
+    pub fn new(alloc: Global) -> io::Result<Tree> {
+        let mut tree = Tree {
+            alloc,
+            nodes: Vec::new(alloc),
+            entries: Vec::new(alloc),
+            last_serial: 0,
+        };
+        tree.make(What::Directory, 0o700, Maker::Run)?;
+        Ok(tree)
+    }
+
+    /// Makes a node without a name.
+    fn make(&mut self, what: What, mode: u32, maker: Maker) -> io::Result<NodeId> {
+        let id = NodeId(self.nodes.len());
+        self.nodes.push(Node {
+            inode: (id.0 as u64).saturating_add(100),
+            what,
+            mode,
+            maker,
+            bytes: Vec::new(self.alloc),
+        })?;
+        Ok(id)
+    }
+
+    /// Gives a node a name.
+    pub fn put(&mut self, above: NodeId, name: &[u8], node: NodeId) -> io::Result<()> {
+        self.last_serial = self.last_serial.saturating_add(1);
+        let name = Vec::from_slice(self.alloc, name)?;
+        self.entries.push(Entry {
+            above,
+            name,
+            node,
+            serial: self.last_serial,
+        })?;
+        Ok(())
+    }
+
+    /// Makes a node of a name.
+    pub fn add(
+        &mut self,
+        above: NodeId,
+        name: &[u8],
+        what: What,
+        mode: u32,
+        maker: Maker,
+    ) -> io::Result<NodeId> {
+        let id = self.make(what, mode, maker)?;
+        self.put(above, name, id)?;
+        Ok(id)
+    }
+
+    pub fn node(&self, id: NodeId) -> io::Result<&Node> {
+        self.nodes.get(id.0).ok_or(not_found())
+    }
+
+    pub fn node_mut(&mut self, id: NodeId) -> io::Result<&mut Node> {
+        self.nodes.get_mut(id.0).ok_or(not_found())
+    }
+
+    /// Whether this one made it.
+    pub fn is_of(&self, id: NodeId, maker: Maker) -> bool {
+        match self.node(id) {
+            Ok(node) => node.maker == maker,
+            Err(_) => false,
+        }
+    }
+
+    /// Whether it is another run's.
+    pub fn is_other(&self, id: NodeId) -> bool {
+        self.is_of(id, Maker::Other)
+    }
+
+    /// What has a name in a directory.
+    pub fn entry(&self, above: NodeId, name: &[u8]) -> io::Result<NodeId> {
+        for entry in &self.entries {
+            if entry.above == above && entry.name.as_slice() == name {
+                return Ok(entry.node);
+            }
+        }
+        Err(not_found())
+    }
+
+    /// Takes a name away.
+    pub fn detach(&mut self, above: NodeId, name: &[u8]) {
+        self.entries.retain(|entry| entry.above != above || entry.name.as_slice() != name);
+    }
+
+    /// How many names there are in a directory.
+    pub fn count_in(&self, above: NodeId) -> usize {
+        self.entries
+            .iter()
+            .filter(|entry| entry.above == above)
+            .count()
+    }
+
+    /// How many names in a directory are those of what this one made.
+    pub fn count_of(&self, above: NodeId, maker: Maker) -> usize {
+        let mut count: usize = 0;
+        for entry in &self.entries {
+            if entry.above == above && self.is_of(entry.node, maker) {
+                count = count.saturating_add(1);
+            }
+        }
+        count
+    }
+
+    /// The next name in a directory that was given later than the one of this number, and its own
+    /// number.
+    pub fn next_name(&self, above: NodeId, serial: u64) -> Option<(&[u8], u64)> {
+        for entry in &self.entries {
+            if entry.above == above && entry.serial > serial {
+                return Some((&entry.name, entry.serial));
+            }
+        }
+        None
+    }
+}

@@ -62,7 +62,8 @@ def man_page(helps, version):
     lines += [".SH DESCRIPTION", *roff(helps[""])]
     for name, text in helps.items():
         lines += [f'.SH "REMOTED {name.upper()}"', *roff(text)] if name else []
-    lines += [".SH FILES", ".TP", ".B /etc/remoted/TEAM.conf", "the server of a team, for remoted@TEAM.service"]
+    team = "the server of a team, for remoted@TEAM.service, which runs as remoted-TEAM"
+    lines += [".SH FILES", ".TP", ".B /etc/remoted/TEAM.conf", escaped(team)]
     lines += [".TP", f".B /{GUIDES}", "the guides: USING.md, DEPLOYING.md, WATCHING.md, BAZEL.md"]
     return "\n".join(lines) + "\n"
 

@@ -79,6 +79,7 @@ def installed(host):
 
 def upgraded(host):
     """A team goes on while the package changes beneath it, until it is restarted."""
+    host.machine.inside("useradd", "--system", "--no-create-home", "remoted-red", check=True)
     host.machine.inside("cp", TEAM, "/etc/remoted/red.conf")
     host.systemctl("enable", "--now", "remoted@red")
     host.answers(8980)
@@ -101,7 +102,9 @@ def removed(host):
     expect(not left, "the server has ended, and its files are gone", left)
     expect(host.has_file("/etc/remoted/red.conf"), "the team's file is there")
     dpkg(host, "--purge", "remoted")
-    expect(not host.has_file("/etc/remoted"), "and goes with a purge")
+    left = [path for path in ["/etc/remoted", "/var/lib/remoted-red"] if host.has_file(path)]
+    expect(not left, "and goes with a purge, as its folder does", left)
+    expect(host.machine.inside("id", "remoted-red").returncode == 0, "the team's login stays")
 
 
 def image(root, package, folder):

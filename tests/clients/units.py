@@ -3,9 +3,9 @@
 
 PROGRAM is the built `remoted`. In a fresh Debian, which debootstrap makes, systemd runs in namespaces of its own. There
 each block of the sections on services is run as it is printed: one server for two teams, and then a server for each
-team. A team is added, and another's quota changed, while the first team's blobs stay and its server goes on. With --root
-the Debian is a copy of FOLDER, made by debootstrap with what clean_root.py names. A line for
-each thing that holds; it ends with status 1 at the first that does not. It needs root; Debian: debootstrap,
+team, with a login of its own. A team is added, another's quota changed, and a team removed, while the first team's blobs
+stay and its server goes on. With --root the Debian is a copy of FOLDER, made by debootstrap with what clean_root.py names.
+A line for each thing that holds; it ends with status 1 at the first that does not. It needs root; Debian: debootstrap,
 systemd-container.
 """
 
@@ -21,6 +21,19 @@ from watched import expect, within
 TOP = pathlib.Path(__file__).resolve().parents[2]
 CHECKOUT = "checkout"
 SYSTEM = "etc/systemd/system"
+# Opens so many pipes, says how much the last one holds (F_GETPIPE_SZ), and keeps them until its input ends.
+PIPES = """import fcntl, os, sys
+held = [os.pipe() for _ in range(int(sys.argv[1]))]
+print(fcntl.fcntl(held[-1][0], 1032), flush=True)
+sys.stdin.read()"""
+# What a pipe of red's and one of blue's hold while another process of red's has 1,100, which are over 64 MB.
+PIPES_OF_TWO = f"""import resource, subprocess
+resource.setrlimit(resource.RLIMIT_NOFILE, (4000, 4000))
+kept = []
+for team, count in [("red", 1100), ("red", 1), ("blue", 1)]:
+    words = ["python3", "-c", {PIPES!r}, str(count)]
+    kept += [subprocess.Popen(words, user="remoted-" + team, stdin=-1, stdout=-1, text=True)]
+    print(kept[-1].stdout.readline().strip())"""
 
 
 def blocks(heading, guide="DEPLOYING", language="sh"):
@@ -88,7 +101,7 @@ def ran(host, port, script, wanted, what):
 
 def a_server_for_each(host):
     """A server for each team, and what each of them notices of the other's changes: nothing."""
-    first, another, other_quota = blocks("A server for each team")
+    first, another, other_quota, _ = blocks("A server for each team")
     host.run(first)
     without_fault(host, "remoted@red.service")
     store(8980, b"red's")
@@ -105,11 +118,51 @@ def a_server_for_each(host):
     expect(has(8980, b"red's"), "and red's is what it was")
     same = host.main_process("remoted@red") == red and host.main_process("remoted@blue") != blue
     expect(same, "red's server is the same process, and blue's another one")
+    two_logins(host)
+
+
+def two_logins(host):
+    """The servers of two teams run as two users, and neither user reaches the other's server."""
+    numbers = {team: host.main_process(f"remoted@{team}") for team in ["red", "blue"]}
+    for team, number in numbers.items():
+        owner = host.machine.inside("stat", "--format=%U:%G", f"/proc/{number}").stdout.strip()
+        expect(owner == f"remoted-{team}:remoted-{team}", f"{team}'s server runs as a login of its own", owner)
+        modes = [f"/run/remoted-{team}", f"/var/lib/remoted-{team}", f"/etc/remoted/{team}.conf"]
+        found = host.machine.inside("stat", "--format=%U %a", *modes).stdout.splitlines()
+        wanted = [f"remoted-{team} 755", f"remoted-{team} 755", "root 644"]
+        expect(found == wanted, "which has its folders, and not the team's file", found)
+        figures = said_as(host, "nobody", f"cat /run/remoted-{team}/remoted.prom")
+        expect(figures.returncode == 0 and "remoted_blobs" in figures.stdout, "others can read the figures", figures.stderr)
+        signal = said_as(host, f"remoted-{team}", f"kill -0 {number}")
+        expect(signal.returncode == 0, "it may send itself a signal", signal.stderr)
+    for team, other in [("red", "blue"), ("blue", "red")]:
+        signal = said_as(host, f"remoted-{team}", f"kill -0 {numbers[other]}")
+        refused = signal.returncode and "Operation not permitted" in signal.stderr
+        expect(refused, f"{team}'s login may send {other}'s server no signal", signal.stderr)
+        for name in ["mem", "environ"]:
+            read = said_as(host, f"remoted-{team}", f"head -c 1 /proc/{numbers[other]}/{name}")
+            refused = read.returncode and "Permission denied" in read.stderr
+            expect(refused, f"nor read its /proc/PID/{name}", read.stderr)
+        written = said_as(host, f"remoted-{team}", f"touch /run/remoted-{other}/stop /var/lib/remoted-{other}/a")
+        expect(written.stderr.count("Permission denied") == 2, "nor write into its folders", written.stderr)
+    found = host.machine.inside("python3", "-c", PIPES_OF_TWO)
+    wanted = ["8192", "8192", "65536"]
+    expect(found.stdout.split() == wanted, "red's many pipes make red's small, and not blue's", found)
+
+
+def said_as(host, user, script):
+    return host.machine.inside("runuser", "-u", user, "--", "env", "LC_ALL=C", "bash", "-c", script)
 
 
 def what_else_is_said(host):
-    """A taken port, a parent, slots, and the end of a team."""
+    """A team without a login, a taken port, a parent, slots, and the end of a team."""
     host.write("etc/remoted/green.conf", "INSTANCES=green:8980:1000:0\nMEMORY=unlimited\nOPTIONS=\n")
+    host.systemctl("start", "remoted@green")
+    told = lambda: "status=217/USER" in host.machine.inside("journalctl", "-u", "remoted@green").stdout
+    expect(within(20, told), "a team without a login has no server, and the journal says so")
+    host.systemctl("stop", "remoted@green")
+    host.systemctl("reset-failed", "remoted@green")
+    host.run(blocks("A team more", "OUTGROWING")[0].splitlines()[0])
     host.systemctl("start", "remoted@green")
     said = lambda: "cannot listen on 8980" in host.machine.inside("journalctl", "-u", "remoted@green").stdout
     expect(within(20, said), "a server whose port is taken does not begin, and says so")
@@ -128,9 +181,24 @@ def what_else_is_said(host):
     expect(has(8983, b"ci's"), "an instance and its parent stand in one file")
     ran(host, 8983, "pwd && test ! -e /etc/remoted", b"/work\n", "in the sandbox no file of the host's is")
     ended_by_an_operator(host)
+    a_team_goes(host)
+    left = said_as(host, "remoted-green", "echo left >/dev/shm/left")
+    expect(left.returncode == 0, "a login leaves memory that is shared", left.stderr)
     host.systemctl("stop", "remoted@*")
     for team in ["red", "blue", "green"]:
         host.unit_is(f"remoted@{team}", "inactive")
+    expect(not host.has_file("/dev/shm/left"), "and it goes with the login's server")
+
+
+def a_team_goes(host):
+    """All of a team is removed, and another one notices nothing."""
+    host.run(blocks("A server for each team")[-1])
+    users = host.machine.inside("getent", "passwd").stdout + host.machine.inside("getent", "group").stdout
+    expect("remoted-red:" in users and "remoted-blue:" not in users, "blue's login is gone", users)
+    places = ["/etc/remoted/blue.conf", "/var/lib/remoted-blue", "/run/remoted-blue"]
+    left = [path for path in places if host.has_file(path)]
+    expect(not left, "and its files", left)
+    expect(has(8980, b"red's"), "and red's notices nothing")
 
 
 def ended_by_an_operator(host):

@@ -61,7 +61,7 @@ def check(program):
         for each in held:
             each.close()
     ends(["--port", str(port)], 4, f"remoted: cannot connect to {port}: Connection refused (os error 111)\n")
-    ends(["--port", "1", "--host", "nowhere"], 2, "remoted: --host is no IPv4 or IPv6 address: nowhere\n")
+    ends(["--port", "1", "--host", "nowhere"], 2, "remoted: --host is no IPv4 or IPv6 address, as 127.0.0.1 or ::1: nowhere\n")
     ends(["--port", "1", "--instance", "n" * 65], 2, "remoted: --instance is longer than any name: " + "n" * 65 + "\n")
     no_http2 = "it speaks no HTTP/2"
     for text, closes, why in [
@@ -187,5 +187,5 @@ def listen(program):
             told = f"remoted: cannot listen on {told}\nremoted: port {port}: Address already in use (os error 98)\n"
             expect((done.returncode, done.stderr) == (1, told), told.split("\n")[0], done)
     done = subprocess.run([*words[:4], "--listen", "localhost", "red:1:1:0"], capture_output=True, text=True)
-    told = "remoted: --listen is no IPv4 or IPv6 address: localhost\n"
+    told = "remoted: --listen is no IPv4 or IPv6 address, as 127.0.0.1 or ::1: localhost\n"
     expect((done.returncode, done.stderr) == (2, told), told.strip(), done)

@@ -105,7 +105,7 @@ CHECKED = [
     ([], "error: neither --port is given, nor --metrics"),
     (["--port", "1", "--metrics", "a"], "error: --port and --metrics are given, and one of them is asked at a time"),
     (["--port", "1", "--seconds", "0"], "error: invalid value '0' for '--seconds <N>': 0 is not in 1..=3600"),
-    (["--port", "1", "--host", "me"], "remoted: --host is no IPv4 or IPv6 address: me"),
+    (["--port", "1", "--host", "me"], "remoted: --host is no IPv4 or IPv6 address, as 127.0.0.1 or ::1: me"),
     (["--port", "1", "--instance", "n" * 65], "remoted: --instance is longer than any name: " + "n" * 65),
 ]
 # What `--help` says that each costs.
@@ -150,13 +150,14 @@ class Checks:
         return ["serve", "--turns", "20", "--work", *words]
 
     def begun(self, *instances, programs="without a launcher"):
-        """What such a server says at its start, of instances as they are written without a parent."""
+        """What such a server says at its start and its end, of instances as they are written without a parent."""
         told = [f"remoted: {self.version} begins with {len(instances)} instances"]
         for name, port, quota, slots in (word.split(":") for word in instances):
             told += [f"remoted: {name}: {quota} bytes, {slots} slots, on 127.0.0.1:{port}"]
         if any(word.split(":")[3] != "0" for word in instances):
             told += [f"remoted: programs are started {programs}"]
-        return "\n".join([*told, "remoted: ends after 20 turns at the latest", ""])
+        told += ["remoted: ends after 20 turns at the latest", "remoted: ends after 20 turns"]
+        return "\n".join([*told, ""])
 
     def file(self, name, text):
         path = os.path.join(self.folder, name)
@@ -236,12 +237,12 @@ def folders(checks):
     checks.file("file", "")
     told = "remoted: --end is looked for in file: there is no such folder\n"
     checks.ends(checks.serve("unmade", "--end", "file/in", word()), 1, told)
-    checks.ends(checks.serve("file", word()), 1, "remoted: cannot make file: File exists (os error 17)\n")
+    checks.ends(checks.serve("file", word()), 1, "remoted: file is no folder: name another, or remove it\n")
     checks.ends(checks.serve("file/in", word()), 1, "remoted: cannot make file/in: Not a directory (os error 20)\n")
     long = "n" * 256
     checks.ends(checks.serve(long, word()), 1, f"remoted: cannot make {long}: File name too long (os error 36)\n")
     os.makedirs(os.path.join(checks.folder, "full", "2024-11"))
-    told = "remoted: full is not empty, and is not a folder of remoted's\n"
+    told = "remoted: full is not empty, and is not a folder of remoted's: name an empty one, or one that is not there\n"
     checks.ends(checks.serve("full", word()), 1, told)
     makers = {"folder": os.mkdir, "fifo": os.mkfifo, "link": lambda path: os.symlink("/dev/null", path)}
     for name, make in makers.items():
@@ -251,12 +252,19 @@ def folders(checks):
         checks.ends(checks.serve(name, word()), 1, told)
     work = os.path.join(checks.folder, "held")
     with Server(checks.program, [("red", 100, 1)], 2**62, folder=work):
-        checks.ends(checks.serve("held", word()), 1, "remoted: another server works in held\n")
+        told = "remoted: another server works in held: stop it, or name another folder\n"
+        checks.ends(checks.serve("held", word()), 1, told)
     if os.geteuid() == 0:
         os.mkdir(os.path.join(checks.folder, "closed"), 0o755)
         plain = {"user": 65534, "group": 65534, "extra_groups": []}
         told = "remoted: cannot work in closed: Permission denied (os error 13)\n"
         checks.ends(checks.serve("closed", word()), 1, told, **plain)
+        os.mkdir(os.path.join(checks.folder, "roots"))
+        checks.file("roots/remoted.lock", "")
+        os.chmod(os.path.join(checks.folder, "roots/remoted.lock"), 0o600)
+        os.chown(os.path.join(checks.folder, "roots"), 65534, 65534)
+        told = "remoted: cannot work in roots: roots/remoted.lock: Permission denied (os error 13)\n"
+        checks.ends(checks.serve("roots", word()), 1, told, **plain)
         told = "remoted: cannot make closed/new: Permission denied (os error 13)\n"
         checks.ends(checks.serve("closed/new", word()), 1, told, **plain)
     else:
@@ -294,7 +302,9 @@ def what_is_lacking(checks):
     )
     words, begun = checks.serve("lacking", runner), checks.begun(runner)
     checks.ends(words, 0, told.format(60) + begun, listening, preexec_fn=few(60))
-    checks.ends(words, 1, told.format(33), preexec_fn=few(33))
+    fewer = "remoted: 33 files may be open, and at least 34 are needed to begin: raise the limit "
+    fewer += "(ulimit -n 201, or LimitNOFILE=201)\n"
+    checks.ends(words, 1, fewer, preexec_fn=few(33))
     checks.ends(words, 0, begun, listening, preexec_fn=few(201))
     small = lambda: resource.setrlimit(resource.RLIMIT_FSIZE, (5000, 5000))
     told = "remoted: files may have 5000 bytes, and writing more would end the server by SIGXFSZ: raise the limit "
@@ -355,7 +365,7 @@ def beginnings(checks):
     checks.ends(checks.serve("begun", *options, *words), 0, told, listening)
     figures_in_words(checks)
     word = f"red:{ports[0]}:1000:0"
-    first, rest = checks.begun(word).rsplit("remoted: ends", 1)
+    first, rest = checks.begun(word).split("remoted: ends", 1)
     told = "remoted: each keeps 7 blobs, and 0 results of 4194304 bytes, and has windows of 1048576 bytes\n"
     numbers = ["--blobs", "7", "--results", "0", "--result-bytes", "4M", "--window", "1M"]
     told = f"{first}{told}remoted: ends{rest}"

@@ -178,7 +178,7 @@ def bad_lines(program):
         put(path, "")
         expect(within(3, lambda: not path.exists()), "an empty file is taken, and nothing said")
         os.mkfifo(path)
-        hears(server, f"remoted: cannot take {path}: it is no file")
+        hears(server, f"remoted: cannot take {path}: it is a folder, a link or a FIFO: remove it")
         blue.calls()
         path.unlink()
         path.symlink_to("/etc/passwd")
@@ -221,13 +221,13 @@ def failing():
     ]:
         yield Action(words, given, variables=[("PATH", "/no:.:/usr/bin")]), "start", why, shown
     name = Action("rm -rf out; mkdir -p out/x && cd out && touch $(printf 'a\\377b')", directories=["out"])
-    yield name, "folder", "a name is not UTF-8", "/bin/sh"
+    yield name, "folder", "a name is not UTF-8", "/bin/sh, output out"
     deep = Action("true", folder="/".join(["d"] * 192))
     yield deep, "folder", "a path has more than 191 directories", "/bin/sh"
     deeper = Action("true", folder="/".join(["d"] * 100), paths=["/".join(["o"] * 93)])
-    yield deeper, "folder", "a path has more than 191 directories", "/bin/sh"
+    yield deeper, "folder", "a path has more than 191 directories", "/bin/sh, output .." + "/o" * 50
     many = Action("true", paths=[f"o{at}" for at in range(20_001)])
-    yield many, "folder", "more than 20000 outputs are named", None
+    yield many, "folder", "more than 20000 outputs are named", "output o20000"
 
 
 def reasons(program):
@@ -272,7 +272,7 @@ def links(program):
         expect((done.status.code, done.status.text) == FAILED, "with --links fail such a run fails")
         expect(red.cached(action) is None, "and nothing is stored")
         hash = m.first(action.digest, 1).decode()[:6]
-        why = f"remoted: run red 1: a symbolic link in an output directory, action {hash}.., /bin/sh"
+        why = f"remoted: run red 1: a symbolic link in an output directory, action {hash}.., /bin/sh, output out"
         hears(server, "remoted: run red 1 failed: folder", why, counted.format(""))
         done = red.execute(Action("mkdir out; echo text > out/file", directories=["out"]))
         expect(done.status.code == 0, "a run without links goes well")

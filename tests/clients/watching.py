@@ -38,8 +38,8 @@ from watched import DEPLOY, UPDATE_RESULT, Watched, expect, figures_of, key, wit
 CODES = """OK CANCELLED UNKNOWN INVALID_ARGUMENT DEADLINE_EXCEEDED NOT_FOUND ALREADY_EXISTS PERMISSION_DENIED
     RESOURCE_EXHAUSTED FAILED_PRECONDITION ABORTED OUT_OF_RANGE UNIMPLEMENTED INTERNAL UNAVAILABLE DATA_LOSS
     UNAUTHENTICATED""".split()
-DROPPED = "remoted: red: blobs dropped, the youngest used 0 s before: "
-LONG_MESSAGES = "uploads refused, their messages are too long"
+DROPPED = "remoted: red: blobs dropped, the youngest used 0 s before, raise QUOTA: "
+LONG_MESSAGES = "uploads refused, their messages have more than 4194304 bytes"
 LARGER = "uploads refused, larger than the quota of 1000 bytes, raise QUOTA"
 TOGETHER = "uploads refused, alone or together larger than the quota of 1000 bytes, raise QUOTA or have fewer at once"
 ALWAYS = ["GetActionResult", "Execute", "Read", "Write"]
@@ -368,7 +368,7 @@ def notices(program):
         held[0].call(m.CAPABILITIES, m.capabilities(""))
         with socket.create_connection(("127.0.0.1", port)) as refused:
             expect(refused.recv(1) == b"", "a client more than 64 is closed")
-        hears(server, "remoted: red: clients refused, 64 are connected: 1")
+        hears(server, "remoted: red: clients refused, 64 are connected, put a proxy before the port: 1")
         for peer in held[1:]:
             peer.close()
         peer = held[0]
@@ -395,7 +395,7 @@ def notices(program):
     with Watched(program, [("red", 1_000)], [], heard=True) as server, Peer(server.ports[0]) as peer:
         server.wanted = 0
         peer.store([os.urandom(400) for _ in range(3)])
-        hears(server, "remoted: red: blobs dropped, the youngest used 0 s before: 1")
+        hears(server, DROPPED + "1")
 
 
 def flood(program):

@@ -7,7 +7,7 @@ use crate::counts::FolderCounts;
 use crate::folders::{Folders, Links};
 use crate::work::Work;
 use run_calls::{Entry, FileFacts, Folder, Found, Place, RunKey};
-use std::cell::Cell;
+use std::cell::{Cell, RefCell};
 use std::io;
 use std::rc::RcStr;
 use tree_nodes::NodeKind;
@@ -20,23 +20,40 @@ pub struct HostFolder<'a> {
     faults: u64,
     /// Why the call failed that did last, of whoever notes it there.
     failure: &'a Cell<Option<io::Error>>,
+    /// At which output the call failed that did last of those about outputs, likewise.
+    failed_at: &'a RefCell<Vec<u8>>,
+}
+
+/// Notes the path of what has these names below an output, where memory is there for that.
+fn note_path(noted: &RefCell<Vec<u8>>, path: &str, names: &[String]) {
+    let Ok(mut noted) = noted.try_borrow_mut() else {
+        return;
+    };
+    noted.clear();
+    let _ = noted.extend_from_slice(path.as_bytes());
+    for name in names {
+        let _ = noted.push(b'/');
+        let _ = noted.extend_from_slice(name.as_bytes());
+    }
 }
 
 impl<'a> HostFolder<'a> {
     /// Folders where a start has its place, and what becomes of links in output directories. What is
     /// still to be removed of them, and which runs left links, is counted there, and why a call
-    /// failed is noted.
+    /// failed is noted, and at which output.
     pub fn new(
         rt: &'a HostRuntime,
         work: Work<'a>,
         links: Links,
         counts: &'a FolderCounts,
         failure: &'a Cell<Option<io::Error>>,
+        failed_at: &'a RefCell<Vec<u8>>,
     ) -> HostFolder<'a> {
         HostFolder {
             folders: Folders::new(rt, work, links, counts),
             faults: 0,
             failure,
+            failed_at,
         }
     }
 
@@ -54,6 +71,16 @@ impl<'a> HostFolder<'a> {
             self.failure.set(Some(*error));
             self.faults = self.faults.saturating_add(1);
         }
+    }
+
+    /// The same of a call about an output, or about what has these names below it.
+    fn count_at<T>(&mut self, answer: &io::Result<T>, path: &str, names: &[String])
+        ensures { Counts answer.now self.old.faults self.new.faults }
+    {
+        if answer.is_err() {
+            note_path(self.failed_at, path, names);
+        }
+        self.count(answer);
     }
 }
 
@@ -91,13 +118,13 @@ impl<'a> Folder for HostFolder<'a> {
 
     fn make_parents(&mut self, place: &Place, path: &str) -> io::Result<()> {
         let answer = self.folders.make_parents(place, path);
-        self.count(&answer);
+        self.count_at(&answer, path, &[]);
         answer
     }
 
     fn look(&mut self, place: &Place, path: &str) -> io::Result<Found> {
         let answer = self.folders.look(place, path, &[]);
-        self.count(&answer);
+        self.count_at(&answer, path, &[]);
         answer
     }
 
@@ -108,7 +135,7 @@ impl<'a> Folder for HostFolder<'a> {
         names: &[String],
     ) -> io::Result<Option<FileFacts>> {
         let answer = self.folders.file(place, path, names);
-        self.count(&answer);
+        self.count_at(&answer, path, names);
         answer
     }
 
@@ -120,7 +147,7 @@ impl<'a> Folder for HostFolder<'a> {
         most: usize,
     ) -> io::Result<Vec<Entry>> {
         let answer = self.folders.list(place, path, names, most);
-        self.count(&answer);
+        self.count_at(&answer, path, names);
         answer
     }
 
@@ -148,7 +175,7 @@ impl<'a> Folder for HostFolder<'a> {
         most: u32,
     ) -> io::Result<Vec<u8>> {
         let answer = self.folders.read(place, path, names, from, most);
-        self.count(&answer);
+        self.count_at(&answer, path, names);
         answer
     }
 

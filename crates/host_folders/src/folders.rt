@@ -31,6 +31,9 @@ pub enum Links {
     Fail,
 }
 
+/// Why no run can begin any more where somebody removed the folder of the start.
+const START_GONE: &str = "the server's own folder in --work is gone: restart the server";
+
 /// Folders in the folder of a start, and what is open there. Paths go from that on.
 #[derive(Drop)]
 pub(crate) struct Folders<'a> {
@@ -146,7 +149,12 @@ impl<'a> Folders<'a> {
         let start = self.work.start()?;
         let aside = aside_name(alloc, run)?;
         let aside = entry_name(aside.as_str())?;
-        start.make_dir(aside, PRIVATE_MODE)?;
+        match start.make_dir(aside, PRIVATE_MODE) {
+            Err(error) if error.kind() == ErrorKind::NotFound => {
+                return Err(io::Error::new(ErrorKind::NotFound, START_GONE));
+            }
+            made => made?,
+        }
         let answer = make_root_in(alloc, start, run);
         if answer.is_err() {
             start.remove_dir(aside)?;
@@ -395,6 +403,9 @@ impl<'a> Folders<'a> {
         if !self.remover.has(run) && self.let_go(run).is_err() {
             // There is no memory now, so it is asked for again.
             return Ok(false);
+        }
+        if let Some(opener) = &mut self.opener {
+            opener.reap();
         }
         match self.remover.remove(&self.work, run, root.as_str()) {
             Removing::Waits => Ok(false),

@@ -231,6 +231,12 @@ impl<'a> Opener<'a> {
         }
     }
 
+    /// Waits for the killed shells that have ended, so that none is left as a zombie.
+    pub(crate) fn reap(&mut self) {
+        self.killed
+            .retain_mut(|child| matches!(child.try_wait(), Ok(None)));
+    }
+
     /// Opens no file of this run any more.
     pub(crate) fn forget(&mut self, run: RunKey) -> Result<(), AllocError> {
         match self.request.take() {
@@ -334,8 +340,7 @@ impl<'a> Opener<'a> {
             self.counted = Some(now);
             self.starts = 0;
         }
-        self.killed
-            .retain_mut(|child| matches!(child.try_wait(), Ok(None)));
+        self.reap();
         if self.starts >= MOST_STARTS || self.killed.len() >= MOST_KILLED {
             return None;
         }

@@ -94,6 +94,8 @@ pub enum WorkFault {
     NoMark,
     /// Another server works there.
     InUse,
+    /// The mark cannot be opened.
+    Unopened(io::Error),
     /// No folder can be made and removed in it.
     Unusable(io::Error),
 }
@@ -239,7 +241,7 @@ fn marked(alloc: Global, directory: &HostDirectory<'_>) -> Result<Option<HostFil
         }
         Err(error) if error.kind() == ErrorKind::NotFound => {}
         Err(error) if error.kind() == ErrorKind::InvalidInput => return Err(WorkFault::NoMark),
-        Err(error) => return Err(WorkFault::Unusable(error)),
+        Err(error) => return Err(WorkFault::Unopened(error)),
     }
     if !is_empty(alloc, directory)? {
         return Ok(None);

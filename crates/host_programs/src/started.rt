@@ -40,6 +40,9 @@ const ROOM_ENDING: &str = ".aside/room";
 /// For how many bytes there has to be room on the disk when a program has ended.
 const ROOM: usize = 16_384;
 
+/// Why a run fails whose program ended on a full disk.
+const FULL_AT_END: &str = "the disk of --work was full when the program had ended";
+
 /// How those files can be used.
 const STREAM_MODE: u32 = 0o600;
 
@@ -136,7 +139,22 @@ pub(crate) fn check_room<R: Files<File = File> + AllocGlobal>(
     work: &str,
     run: RunKey,
 ) -> io::Result<()> {
-    stream_file(rt, work, run, ROOM_ENDING)?.write_all(&[0; ROOM])
+    let written = match stream_file(rt, work, run, ROOM_ENDING) {
+        Ok(mut file) => file.write_all(&[0; ROOM]),
+        Err(error) => Err(error),
+    };
+    match written {
+        Err(error) if is_full(&error) => Err(io::Error::new(error.kind(), FULL_AT_END)),
+        written => written,
+    }
+}
+
+/// Whether there is no room on the disk.
+fn is_full(error: &io::Error) -> bool {
+    matches!(
+        error.kind(),
+        ErrorKind::StorageFull | ErrorKind::QuotaExceeded
+    )
 }
 
 /// That there is no room on the disk, in at most so many bytes; nothing where there is.
@@ -150,7 +168,7 @@ fn full_disk_words<R: Files<File = File> + AllocGlobal>(
 {
     let mut words = Vec::new(rt.alloc());
     if let Err(error) = check_room(rt, work, run) {
-        if let ErrorKind::StorageFull | ErrorKind::QuotaExceeded = error.kind() {
+        if is_full(&error) {
             words.extend_from_slice(b"the disk of --work is full")?;
             words.truncate(most as usize);
         }

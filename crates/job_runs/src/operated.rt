@@ -45,6 +45,8 @@ pub struct Oversight {
     pub counts: RunCounts,
     /// Why the call of folders or programs failed that did last, which these note.
     pub failure: Cell<Option<io::Error>>,
+    /// The path of the output at which the call of folders failed that did last, which these note.
+    pub failed_at: RefCell<Vec<u8>>,
     /// What is told of the output that broke a rule, where one did since a run was asked last.
     output: RefCell<Vec<u8>>,
 }
@@ -56,6 +58,7 @@ impl Oversight {
             ended: EndedJobs::new(alloc, configs.instances().len())?,
             counts: RunCounts::new(alloc, configs)?,
             failure: Cell::new(None),
+            failed_at: RefCell::new(Vec::new(alloc)),
             output: RefCell::new(Vec::new(alloc)),
         })
     }
@@ -63,9 +66,29 @@ impl Oversight {
     /// A run is asked: nothing is known of why it fails.
     fn begin(&self) {
         self.failure.set(None);
-        if let Ok(mut output) = self.output.try_borrow_mut() {
-            output.clear();
+        for noted in [&self.failed_at, &self.output] {
+            if let Ok(mut noted) = noted.try_borrow_mut() {
+                noted.clear();
+            }
         }
+    }
+
+    /// What is told of the output at which a run failed, where it did at one.
+    fn output_of(&self, alloc: Global, fault: RunFault) -> Vec<u8> {
+        let mut told = Vec::new(alloc);
+        if let Ok(output) = self.output.try_borrow() {
+            let _ = told.extend_from_slice(&output);
+        }
+        if let (RunFault::Folder, true, Ok(path)) = (
+            fault,
+            told.is_empty(),
+            self.failed_at.try_borrow(),
+        ) {
+            if !path.is_empty() {
+                let _ = tell_output(&mut told, &path, b"");
+            }
+        }
+        told
     }
 
     /// Notes that outputs break a rule, and by which one they do, where memory is there for that.
@@ -322,13 +345,11 @@ impl<'a, F: Folder + Drop, P: Programs + Drop> Runs for OperatedRuns<'a, F, P> {
             Ok(said) => said,
             Err(_) => Vec::new(self.alloc),
         };
-        let Ok(output) = self.oversight.output.try_borrow() else {
-            return Ok(Vec::new(self.alloc));
-        };
+        let output = self.oversight.output_of(self.alloc, fault);
         let met = Met {
             said: &said,
             failure,
-            output: output.as_slice(),
+            output: &output,
         };
         reason_of(self.alloc, met, task, fault, most)
     }

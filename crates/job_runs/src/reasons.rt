@@ -82,7 +82,10 @@ fn add_words(
     match fault {
         RunFault::Launcher => add_part(reason, met.said),
         RunFault::TooLarge => add_part(reason, b"its outputs have more than 1073741824 bytes"),
-        RunFault::NoMemory => Ok(()),
+        RunFault::NoMemory => add_part(
+            reason,
+            b"memory was refused: raise its limit, or have fewer slots",
+        ),
         RunFault::Folder | RunFault::Start | RunFault::Left => match met.failure {
             Some(failure) => add_failure(alloc, reason, met.said, failure),
             None => Ok(()),

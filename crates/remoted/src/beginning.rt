@@ -106,7 +106,13 @@ pub fn can_open<E: Write>(instances: &Instances, errors: &mut E) -> io::Result<b
         .saturating_add(most_of_runs(instances))
         .saturating_add(OTHER_FILES);
     let fewest = count.saturating_mul(2).saturating_add(FEWEST_OTHER_FILES);
-    if most < needed {
+    if most < fewest {
+        told(writeln!(
+            errors,
+            "remoted: {most} files may be open, and at least {fewest} are needed to begin: raise \
+             the limit (ulimit -n {needed}, or LimitNOFILE={needed})"
+        ))?;
+    } else if most < needed {
         told(writeln!(
             errors,
             "remoted: {most} files may be open, and up to {needed} are needed: raise the limit \
@@ -240,17 +246,30 @@ fn tell<E: Write>(path: &str, complaint: &Complaint, errors: &mut E) -> io::Resu
 fn tell_fault<E: Write>(path: &str, fault: WorkFault, errors: &mut E) -> io::Result<()> {
     match fault {
         WorkFault::Unmade(error) if is_memory(&error) => Err(error),
+        WorkFault::Unopened(error) if is_memory(&error) => Err(error),
         WorkFault::Unusable(error) if is_memory(&error) => Err(error),
+        WorkFault::Unmade(error) if error.kind() == ErrorKind::AlreadyExists => writeln!(
+            errors,
+            "remoted: {path} is no folder: name another, or remove it"
+        ),
         WorkFault::Unmade(error) => writeln!(errors, "remoted: cannot make {path}: {error}"),
+        WorkFault::Unopened(error) => writeln!(
+            errors,
+            "remoted: cannot work in {path}: {path}/remoted.lock: {error}"
+        ),
         WorkFault::Unusable(error) => writeln!(errors, "remoted: cannot work in {path}: {error}"),
         WorkFault::Foreign => writeln!(
             errors,
-            "remoted: {path} is not empty, and is not a folder of remoted's"
+            "remoted: {path} is not empty, and is not a folder of remoted's: name an empty one, or \
+             one that is not there"
         ),
         WorkFault::NoMark => writeln!(
             errors,
             "remoted: {path}/remoted.lock is no file: remove it, or name another folder"
         ),
-        WorkFault::InUse => writeln!(errors, "remoted: another server works in {path}"),
+        WorkFault::InUse => writeln!(
+            errors,
+            "remoted: another server works in {path}: stop it, or name another folder"
+        ),
     }
 }

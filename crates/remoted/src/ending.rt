@@ -242,7 +242,7 @@ impl<'a> EndFile<'a> {
         };
         // What is no file could keep whoever opens it waiting.
         if !found.is_file() {
-            return Err(io::Error::other("it is no file"));
+            return Err(io::Error::other("it is a folder, a link or a FIFO: remove it"));
         }
         let mut text = Vec::new(self.rt.alloc());
         let file: File = File::open(self.rt, self.path)?;

@@ -162,17 +162,23 @@ fn tell_connections(
         alloc,
         lines,
         name,
-        "clients refused, 64 are connected",
+        "clients refused, 64 are connected, put a proxy before the port",
         refused,
     );
     let silent = (was.silent, is.silent);
-    tell_more(alloc, lines, name, "silent connections closed", silent);
+    tell_more(
+        alloc,
+        lines,
+        name,
+        "silent connections closed, as 64 were connected",
+        silent,
+    );
     let unmade = (was.refused_for_memory, is.refused_for_memory);
     tell_more(
         alloc,
         lines,
         name,
-        "clients refused for want of memory",
+        "clients refused for want of memory, raise its limit or lower QUOTA",
         unmade,
     );
     let broken = (was.broken, is.broken);
@@ -180,12 +186,17 @@ fn tell_connections(
         alloc,
         lines,
         name,
-        "connections closed for want of memory",
+        "connections closed for want of memory, raise its limit or lower QUOTA",
         broken,
     );
     let faults = was.faulty.iter().zip(is.faulty.iter());
     for ((was, is), code) in faults.zip(FAULTS.iter()) {
-        if let Ok(what) = format!(in alloc; "connections closed for {code}") {
+        let of_others = if *code == "PROTOCOL_ERROR" {
+            ", as of clients that speak TLS or HTTP/1"
+        } else {
+            ""
+        };
+        if let Ok(what) = format!(in alloc; "connections closed for {code}{of_others}") {
             tell_more(alloc, lines, name, what.as_str(), (*was, *is));
         }
     }
@@ -195,7 +206,7 @@ fn tell_connections(
 fn tell_dropped(
     alloc: Global,
     lines: &mut ErrorLines<StandardError>,
-    name: &str,
+    config: &InstanceConfig,
     moment: u64,
     sizes: &InstanceSizes,
     drops: &mut YoungDrops,
@@ -204,8 +215,21 @@ fn tell_dropped(
         return;
     };
     let seconds = sizes.dropped.youngest_age / 1000;
-    if let Ok(what) = format!(in alloc; "blobs dropped, the youngest used {seconds} s before") {
-        tell_more(alloc, lines, name, what.as_str(), (0, count));
+    let limit = if sizes.blobs as u64 >= config.limits.blobs() {
+        "--blobs"
+    } else {
+        "QUOTA"
+    };
+    if let Ok(what) = format!(in alloc;
+        "blobs dropped, the youngest used {seconds} s before, raise {limit}"
+    ) {
+        tell_more(
+            alloc,
+            lines,
+            config.name.as_str(),
+            what.as_str(),
+            (0, count),
+        );
     }
 }
 
@@ -270,7 +294,7 @@ impl Notices {
         let mut number = 0;
         for (seen, config) in self.seen.iter_mut().zip(configs.instances()) {
             let name = config.name.as_str();
-            tell_instance(alloc, name, number, sight, lines, seen);
+            tell_instance(alloc, config, number, sight, lines, seen);
             let refused = turns.refused(number);
             tell_refused(alloc, name, (seen.refused, refused), lines);
             let all = (seen.refused[QUOTA], refused[QUOTA]);
@@ -329,7 +353,7 @@ impl Notices {
 
 fn tell_instance(
     alloc: Global,
-    name: &str,
+    config: &InstanceConfig,
     number: u32,
     sight: &Sight<'_>,
     lines: &mut ErrorLines<StandardError>,
@@ -341,9 +365,10 @@ fn tell_instance(
     let Some(counts) = sight.counts.instances().get(number as usize) else {
         return;
     };
+    let name = config.name.as_str();
     tell_connections(alloc, lines, name, &seen.counts, counts);
     let sizes = served.instance().sizes();
-    tell_dropped(alloc, lines, name, sight.moment, &sizes, &mut seen.drops);
+    tell_dropped(alloc, lines, config, sight.moment, &sizes, &mut seen.drops);
     let received = served
         .instance()
         .call_counts()

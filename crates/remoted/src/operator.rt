@@ -165,12 +165,13 @@ impl<'a> Operator<'a> {
         }
     }
 
-    /// Where figures are written: tells that the server ends.
-    pub fn tell_end(&mut self) {
-        if self.metrics.is_none() {
+    /// Tells that the server ends, where figures are written, and where it took all the turns that
+    /// it may.
+    pub fn tell_end(&mut self, service: &Service<'_>) {
+        let turns = self.turns.count();
+        if self.metrics.is_none() && turns < service.turns {
             return;
         }
-        let turns = self.turns.count();
         let line: Result<String, AllocError> = format!(in self.rt.alloc();
             "remoted: ends after {turns} turns\n"
         );

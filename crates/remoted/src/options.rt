@@ -76,7 +76,7 @@ pub fn ip_of<E: Write>(option: &str, word: &str, errors: &mut E) -> io::Result<O
         Err(_) => {
             writeln!(
                 errors,
-                "remoted: {option} is no IPv4 or IPv6 address: {word}"
+                "remoted: {option} is no IPv4 or IPv6 address, as 127.0.0.1 or ::1: {word}"
             )?;
             Ok(None)
         }

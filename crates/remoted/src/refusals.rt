@@ -44,17 +44,17 @@ pub const REFUSALS: [Cause; CAUSES] = [
     Cause {
         method: "Write",
         text: "message too large",
-        line: "uploads refused, their messages are too long",
+        line: "uploads refused, their messages have more than 4194304 bytes",
     },
     Cause {
         method: "Execute",
         text: "queue full",
-        line: "actions refused, the queue is full",
+        line: "actions refused, 1000 wait, use fewer --jobs or more slots",
     },
     Cause {
         method: "Execute",
         text: "message too large",
-        line: "actions refused, their requests are too long",
+        line: "actions refused, their requests have more than 4194304 bytes",
     },
 ];
 

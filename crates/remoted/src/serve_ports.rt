@@ -225,7 +225,8 @@ fn job_runner<'a, E: Write>(
     let path = String::from_str(rt.alloc(), work.path())?;
     let (folders, oversight) = shared;
     let failure = &oversight.failure;
-    let mut folder = HostFolder::new(rt, work, links, folders, failure);
+    let failed_at = &oversight.failed_at;
+    let mut folder = HostFolder::new(rt, work, links, folders, failure, failed_at);
     if slots_of(instances) > 0 {
         guard_against_leases(rt, &mut folder, errors)?;
     }
@@ -331,7 +332,7 @@ fn serve_turns(
         service.turns,
     );
     end_runs(rt, configs, sockets, runs, &mut lines);
-    operator.tell_end();
+    operator.tell_end(service);
     let told = tell_end(alloc, served, &mut lines);
     lines.output.end();
     told

@@ -165,14 +165,16 @@ def some_jobs(program):
 
 def bad_lines(program):
     with two_teams(program) as (server, red, blue, path):
-        odd = b"red 12345\nred abandoned now\n\ngreen\n\xff\nred 12345G\x1b[0m\n red \t abandoned \r\nblue\n"
+        odd = b"red 12345\nred abandoned now\n\ngreen\n\xff\nred 12345G\x1b[0m\n red \t abandoned \r\nblue\r\nblue \n"
         put(path, odd + b"red 1F0C5D")
         form, name = "it is not NAME, NAME HASH or NAME abandoned", "no instance has this name"
         few, more = "HASH has fewer than 6 digits", "a word stands behind NAME and HASH"
-        faults = {1: few, 2: more, 4: name, 5: form, 6: form, 9: "HASH has capitals, and is written in lower case"}
+        blanks = "blanks stand beside NAME, and no word"
+        capitals = "HASH has capitals, and is written in lower case"
+        faults = {1: few, 2: more, 4: name, 5: form, 6: form, 9: blanks, 10: capitals}
         bad = [f"remoted: {path}: bad line {number}: {fault}" for number, fault in faults.items()]
         good = [f"remoted: {name}: jobs ended by an operator: 0" for name in ("red", "blue")]
-        hears(server, *bad[:-1], *good, bad[-1])
+        hears(server, *bad[:-2], *good, *bad[-2:])
         put(path, "\n".join(f"no x{number}" for number in range(1000)))
         hears(server, *[f"remoted: {path}: bad line {number}: {form}" for number in range(1, 11)])
         put(path, "")

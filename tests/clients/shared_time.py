@@ -17,7 +17,7 @@ fifths; the caller a twentieth of its calls, or three hundredths where red's pie
                     and 99 of 100 calls wait for no more than a tree and three milliseconds
 
 A line for each says what was found, and it ends with status 1 where a limit is passed. The load is a program in C
-(load.c), which `cc` makes.
+(load.c), which `cc` makes. Red's loads go behind blue's and the server, as they would on hosts of their own.
 """
 
 import argparse
@@ -51,7 +51,8 @@ class Load:
     def begin(self, port, team, seconds, kind, count=1, blob=None):
         words = [self.program, str(port), team, str(seconds), kind, str(count)]
         named = [m.first(blob, 1).decode(), str(m.first(blob, 2, 0))] if blob else []
-        return subprocess.Popen(words + named, stdout=subprocess.PIPE, text=True)
+        behind = (lambda: os.nice(10)) if team.startswith("red") else None
+        return subprocess.Popen(words + named, stdout=subprocess.PIPE, text=True, preexec_fn=behind)
 
     def run(self, *words):
         return self.begin(*words).communicate()[0]

@@ -1,6 +1,6 @@
 //! The slots of a pool, and what finds them.
 
-ghost use Rattle.std.specs.Prelude.{◌≡◌, ◌+◌, ◌-◌, ◌<◌, ◌≤◌, ◌^◌, ◌↔◌, ℕ, [], length, Some, None, IsTrue, IfSome, IfNone, IfOk, IfErr, OnErr, slice_index_or};
+ghost use Rattle.std.specs.Prelude.{◌≡◌, ◌+◌, ◌-◌, ◌<◌, ◌≤◌, ◌^◌, ◌↔◌, ℕ, [], length, Some, None, true, IsTrue, IfSome, IfNone, IfOk, IfErr, OnErr, slice_index_or};
 ghost use Rattle.std.specs.Option.{option_copied};
 ghost use Rattle.digest.specs.Naming.{digest_of};
 ghost use Rattle.paged_text.specs.declared.text.TheConstants.{MOST_BYTES};
@@ -16,6 +16,10 @@ use crate::slot::Slot;
 use digest::Digest;
 use paged_text::PagedText;
 use slab::Slab;
+
+/// How often a text is read that the pool did not have: two texts are compared in about the time in
+/// which one is read so often.
+const READS: u32 = 2;
 
 /// How many texts a pool has, and how many bytes they have together.
 #[derive(Clone, Copy)]
@@ -105,6 +109,20 @@ fn take_holder(slots: &mut Slab<Slot>, slot: usize)
     slots[slot].take_holder();
 }
 
+/// Reads a text for as long as it is compared with an equal one: how long a text takes to be held
+/// does not tell whether the pool had it. It says whether the text is equal to itself, so that no
+/// compiler leaves the reading out.
+fn reads_as_long(text: &PagedText) -> bool
+    ensures { result ≡ true }
+{
+    for _ in 0..READS {
+        if !text.is_same(text) {
+            return false;
+        }
+    }
+    true
+}
+
 /// Holds a text: in the slot that has it already, or in a free one. The draft is given back for
 /// want of memory only. The totals stay right.
 pub fn put_text(
@@ -129,6 +147,9 @@ pub fn put_text(
     if let Some(slot) = find(slots, index, &digest, &text) {
         hold_again(slots, slot);
         return Ok(slot);
+    }
+    if !reads_as_long(&text) {
+        return Err(Draft::close(text, digest));
     }
     match add_text(slots, index, totals, text, digest) {
         Ok(slot) => Ok(slot),

@@ -142,6 +142,11 @@ impl Programs for FakePrograms {
         Ok(asked(&mut self.programs, run))
     }
 
+    fn look(&mut self, number: usize) -> Option<RunKey> {
+        let program = self.programs.get(number)?;
+        Some(program.run)
+    }
+
     fn kill(&mut self, run: RunKey) -> io::Result<bool> {
         self.calls.next(Deed::Kill(run))?;
         Ok(killed(&mut self.programs, run))

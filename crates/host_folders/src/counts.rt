@@ -18,6 +18,8 @@ struct OfInstance {
 #[derive(Drop)]
 pub struct FolderCounts {
     instances: Vec<OfInstance>,
+    /// How many runs left links, of all instances.
+    all_links: Cell<u64>,
 }
 
 impl FolderCounts {
@@ -32,7 +34,10 @@ impl FolderCounts {
                 last_with_links: Cell::new(0),
             })?;
         }
-        Ok(FolderCounts { instances: counts })
+        Ok(FolderCounts {
+            instances: counts,
+            all_links: Cell::new(0),
+        })
     }
 
     fn of(&self, instance: u32) -> Option<&OfInstance> {
@@ -47,6 +52,11 @@ impl FolderCounts {
     /// How often a run of an instance was kept from beginning by what is to be removed.
     pub fn held(&self, instance: u32) -> u64 {
         self.of(instance).map_or(0, |counts| counts.held.get())
+    }
+
+    /// How many runs of all instances left symbolic links in their output directories.
+    pub fn all_links(&self) -> u64 {
+        self.all_links.get()
     }
 
     /// How many runs of an instance left symbolic links in their output directories.
@@ -64,6 +74,7 @@ impl FolderCounts {
         if let Some(counts) = self.of(run.instance) {
             counts.links.set(counts.links.get().saturating_add(1));
             counts.last_with_links.set(run.job);
+            self.all_links.set(self.all_links.get().saturating_add(1));
         }
     }
 

@@ -32,7 +32,7 @@ pub enum Links {
 }
 
 /// Why no run can begin any more where somebody removed the folder of the start.
-const START_GONE: &str = "the server's own folder in --work is gone: restart the server";
+const START_GONE: &str = "the folder of this start in --work is gone: restart the server";
 
 /// Folders in the folder of a start, and what is open there. Paths go from that on.
 #[derive(Drop)]

@@ -8,9 +8,9 @@
 use host_shells::{Answer, OpeningShell};
 use host_system::{HostDirectory, HostFile};
 use run_calls::RunKey;
-use run_folders::{entry_name, is_absence};
+use run_folders::{entry_name, file_in, is_absence};
 use std::alloc::{AllocError, Global};
-use std::fs::{self, Metadata};
+use std::fs::{self, File, Metadata};
 use std::io::{self, ErrorKind};
 use std::process::Child;
 use std::time::{Duration, Instant};
@@ -73,8 +73,9 @@ struct Request<'a> {
     path: String,
     /// What was found there.
     found: Metadata,
-    /// The directory in which shells find it, which is open meanwhile.
+    /// The directory in which shells find it, which is open meanwhile, and its name there.
     directory: HostDirectory<'a>,
+    name: String,
     /// What shells are told.
     line: String,
     /// Whether the file has another name in that directory, which is removed in the end.
@@ -134,12 +135,20 @@ impl<'a> Request<'a> {
             path: String::from_str(alloc, target.path)?,
             found,
             directory,
+            name: String::from_str(alloc, told)?,
             line,
             is_linked,
             asked: now,
             time: Duration::ZERO,
             told: None,
         })
+    }
+
+    /// The file that was opened for it, where that has the name itself. What was found before may be
+    /// gone, and its identity another file's.
+    fn file(&self, file: File) -> io::Result<HostFile> {
+        let name = entry_name(self.name.as_str())?;
+        file_in(&self.directory, name, HostFile::new(file))
     }
 
     /// Takes the other name away that the file got. Where that fails, the removal of the run does.
@@ -306,7 +315,7 @@ impl<'a> Opener<'a> {
                 }
                 request.told = None;
                 match opened {
-                    Ok(file) => Ok(Some(HostFile::new(file))),
+                    Ok(file) => Ok(Some(request.file(file)?)),
                     Err(error) if is_of_ended(&error) => Ok(None),
                     Err(error) => Err(error),
                 }

@@ -1,7 +1,13 @@
 //! Programs that were started, whether or not somebody waited for them already.
 
+ghost use Rattle.std.specs.Prelude.{◌≡◌, ◌<◌, ◌≤◌, ◌+◌, OnOk, vec_capacity, vec_len};
+
+use crate::started::Started;
+use host_shells::Sessions;
 use std::io;
 use std::process::Child;
+use std::rt::Clock;
+use std::time::Instant;
 
 /// The system's number for a program that was waited for already, or cannot be.
 const NO_CHILD: i32 = 10;
@@ -31,4 +37,30 @@ pub(crate) fn kill_child(child: &mut Child) -> io::Result<()> {
 /// Lets go of programs that have ended.
 pub(crate) fn reap(children: &mut Vec<Child>) {
     children.retain_mut(|child| matches!(is_reaped(child), Ok(false)));
+}
+
+/// Lets go of programs that have ended since, and sees to the shell.
+pub(crate) fn refresh<R: Clock>(
+    rt: &R,
+    has_sessions: bool,
+    sessions: &mut Sessions<'_>,
+    left: &mut Vec<Child>,
+) -> io::Result<()> {
+    reap(left);
+    if has_sessions {
+        sessions.keep(Instant::now(rt)?)?;
+    }
+    Ok(())
+}
+
+/// Makes room for a program, and for all there are once they are forgotten.
+pub(crate) fn make_room(started: &mut Vec<Started>, left: &mut Vec<Child>) -> io::Result<()>
+    ensures same { started.new.items ≡ started.old.items }
+    ensures room { OnOk result (vec_len started.new < vec_capacity started.new) }
+    ensures left { OnOk result (vec_len left.new + (vec_len started.new + 1)
+        ≤ vec_capacity left.new) }
+{
+    started.reserve(1)?;
+    left.reserve(started.len() + 1)?;
+    Ok(())
 }

@@ -5,6 +5,7 @@ mod children;
 mod exec_size;
 mod host;
 mod launching;
+mod looks;
 mod programs;
 mod search;
 mod sought;

@@ -1,6 +1,6 @@
 //! Programs of this host.
 
-ghost use Rattle.std.specs.Prelude.{◌≡◌, ◌<◌, ◌≤◌, ◌+◌, [], true, None, Ok, Some, IfOk, IfSome, OnOk, find, length, string_bytes, vec_capacity, vec_len};
+ghost use Rattle.std.specs.Prelude.{◌≡◌, ◌<◌, ◌≤◌, ◌+◌, [], true, None, Ok, Some, IfOk, IfSome, OnOk, find, length, string_bytes};
 ghost use Rattle.run_calls.specs.Calls.{Adds, bytes_of, called, end_asked, forget_asked, kill_asked, killed_of, length_asked, length_of, program_done, read_asked, start_asked, started_of, state_of};
 ghost use Rattle.run_calls.specs.Failures.{Counts};
 ghost use Rattle.run_calls.specs.Values.{IsInRange, command_shown, place_shown};
@@ -10,10 +10,11 @@ ghost use Rattle.host_programs.specs.Known.{HasEndedWith, IsOfAt, KnowsOneMore, 
 ghost use Rattle.host_programs.specs.Spawning.{IsAlike, StartsBy, StartsItself};
 ghost use Rattle.host_programs.specs.Ways.{AddsAtMost, AddsNone, KeepsWay, StartsFor, StartsFound, is_of, launcher_of, sought_for, sought_of, sought_shown};
 
-use crate::children::reap;
+use crate::children::{make_room, reap, refresh};
 use crate::exec_size::check_size;
 use crate::host::has_sessions;
 use crate::launching::Launcher;
+use crate::looks::{LOOKS, Looks};
 use crate::search::{Progress, Search, search_from};
 use crate::sought::Sought;
 use crate::spawner::Spawner;
@@ -22,7 +23,7 @@ use crate::starting::{add_variables, bare_command};
 use crate::way::Way;
 use host_files::{root_path, working_path};
 use host_shells::Sessions;
-use run_calls::{Command as Ordered, Place, Programs, RunKey, Stream};
+use run_calls::{Command as Ordered, MOST_LOOKS, Place, Programs, RunKey, Stream};
 use std::cell::Cell;
 use std::fs::File;
 use std::io::{self, ErrorKind};
@@ -51,32 +52,6 @@ fn refused() -> io::Error {
     io::Error::new(ErrorKind::PermissionDenied, "Permission denied")
 }
 
-/// Lets go of programs that have ended since, and sees to the shell.
-fn refresh<R: Clock>(
-    rt: &R,
-    has_sessions: bool,
-    sessions: &mut Sessions<'_>,
-    left: &mut Vec<Child>,
-) -> io::Result<()> {
-    reap(left);
-    if has_sessions {
-        sessions.keep(Instant::now(rt)?)?;
-    }
-    Ok(())
-}
-
-/// Makes room for a program, and for all there are once they are forgotten.
-fn make_room(started: &mut Vec<Started>, left: &mut Vec<Child>) -> io::Result<()>
-    ensures same { started.new.items ≡ started.old.items }
-    ensures room { OnOk result (vec_len started.new < vec_capacity started.new) }
-    ensures left { OnOk result (vec_len left.new + (vec_len started.new + 1)
-        ≤ vec_capacity left.new) }
-{
-    started.reserve(1)?;
-    left.reserve(started.len() + 1)?;
-    Ok(())
-}
-
 /// Counts a call that failed, and notes why it did.
 fn count<T>(faults: &mut u64, failure: &Cell<Option<io::Error>>, answer: &io::Result<T>)
     ensures { Counts answer.now faults.old faults.new }
@@ -96,6 +71,7 @@ struct Table<'a, R, S> {
     has_sessions: bool,
     way: Way,
     sessions: Sessions<'a>,
+    looks: Looks,
     started: Vec<Started>,
     /// Those of which nothing but their end is awaited.
     left: Vec<Child>,
@@ -269,6 +245,19 @@ impl<'a, R: Clock + Files<File = File> + AllocGlobal, S: Spawner> Table<'a, R, S
         }
     }
 
+    /// Looks at what this number chooses. What is looked for comes before what runs.
+    fn look(&mut self, number: usize) -> Option<RunKey>
+        ensures spawner { self.new.spawner ≡ self.old.spawner }
+        ensures way { self.new.way ≡ self.old.way }
+        ensures same { KeepsWay self.old self.new }
+    {
+        let sought = MOST_LOOKS - LOOKS;
+        if number < sought {
+            return self.way.sought_at(number);
+        }
+        self.looks.look(&mut self.started, number - sought)
+    }
+
     fn kill(&mut self, run: RunKey) -> io::Result<bool>
         ensures spawner { self.new.spawner ≡ self.old.spawner }
         ensures sought { AddsNone self.old.way self.new.way }
@@ -380,6 +369,7 @@ impl<'a, R: Clock + Files<File = File> + AllocGlobal, S: Spawner> HostPrograms<'
                 has_sessions: has_sessions(rt),
                 way: Way::new(rt.alloc(), launcher),
                 sessions,
+                looks: Looks::new(rt.alloc()),
                 started: Vec::new(rt.alloc()),
                 left: Vec::new(rt.alloc()),
             },
@@ -430,6 +420,15 @@ impl<'a, R: Clock + Files<File = File> + AllocGlobal, S: Spawner> Programs
         let answer = self.table.ask(run);
         count(&mut self.faults, self.failure, &answer);
         answer
+    }
+
+    fn look(&mut self, number: usize) -> Option<RunKey>
+        ensures failures { self.new.faults ≡ self.old.faults }
+        ensures spawner { self.new.table.spawner ≡ self.old.table.spawner }
+        ensures way { self.new.table.way ≡ self.old.table.way }
+        ensures same { KeepsWay self.old.table self.new.table }
+    {
+        self.table.look(number)
     }
 
     fn kill(&mut self, run: RunKey) -> io::Result<bool>

@@ -80,6 +80,8 @@ pub(crate) struct Started {
     progress: Progress,
     /// Whether it was waited for, so that the system may give its number to another process.
     is_reaped: bool,
+    /// Whether it was told that it has ended.
+    is_told: bool,
 }
 
 /// How many bytes a program wrote to each of its streams.
@@ -217,6 +219,7 @@ pub(crate) fn start<R: Files<File = File> + AllocGlobal, S: Spawner>(
         begun,
         progress: Progress::Alive,
         is_reaped: false,
+        is_told: false,
     })
 }
 
@@ -279,9 +282,33 @@ impl Started {
             None => Ok(None),
             Some(status) => {
                 self.is_reaped = true;
+                self.is_told = true;
                 Ok(Some(code_of(self.started_as, status)?))
             }
         }
+    }
+
+    /// Whether it is to be asked: it has ended, or cannot be looked at, and was not asked since.
+    pub(crate) fn is_to_ask(&mut self) -> bool
+        ensures run { self.new.run ≡ self.old.run }
+    {
+        if self.is_told {
+            return false;
+        }
+        match self.child.try_wait() {
+            Ok(None) => false,
+            Ok(Some(_)) => {
+                self.is_reaped = true;
+                true
+            }
+            Err(_) => true,
+        }
+    }
+
+    pub(crate) fn run(&self) -> RunKey
+        ensures { result ≡ self.now.run }
+    {
+        self.run
     }
 
     /// Waits for it, where it has ended. Whether that was done.

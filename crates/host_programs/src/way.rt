@@ -71,6 +71,17 @@ impl Way {
         }
     }
 
+    /// The run of the one at this place that is still looked for.
+    pub(crate) fn sought_at(&self, at: usize) -> Option<RunKey> {
+        match self {
+            Way::By(_) => None,
+            Way::AsTheyAre(sought) => {
+                let sought = sought.get(at)?;
+                Some(sought.run())
+            }
+        }
+    }
+
     /// Takes out the program of a run that is still looked for.
     pub(crate) fn take(&mut self, run: RunKey) -> Option<Sought>
         ensures own { IfSome result (λ sought. launcher_of self.old ≡ None) }

@@ -138,6 +138,10 @@ impl<'a> Directory for HostDirectory<'a> {
         Ok(facts_of(&found))
     }
 
+    fn look_while_open(&self, name: &[u8], _file: &HostFile) -> io::Result<Facts> {
+        self.look(name)
+    }
+
     fn open_file(&self, name: &[u8], access: Access) -> io::Result<HostFile> {
         let path = self.text_of(name)?;
         let file = open_as(self.rt, path.as_str(), access)?;

@@ -49,7 +49,9 @@ pub(crate) fn facts_of(found: &Metadata) -> Facts {
 
 impl OpenFile for HostFile {
     // The system does not say more of what is open than it is asked.
-    ghost is = { λ _ _. ⊤ };
+    ghost has = { λ _ _. ⊤ };
+
+    ghost stood_at = { λ _ _. ⊤ };
 
     ghost may_write = { λ _. ⊤ };
 

@@ -8,4 +8,4 @@ mod turn_clock;
 mod untold;
 
 pub use host::{HostDoor, HostWire, ThisHost};
-pub use turn_clock::TurnClock;
+pub use turn_clock::{DoorsRead, TurnClock};

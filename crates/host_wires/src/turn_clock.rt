@@ -15,6 +15,27 @@ pub struct TurnClock {
     read: Cell<[u64; WORDS]>,
 }
 
+/// The doors on whose wires it was read in a turn.
+#[derive(Clone, Copy)]
+pub struct DoorsRead {
+    read: [u64; WORDS],
+}
+
+impl DoorsRead {
+    /// Whether there are none.
+    pub fn is_empty(&self) -> bool {
+        self.read.iter().all(|bits| *bits == 0)
+    }
+
+    /// Whether that at this place is one.
+    pub fn has(&self, place: usize) -> bool {
+        match self.read.get(place / 64) {
+            Some(bits) => bits & (1 << (place % 64)) != 0,
+            None => false,
+        }
+    }
+}
+
 impl TurnClock {
     /// No turn began yet.
     pub fn new() -> TurnClock {
@@ -44,11 +65,10 @@ impl TurnClock {
         self.began.get()
     }
 
-    /// Whether it was read in this turn on a wire of the door at this place.
-    pub fn was_read(&self, place: usize) -> bool {
-        match self.read.get().get(place / 64) {
-            Some(bits) => bits & (1 << (place % 64)) != 0,
-            None => false,
+    /// The doors on whose wires it was read in this turn.
+    pub fn read(&self) -> DoorsRead {
+        DoorsRead {
+            read: self.read.get(),
         }
     }
 }

@@ -22,7 +22,7 @@ use crate::tasks::run_task;
 use run_calls::{Folder, Programs, RunKey};
 use run_outcomes::Outcome;
 use runner::{RunFault, Runner};
-use serve::{ErrorLines, Runs};
+use serve::{Doing, ErrorLines, Runs};
 use server_core::LentTask;
 use server_events::Configs;
 use std::alloc::{AllocError, Global};
@@ -108,6 +108,20 @@ impl<F: Folder + Drop, P: Programs + Drop> JobRunner<F, P> {
         self.together = None;
         kill_each(&mut self.runner, configs, moment, errors);
         self.runner.count()
+    }
+
+    /// The place of the run that comes next.
+    fn place(&self) -> usize {
+        if self.next < self.count() {
+            self.next
+        } else {
+            0
+        }
+    }
+
+    /// The run that comes next, where it was begun.
+    pub(crate) fn coming(&self) -> Option<RunKey> {
+        self.runner.run(self.place())
     }
 
     /// Begins the run of a job.
@@ -408,13 +422,32 @@ impl<F: Folder + Drop, P: Programs + Drop> Runs for JobRunner<F, P> {
         }
     }
 
-    fn next_waits(&self) -> bool {
-        let place = if self.next < self.count() {
-            self.next
+    fn next_doing(&self) -> Doing {
+        let place = self.place();
+        if self.runner.runs_program(place) {
+            Doing::Runs
+        } else if self.runner.waits(place) {
+            Doing::Waits
         } else {
-            0
-        };
-        self.runner.waits(place)
+            Doing::Goes
+        }
+    }
+
+    fn look(&mut self, number: usize) -> Option<RunKey>
+        ensures carries { CarriesRuns
+            (Carry self.old.runner.runs.items self.old.to_begin.items
+            (F.asked self.old.runner.folder) (P.asked self.old.runner.programs))
+            (Carry self.new.runner.runs.items self.new.to_begin.items
+            (F.asked self.new.runner.folder) (P.asked self.new.runner.programs))
+            ([]) }
+        ensures runs { self.new.runner.runs ≡ self.old.runner.runs }
+        ensures folder { self.new.runner.folder ≡ self.old.runner.folder }
+        ensures asked { P.asked self.new.runner.programs ≡ P.asked self.old.runner.programs }
+        ensures to_begin { self.new.to_begin ≡ self.old.to_begin }
+        ensures together { self.new.together ≡ self.old.together }
+        ensures next { self.new.next ≡ self.old.next }
+    {
+        self.runner.look(number)
     }
 
     fn reason(

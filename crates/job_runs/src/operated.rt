@@ -26,7 +26,7 @@ use crate::run_counts::RunCounts;
 use run_calls::{Folder, Programs, RunKey};
 use run_outcomes::{Outcome, Output};
 use runner::RunFault;
-use serve::{ErrorLines, Runs};
+use serve::{Doing, ErrorLines, Runs};
 use server_core::LentTask;
 use server_events::Configs;
 use std::alloc::{AllocError, Global};
@@ -329,8 +329,25 @@ impl<'a, F: Folder + Drop, P: Programs + Drop> Runs for OperatedRuns<'a, F, P> {
         self.judged(run, task, answer)
     }
 
-    fn next_waits(&self) -> bool {
-        self.runs.next_waits()
+    /// One whose job an operator ends can go on at once.
+    fn next_doing(&self) -> Doing {
+        match self.runs.coming() {
+            Some(run) if self.oversight.ended.has(run) => Doing::Goes,
+            _ => self.runs.next_doing(),
+        }
+    }
+
+    fn look(&mut self, number: usize) -> Option<RunKey>
+        ensures carries { CarriesRuns
+            (Carry self.old.runs.runner.runs.items self.old.runs.to_begin.items
+            (F.asked self.old.runs.runner.folder) (P.asked self.old.runs.runner.programs))
+            (Carry self.new.runs.runner.runs.items self.new.runs.to_begin.items
+            (F.asked self.new.runs.runner.folder) (P.asked self.new.runs.runner.programs))
+            ([]) }
+        ensures begun { IfSome result (λ key. WasBegun key None) }
+        ensures adds { AddsRuns None None [] }
+    {
+        self.runs.look(number)
     }
 
     fn reason(

@@ -41,6 +41,9 @@ const CAPITALS: &str = "HASH has capitals, and is written in lower case";
 /// What is wrong with a word behind the others.
 const MORE_WORDS: &str = "a word stands behind NAME and HASH";
 
+/// What is wrong with a name that a word may lack behind.
+const BLANKS: &str = "blanks stand beside NAME, and no word";
+
 /// What is wrong with one of an instance that is not there.
 const NO_INSTANCE: &str = "no instance has this name";
 
@@ -80,9 +83,14 @@ fn which_by(word: &str) -> Result<Which<'_>, &'static str> {
 
 /// What a line of the file says, which has a word; or what is wrong with it.
 fn read_line(line: &str) -> Result<Line<'_>, &'static str> {
+    let line = line.strip_suffix("\r").unwrap_or(line);
     let mut words = line.split_ascii_whitespace();
     let name = words.next().ok_or(NO_FORM)?;
     let Some(word) = words.next() else {
+        // As by a script whose HASH is empty: all jobs of the instance would be ended.
+        if name.len() < line.len() {
+            return Err(BLANKS);
+        }
         return Ok(Line {
             name,
             which: Which::All,

@@ -32,6 +32,8 @@ const NO_TIME: JobTime = JobTime {
 pub struct JobTimes {
     /// When was looked last.
     moment: u64,
+    /// Whether any instance had jobs then.
+    are_there: bool,
     times: Vec<JobTime>,
 }
 
@@ -39,6 +41,7 @@ impl JobTimes {
     pub fn new(alloc: Global, instances: usize) -> Result<JobTimes, AllocError> {
         Ok(JobTimes {
             moment: 0,
+            are_there: false,
             times: vec![in alloc; NO_TIME; instances]?,
         })
     }
@@ -50,6 +53,7 @@ impl JobTimes {
             return;
         }
         self.moment = sight.moment;
+        self.are_there = false;
         let mut number = 0;
         for time in self.times.iter_mut() {
             if let Some(served) = sight.server.instance(number) {
@@ -59,6 +63,7 @@ impl JobTimes {
                 time.waited = time.waited.saturating_add(waited);
                 time.ran = time.ran.saturating_add(ran);
                 time.has_jobs = sizes.waiting > 0 || sizes.running > 0;
+                self.are_there = self.are_there || time.has_jobs;
             }
             number = number.saturating_add(1);
         }
@@ -66,6 +71,11 @@ impl JobTimes {
 
     pub fn of(&self, instance: usize) -> JobTime {
         self.times.get(instance).copied().unwrap_or(NO_TIME)
+    }
+
+    /// Whether any instance had jobs when it was looked last.
+    pub fn are_there(&self) -> bool {
+        self.are_there
     }
 
     /// Whether an instance had jobs when it was looked last.

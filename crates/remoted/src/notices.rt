@@ -112,6 +112,8 @@ struct LastWithLinks {
 #[derive(Drop)]
 pub struct Notices {
     seen: Vec<Seen>,
+    /// How many runs had left links, of all instances.
+    links: u64,
     /// How often the system had refused to give a client that waits.
     unaccepted: u64,
     /// How many lines on failed runs had not been written.
@@ -260,6 +262,7 @@ impl Notices {
         };
         Ok(Notices {
             seen: vec![in alloc; nothing; instances]?,
+            links: 0,
             unaccepted: 0,
             lines_dropped: 0,
         })
@@ -268,6 +271,11 @@ impl Notices {
     /// Notes which action left links last. It is called after each turn, as the job still runs
     /// when they are met.
     pub fn note_links(&mut self, sight: &Sight<'_>, folders: &FolderCounts) {
+        let all = folders.all_links();
+        if all == self.links {
+            return;
+        }
+        self.links = all;
         let mut number = 0;
         for seen in self.seen.iter_mut() {
             let links = folders.links(number);

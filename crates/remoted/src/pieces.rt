@@ -165,10 +165,14 @@ impl Turns {
         };
         let length = nanoseconds_between(began, now);
         self.longest = self.longest.max(length);
+        let read = clock.read();
+        if read.is_empty() && !times.are_there() {
+            return;
+        }
         let (lengths, mut number) = (&mut self.lengths, 0u32);
         for seen in self.seen.iter_mut() {
             let place = number as usize;
-            if clock.was_read(place) || times.has_jobs(place) {
+            if read.has(place) || times.are_there() && times.has_jobs(place) {
                 charge(lengths, seen, sight, number, length);
             }
             number = number.saturating_add(1);

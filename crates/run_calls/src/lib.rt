@@ -7,6 +7,6 @@ mod task;
 mod texts;
 
 pub use folder::{Entry, FileFacts, Folder, Found, Place};
-pub use programs::{Programs, Stream};
+pub use programs::{MOST_LOOKS, Programs, Stream};
 pub use task::{Command, RunKey, Task, TaskNode, Variable};
 pub use texts::Texts;

@@ -13,6 +13,9 @@ pub enum Stream {
     Error,
 }
 
+/// With how many numbers programs are looked at, once a millisecond.
+pub const MOST_LOOKS: usize = 73;
+
 /// The programs of runs, one for each. No call waits for a program.
 pub trait Programs {
     ghost use Rattle.std.specs.Prelude.{Ok};
@@ -40,6 +43,14 @@ pub trait Programs {
             (called (end_asked run) (state_of result)) }
         ensures range { IfOk result (λ state. IfSome state IsInRange) }
         ensures counts { Counts result (failures self.old) (failures self.new) };
+
+    /// Looks at one of the programs, which this number chooses, and says of which run one is to be
+    /// asked, as it has ended, or is not started yet. With the numbers below [`MOST_LOOKS`] those are
+    /// looked at that were started last, and a share of the others, in a circle. No promise is made
+    /// of it: to ask another one does no harm.
+    fn look(&mut self, number: usize) -> Option<RunKey>
+        ensures asked { asked self.new ≡ asked self.old }
+        ensures failures { failures self.new ≡ failures self.old };
 
     /// Ends a program and all that it started, whether or not it has ended itself. Whether that is
     /// done: where it is not, it is to be asked again.

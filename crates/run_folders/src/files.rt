@@ -3,7 +3,7 @@
 ghost use Rattle.std.specs.Prelude.{◌≡◌, ◌≤◌, IfOk, IfSome, IsTrue, codes, length, string_bytes};
 ghost use Rattle.std.specs.Str.{bytes_eq};
 ghost use Rattle.system.specs.Names.{is_name};
-ghost use Rattle.system.specs.Places.{IsFileThere, MayTake, WasFileAt, entry};
+ghost use Rattle.system.specs.Places.{MayTake, WasFileAt, WasFileSeen, entry};
 ghost use Rattle.system.specs.declared.directory.Access.TheVariants.{Read};
 ghost use Rattle.system.specs.declared.directory.Kind.TheVariants.{File};
 
@@ -12,7 +12,7 @@ use crate::removing::is_absence;
 use run_calls::{FileFacts, Found};
 use std::alloc::Global;
 use std::io::{self, ErrorKind};
-use system::{Access, Directory, Facts, Identity, Kind, OpenFile, is_same};
+use system::{Access, Directory, Facts, Kind, OpenFile, is_same};
 use tree_nodes::NodeKind;
 
 /// Any of these says that a file may be executed.
@@ -89,41 +89,34 @@ fn refused() -> io::Error {
     io::Error::from(ErrorKind::InvalidInput)
 }
 
-/// What the file of this name is, where it is one and no link.
-fn regular_in<D: Directory>(directory: &D, name: &[u8]) -> io::Result<Identity>
+/// Looks whether what has this name is a file and no link. All else is refused, and not opened.
+fn see_file<D: Directory>(directory: &D, name: &[u8]) -> io::Result<()>
     requires name { IsTrue (is_name name.now) }
     requires may { D.may_look (entry name.now (D.place directory.now)) }
-    ensures there { IfOk result (λ i. D.stood (entry name.now (D.place directory.now)) i) }
-    ensures regular { IfOk result (λ i. i.kind ≡ File) }
+    ensures { IfOk result (λ _. WasFileSeen D.stood (entry name.now (D.place directory.now))) }
 {
     let found = directory.look(name)?;
     match found.identity.kind {
-        Kind::File => Ok(found.identity),
+        Kind::File => Ok(()),
         Kind::Directory | Kind::Link | Kind::Other => Err(refused()),
     }
 }
 
-/// Opens what has this name, where that is what was found before.
-fn open_found<D: Directory>(
-    directory: &D,
-    name: &[u8],
-    access: Access,
-    found: Identity,
-) -> io::Result<D::File>
+/// The file that is open, where it has this name in a directory itself, and no link to it has. The
+/// name is looked at while the file is open: an identity that was seen before may be that of another
+/// file by now, where what was seen is gone.
+pub fn file_in<D: Directory>(directory: &D, name: &[u8], file: D::File) -> io::Result<D::File>
     requires name { IsTrue (is_name name.now) }
     requires may { D.may_look (entry name.now (D.place directory.now)) }
-    requires no_wait { access ≡ Read →
-        IsFileThere D.is_settled D.stood (entry name.now (D.place directory.now)) }
-    ensures is { IfOk result (λ file. D.File.is file found) }
-    ensures own { IfOk result (λ file. D.stood (entry name.now (D.place directory.now)) found
-        → D.may_change (entry name.now (D.place directory.now)) → D.File.may_write file) }
+    ensures same { IfOk result (λ f. f ≡ file) }
+    ensures what { IfOk result (λ f. WasFileAt (D.File.has f) (D.File.stood_at f)
+        (entry name.now (D.place directory.now))) }
 {
-    let file = directory.open_file(name, access)?;
-    let opened = file.facts()?;
-    if is_same(opened.identity, found) {
-        Ok(file)
-    } else {
-        Err(refused())
+    let opened = file.facts()?.identity;
+    let found = directory.look_while_open(name, &file)?.identity;
+    match found.kind {
+        Kind::File if is_same(opened, found) => Ok(file),
+        _ => Err(refused()),
     }
 }
 
@@ -134,13 +127,14 @@ pub fn open_regular<D: Directory>(directory: &D, name: &[u8], access: Access) ->
     requires name { IsTrue (is_name name.now) }
     requires may { D.may_look (entry name.now (D.place directory.now)) }
     requires access { access ≡ Read → D.is_settled (entry name.now (D.place directory.now)) }
-    ensures what { IfOk result (λ file. WasFileAt D.stood (D.File.is file)
+    ensures what { IfOk result (λ file. WasFileAt (D.File.has file) (D.File.stood_at file)
         (entry name.now (D.place directory.now))) }
     ensures own { IfOk result (λ file. D.may_change (entry name.now (D.place directory.now))
         → D.File.may_write file) }
 {
-    let found = regular_in(directory, name)?;
-    open_found(directory, name, access, found)
+    see_file(directory, name)?;
+    let file = directory.open_file(name, access)?;
+    file_in(directory, name, file)
 }
 
 /// Opens the file of this name in a directory to add to its end.
@@ -160,12 +154,11 @@ pub fn open_to_read<D: Directory>(directory: &D, name: &[u8], aside: &D) -> io::
     requires may { D.may_look (entry name.now (D.place directory.now)) }
     requires aside { MayTake D.may_look D.may_change D.is_settled
         (entry (codes "linked") (D.place aside.now)) }
-    ensures { IfOk result (λ file. WasFileAt D.stood (D.File.is file)
+    ensures { IfOk result (λ file. WasFileAt (D.File.has file) (D.File.stood_at file)
         (entry name.now (D.place directory.now))) }
 {
-    let found = regular_in(directory, name)?;
-    match open_found(directory, name, Access::ReadAndWrite, found) {
-        Err(error) if is_refused(&error) => open_linked(directory, name, aside, found),
+    match open_regular(directory, name, Access::ReadAndWrite) {
+        Err(error) if is_refused(&error) => open_linked(directory, name, aside),
         answer => answer,
     }
 }
@@ -178,26 +171,33 @@ fn is_refused(error: &io::Error) -> bool {
     )
 }
 
-/// Opens what was found by another name for it, which it has for that time alone.
-fn open_linked<D: Directory>(
-    directory: &D,
-    name: &[u8],
-    aside: &D,
-    found: Identity,
-) -> io::Result<D::File>
+/// Opens the file of this name by another one, which it has for that time alone.
+fn open_linked<D: Directory>(directory: &D, name: &[u8], aside: &D) -> io::Result<D::File>
     requires name { IsTrue (is_name name.now) }
     requires may { D.may_look (entry name.now (D.place directory.now)) }
     requires aside { MayTake D.may_look D.may_change D.is_settled
         (entry (codes "linked") (D.place aside.now)) }
-    ensures { IfOk result (λ file. D.File.is file found) }
+    ensures { IfOk result (λ file. WasFileAt (D.File.has file) (D.File.stood_at file)
+        (entry name.now (D.place directory.now))) }
 {
     directory.link_into(name, aside, LINKED)?;
-    let answer = match regular_in(aside, LINKED) {
-        Ok(_) => open_found(aside, LINKED, Access::Read, found),
-        Err(error) => Err(error),
-    };
+    let answer = open_aside(directory, name, aside);
     aside.remove_file(LINKED)?;
     answer
+}
+
+/// Opens what has the other name, where it is the file of this name.
+fn open_aside<D: Directory>(directory: &D, name: &[u8], aside: &D) -> io::Result<D::File>
+    requires name { IsTrue (is_name name.now) }
+    requires may { D.may_look (entry name.now (D.place directory.now)) }
+    requires aside { MayTake D.may_look D.may_change D.is_settled
+        (entry (codes "linked") (D.place aside.now)) }
+    ensures { IfOk result (λ file. WasFileAt (D.File.has file) (D.File.stood_at file)
+        (entry name.now (D.place directory.now))) }
+{
+    see_file(aside, LINKED)?;
+    let file = aside.open_file(LINKED, Access::Read)?;
+    file_in(directory, name, file)
 }
 
 /// Bytes of a file from a place on, at most so many; none at its end alone.

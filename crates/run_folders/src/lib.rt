@@ -14,7 +14,8 @@ mod segments;
 
 pub use entering::{Entered, enter, make};
 pub use files::{
-    Kept, kept_file, look_in, make_node, open_regular, open_to_add, open_to_read, read_part,
+    Kept, file_in, kept_file, look_in, make_node, open_regular, open_to_add, open_to_read,
+    read_part,
 };
 pub use listing::{Listed, list_in};
 pub use names::{Names, entry_name};

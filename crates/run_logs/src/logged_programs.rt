@@ -160,6 +160,10 @@ impl<P: Programs> Programs for LoggedPrograms<P> {
         answer
     }
 
+    fn look(&mut self, number: usize) -> Option<RunKey> {
+        self.programs.look(number)
+    }
+
     fn kill(&mut self, run: RunKey) -> io::Result<bool> {
         let answer = self.programs.kill(run);
         add(&mut self.log, ProgramAsked::Kill(run), kill_answer(&answer));

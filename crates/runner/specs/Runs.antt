@@ -71,6 +71,12 @@ can_go_on (Live (stages.Stopping e)) = false
 can_go_on (Live s) = true
 can_go_on (Over e) = false
 
+-- whether its program runs
+abbrev pub runs_program : State → Bool
+runs_program (Live (stages.Running outputs)) = true
+runs_program (Live s) = false
+runs_program (Over e) = false
+
 -- ---- of runs that are over
 
 -- what is to be done for a run that is to be over: before its root is made nothing is there to

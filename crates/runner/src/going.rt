@@ -2,7 +2,7 @@
 
 ghost use Rattle.std.specs.Prelude.{◌≡◌};
 ghost use Rattle.runner.specs.Sizes.{IsCounted};
-ghost use Rattle.runner.specs.Runs.{can_go_on, ending_at};
+ghost use Rattle.runner.specs.Runs.{can_go_on, ending_at, runs_program};
 ghost use Rattle.runner.specs.declared.stage.State.TheVariants.{Live};
 
 use crate::stage::{Ending, Making, Stage};
@@ -47,6 +47,13 @@ impl Going {
         ensures { result ≡ ending_at self.now }
     {
         self.stage.ending()
+    }
+
+    /// Whether its program runs.
+    pub(crate) fn runs_program(&self) -> bool
+        ensures { result ≡ runs_program (Live self.now) }
+    {
+        matches!(self.stage, Stage::Running(_))
     }
 
     /// Whether it can go on at once: it waits neither for room for its folder, nor for its program

@@ -6,7 +6,7 @@ ghost use Rattle.std.specs.Option.{option_map_or};
 ghost use Rattle.runner.specs.Bounds.{AddsAtMost, most_calls};
 ghost use Rattle.runner.specs.Faults.{Counted, FaultFailed};
 ghost use Rattle.runner.specs.Sizes.{IsCounted};
-ghost use Rattle.runner.specs.Runs.{Becomes, EndsBy, KillsBy, HasNone, can_go_on, ending_of, IsAt, IsAsked, IsKilled, IsOver, IsStarted, is_run_of, kept_at, still_left};
+ghost use Rattle.runner.specs.Runs.{Becomes, EndsBy, KillsBy, HasNone, can_go_on, ending_of, IsAt, IsAsked, IsKilled, IsOver, IsStarted, is_run_of, kept_at, runs_program, still_left};
 ghost use Rattle.runner.specs.declared.stage.Ending.TheVariants.{Removing};
 ghost use Rattle.runner.specs.declared.stage.Run.{Run};
 ghost use Rattle.runner.specs.declared.stage.State.TheVariants.{Over};
@@ -34,6 +34,16 @@ fn can_go_on(state: &State) -> bool
 {
     match state {
         State::Live(going) => going.can_go_on(),
+        State::Over(_) => false,
+    }
+}
+
+/// Whether the program of a run is started, and not known to have ended.
+fn runs_program(state: &State) -> bool
+    ensures { result ≡ runs_program state.now }
+{
+    match state {
+        State::Live(going) => going.runs_program(),
         State::Over(_) => false,
     }
 }
@@ -259,6 +269,28 @@ impl<F: Folder + Drop, P: Programs + Drop> Runner<F, P> {
             Some(run) => !can_go_on(&run.state),
             None => false,
         }
+    }
+
+    /// Whether the program of the run of this number runs.
+    pub fn runs_program(&self, at: usize) -> bool
+        ensures { result ≡ option_map_or (λ (run : Run). runs_program run.state)
+            (slice_get self.now.runs.items at) false }
+    {
+        match self.runs.get(at) {
+            Some(run) => runs_program(&run.state),
+            None => false,
+        }
+    }
+
+    /// Looks at one of the programs, which this number chooses, and says of which run one is to be
+    /// asked.
+    pub fn look(&mut self, number: usize) -> Option<RunKey>
+        ensures runs { self.new.runs ≡ self.old.runs }
+        ensures folder { self.new.folder ≡ self.old.folder }
+        ensures asked { P.asked self.new.programs ≡ P.asked self.old.programs }
+        ensures failures { P.failures self.new.programs ≡ P.failures self.old.programs }
+    {
+        self.programs.look(number)
     }
 
     /// Whether there is a run of a job, if only to be ended.

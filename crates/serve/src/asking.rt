@@ -9,15 +9,18 @@ ghost use Rattle.serve.specs.SocketEvents.{SocketEvent};
 
 use crate::carrying::{Counting, tell};
 use crate::error_lines::ErrorLines;
-use crate::pace::{MOST_WAITING, Pace};
-use crate::runs::Runs;
+use crate::pace::Pace;
+use crate::runs::{Doing, Runs};
 use crate::sockets::Sockets;
-use run_calls::RunKey;
+use run_calls::{MOST_LOOKS, RunKey};
 use run_outcomes::Outcome;
 use runner::RunFault;
 use server_core::LentTask;
 use server_events::{Configs, What};
 use std::io::Write;
+
+/// How many runs come up at most in a millisecond in which none can go on at once.
+const MOST_PASSED: usize = 256;
 
 /// How much is told at most of why a run failed.
 const MOST_TOLD: u32 = 400;
@@ -105,17 +108,17 @@ fn ask<R: Runs, E: Write>(
     }
 }
 
-/// How many of so many runs are asked in a turn. Where none can go on at once, all wait for programs
-/// or folders: some are asked then where it is due, once a millisecond, and else none.
-fn most_asked(count: usize, is_busy: bool, is_due: bool) -> usize
+/// How many of so many runs come up in a turn. Where none can go on at once, all wait for programs
+/// or folders: some come up then where it is due, once a millisecond, and else none.
+fn most_passed(count: usize, is_busy: bool, is_due: bool) -> usize
     ensures busy { is_busy ≡ true → result ≡ count }
-    ensures due { is_busy ≡ false → is_due ≡ true → result ≡ min count 64 }
+    ensures due { is_busy ≡ false → is_due ≡ true → result ≡ min count 256 }
     ensures waiting { is_busy ≡ false → is_due ≡ false → result ≡ 0 }
 {
     if is_busy {
         count
     } else if is_due {
-        count.min(MOST_WAITING)
+        count.min(MOST_PASSED)
     } else {
         0
     }
@@ -143,10 +146,45 @@ fn ask_if<R: Runs, E: Write>(
     }
 }
 
+/// Asks those runs, once a millisecond, of which it is found that their programs have ended, as some
+/// of the programs are looked at.
+fn ask_ended<S: Sockets, R: Runs, E: Write>(
+    counting: &mut Counting,
+    pace: &mut Pace,
+    configs: &Configs,
+    sockets: &S,
+    runs: &mut R,
+    errors: &mut ErrorLines<E>,
+    moment: u64,
+)
+    ensures serving { (count : ℕ) (known : Option (List SocketEvent)) → KeepsServing count
+        known (R.happened runs.old) counting.old moment
+        known (R.happened runs.new) counting.new moment }
+    ensures lines { WritesLinesAt moment configs.now (R.faulted runs.old) (R.faulted runs.new)
+        (E.contents errors.old.output) errors.old.backlog
+        (E.contents errors.new.output) errors.new.backlog }
+{
+    let most = if pace.is_due() && runs.count() > 0 {
+        MOST_LOOKS
+    } else {
+        0
+    };
+    for number in 0..most {
+        let Some(run) = runs.look(number) else {
+            continue;
+        };
+        let is_asked = pace.takes(run.instance, Doing::Goes);
+        ask_if(counting, configs, runs, errors, moment, run, is_asked);
+        if is_asked && pace.note_asked(sockets, sockets.passed(), run.instance) {
+            break;
+        }
+    }
+}
+
 /// Goes on with the runs of those instances whose turn it is, or with as many as it takes until
 /// they had their time of this turn: the next one begins with the others. Of those that wait for
-/// programs or folders a share is asked once a millisecond, which is when they are due. It says
-/// whether a run can go on at once.
+/// folders a share is asked once a millisecond, which is when they are due, and of those whose
+/// programs run those that have ended. It says whether a run can go on at once.
 pub(crate) fn ask_all<S: Sockets, R: Runs, E: Write>(
     counting: &mut Counting,
     pace: &mut Pace,
@@ -163,13 +201,14 @@ pub(crate) fn ask_all<S: Sockets, R: Runs, E: Write>(
         (E.contents errors.old.output) errors.old.backlog
         (E.contents errors.new.output) errors.new.backlog }
 {
-    let most = most_asked(runs.count(), runs.is_busy(), pace.is_due());
+    ask_ended(counting, pace, configs, sockets, runs, errors, moment);
+    let most = most_passed(runs.count(), runs.is_busy(), pace.is_due());
     for _ in 0..most {
-        let waits = runs.next_waits();
+        let doing = runs.next_doing();
         let Some(run) = runs.next() else {
             break;
         };
-        let is_asked = pace.takes(run.instance, waits);
+        let is_asked = pace.takes(run.instance, doing);
         ask_if(counting, configs, runs, errors, moment, run, is_asked);
         if is_asked && pace.note_asked(sockets, sockets.passed(), run.instance) {
             break;

@@ -27,7 +27,7 @@ pub use error_lines::ErrorLines;
 pub use laws::{faults_are_told_by_whole_lines, what_serve_did, why_connections_are_closed};
 pub use logged::{LoggedSockets, SocketRecord};
 pub use logged_runs::{LoggedRuns, RunRecord};
-pub use runs::Runs;
+pub use runs::{Doing, Runs};
 pub use serving::serve;
 pub use sockets::{ProcessorTime, Socket, Sockets};
 pub use watch::{Nobody, Sight, Tally, Watch};

@@ -1,6 +1,6 @@
 //! Runs that keep a log of what happened at them.
 
-ghost use Rattle.std.specs.Prelude.{◌≡◌, ◌⊎◌, [], ◌∷◌, List, None, Some, Err, IfOk, IsTrue};
+ghost use Rattle.std.specs.Prelude.{◌≡◌, ◌⊎◌, [], ◌∷◌, List, None, Some, Err, IfOk, IfSome, IsTrue};
 ghost use Rattle.std.specs.Option.{option_map};
 ghost use Rattle.execution.specs.Job.{TaskValue};
 ghost use Rattle.execution.specs.Orders.{kill, start};
@@ -9,10 +9,10 @@ ghost use Rattle.runner.specs.declared.fault.RunFault.TheVariants.{NoMemory};
 ghost use Rattle.run_calls.specs.Calls.{Adds};
 ghost use Rattle.serve.specs.Logged.{IsKept};
 ghost use Rattle.serve.specs.LoggedRuns.{faults_logged, run_event, run_events, runs_logged, task_copied};
-ghost use Rattle.serve.specs.RunEvents.{AddsRuns, IsBegun, RunEvent, asked_events, faults_of, lent, ordered, outcome_events};
+ghost use Rattle.serve.specs.RunEvents.{AddsRuns, IsBegun, WasBegun, RunEvent, asked_events, faults_of, lent, ordered, outcome_events};
 
 use crate::copies::{TaskCopy, copied_task, two_outcomes};
-use crate::runs::Runs;
+use crate::runs::{Doing, Runs};
 use run_calls::RunKey;
 use run_outcomes::Outcome;
 use runner::RunFault;
@@ -80,6 +80,22 @@ fn has_begun(records: &[RunRecord], run: RunKey) -> bool
         left = rest;
     }
     false
+}
+
+/// The run, unless a log says that it was not begun.
+fn begun_by(log: &Option<Vec<RunRecord>>, run: RunKey) -> Option<RunKey>
+    ensures { IfSome result (λ begun. WasBegun begun (runs_logged log.now)) }
+{
+    match log {
+        Some(records) => {
+            if has_begun(records, run) {
+                Some(run)
+            } else {
+                None
+            }
+        }
+        None => Some(run),
+    }
 }
 
 /// What is lent with a question, if anything.
@@ -216,16 +232,7 @@ impl<R: Runs> Runs for LoggedRuns<R> {
     /// The run whose turn it is. None is where, by the log, that run was not begun.
     fn next(&mut self) -> Option<RunKey> {
         let run = self.runs.next()?;
-        match &self.log {
-            Some(records) => {
-                if has_begun(records, run) {
-                    Some(run)
-                } else {
-                    None
-                }
-            }
-            None => Some(run),
-        }
+        begun_by(&self.log, run)
     }
 
     fn ask(&mut self, run: RunKey, task: Option<LentTask<'_>>) -> Result<Option<Outcome>, RunFault>
@@ -245,8 +252,14 @@ impl<R: Runs> Runs for LoggedRuns<R> {
         answer
     }
 
-    fn next_waits(&self) -> bool {
-        self.runs.next_waits()
+    fn next_doing(&self) -> Doing {
+        self.runs.next_doing()
+    }
+
+    /// None is where, by the log, that run was not begun.
+    fn look(&mut self, number: usize) -> Option<RunKey> {
+        let run = self.runs.look(number)?;
+        begun_by(&self.log, run)
     }
 
     fn reason(

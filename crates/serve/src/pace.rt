@@ -16,6 +16,7 @@ ghost use Rattle.std.specs.Prelude.{◌≡◌, ◌≢◌, ◌≤◌, ◌<◌, �
 ghost use Rattle.serve.specs.Pace.{AreChargedAtMost, IsOwed, MayHaveMore, most_charged};
 
 use crate::exchange::Tried;
+use crate::runs::Doing;
 use crate::share::{DEAR, MOST_REST, Share, UNUSED, Work, charged_of};
 use crate::sockets::{ProcessorTime, Sockets};
 use std::alloc::{AllocError, Global};
@@ -38,8 +39,8 @@ const QUIET_TIME: u64 = 50;
 /// For how many microseconds of a turn runs are asked.
 const MOST_ASKED: u64 = 1_000;
 
-/// How many runs are asked at most in a millisecond of those that wait.
-pub(crate) const MOST_WAITING: usize = 64;
+/// How many runs are asked at most in a millisecond of those that wait for folders.
+const MOST_WAITING: usize = 64;
 
 /// Lets no instance have all the time.
 #[derive(Drop)]
@@ -54,8 +55,12 @@ pub(crate) struct Pace {
     processor: ProcessorTime,
     /// The heavy instance that has its slice in this turn.
     chosen: Option<u32>,
+    /// Whether an instance is heavy in this turn.
+    has_heavy: bool,
     /// Whether another heavy one was passed over in this turn that does not rest.
     is_passed_over: bool,
+    /// Until when an instance rests at most.
+    rests_until: u64,
     /// When the last turn had ended in which an instance used up its slice.
     full_ended: u64,
     /// What that one had of it.
@@ -64,7 +69,7 @@ pub(crate) struct Pace {
     is_heavy_now: bool,
     /// Whether its runs come before its connections in this turn.
     runs_first: bool,
-    /// Whether those runs are asked in this turn that wait for programs or folders.
+    /// Whether those runs are asked in this turn that wait for folders.
     is_due: bool,
     /// How many of them still.
     waiting: usize,
@@ -85,7 +90,9 @@ impl Pace {
             passed: 0,
             processor: ProcessorTime { had: 0, lacked: 0 },
             chosen: None,
+            has_heavy: false,
             is_passed_over: false,
+            rests_until: 0,
             full_ended: 0,
             full_took: 0,
             is_heavy_now: false,
@@ -116,14 +123,17 @@ impl Pace {
         self.is_spent = false;
         let mut number: u32 = 0;
         let mut most = 0;
+        let mut has_heavy = false;
         for share in self.shares.iter_mut() {
             most = most.max(share.spent);
             if share.spent > 0 || had_turn == Some(number) {
                 share.is_heavy = share.spent >= SLICE;
                 share.spent = 0;
             }
+            has_heavy = has_heavy || share.is_heavy;
             number = number.wrapping_add(1);
         }
+        self.has_heavy = has_heavy;
         if most >= SLICE {
             self.full_ended = self.passed;
             self.full_took = most.min(MOST_REST);
@@ -180,7 +190,7 @@ impl Pace {
 
     /// Whether an instance may rest now, or waits for its slice.
     fn may_rest(&self) -> bool {
-        self.shares.iter().any(|share| self.passed.saturating_sub(share.ended) < share.took)
+        self.passed < self.rests_until
     }
 
     /// For how many milliseconds the sockets may wait for something to come, behind a turn: not at
@@ -202,6 +212,11 @@ impl Pace {
 
     /// Chooses the heavy instance whose turn it is, if it is that of one.
     pub(crate) fn choose(&mut self) {
+        self.runs_first = !self.runs_first;
+        // Mostly all are quick.
+        if !self.has_heavy {
+            return;
+        }
         let mut chosen: Option<u32> = None;
         let mut least = u64::MAX;
         let mut number: u32 = 0;
@@ -221,7 +236,6 @@ impl Pace {
             chosen = None;
         }
         self.chosen = chosen;
-        self.runs_first = !self.runs_first;
         self.is_passed_over = self.passes_over();
     }
 
@@ -306,25 +320,33 @@ impl Pace {
         }
     }
 
-    /// Whether runs that wait for programs or folders are asked in this turn.
+    /// Whether runs that wait are asked in this turn.
     pub(crate) fn is_due(&self) -> bool {
         self.is_due
     }
 
-    /// Whether a run of an instance is asked now, that waits for a program or folder, or does not.
-    pub(crate) fn takes(&mut self, instance: u32, waits: bool) -> bool
+    /// Whether a run of an instance is asked now that does this. While its program runs it is not.
+    pub(crate) fn takes(&mut self, instance: u32, doing: Doing) -> bool
         ensures spent { IsTrue result → self.old.is_spent ≡ false }
         ensures slice { IsTrue result → MayHaveMore instance self.old.chosen
             (slice_get self.old.shares.items instance) }
+        ensures waits { doing ≡ Doing.Waits → IsTrue result → self.old.is_due ≡ true }
+        ensures runs { doing ≡ Doing.Runs → result ≡ false }
         ensures shares { self.new.shares ≡ self.old.shares }
     {
-        if !self.asks(instance) || waits && !self.is_due {
+        if !self.asks(instance) {
             return false;
         }
-        if waits {
-            self.waiting = self.waiting.saturating_sub(1);
+        match doing {
+            Doing::Goes => true,
+            Doing::Waits => {
+                if self.is_due {
+                    self.waiting = self.waiting.saturating_sub(1);
+                }
+                self.is_due
+            }
+            Doing::Runs => false,
         }
-        true
     }
 
     /// When what is done for an instance now is to end, if it can be cut.
@@ -468,6 +490,8 @@ impl Pace {
         let (passed, least) = (self.passed, self.least_had(false).unwrap_or(0));
         if let Some(share) = self.shares.get_mut(instance as usize) {
             share.charge(charged, passed, least);
+            let rest_end = share.rest_end();
+            self.rests_until = self.rests_until.max(rest_end);
         }
         charged
     }

@@ -8,6 +8,17 @@ use runner::RunFault;
 use server_core::LentTask;
 use std::io;
 
+/// What a run does.
+#[derive(Clone, Copy, Debug, PartialEq, Eq)]
+pub enum Doing {
+    /// It can go on at once.
+    Goes,
+    /// It waits for its folder to be made or removed, or for its program to be killed.
+    Waits,
+    /// Its program runs.
+    Runs,
+}
+
 /// The runs of the jobs of a server's instances. No call waits for a program.
 pub trait Runs {
     ghost use Rattle.execution.specs.Orders.{start, kill};
@@ -51,8 +62,17 @@ pub trait Runs {
         ensures carries { CarriesRuns (carries self.old) (carries self.new) [] }
         ensures no_fault { faulted self.new ≡ faulted self.old };
 
-    /// Whether the run that comes next only waits, for a program or a folder.
-    fn next_waits(&self) -> bool;
+    /// What the run does that comes next.
+    fn next_doing(&self) -> Doing;
+
+    /// Looks at one of the programs, which this number chooses, and says of which run one is to be
+    /// asked, as it has ended. Those are looked at that were started last, and a share of the
+    /// others.
+    fn look(&mut self, number: usize) -> Option<RunKey>
+        ensures begun { IfSome result (λ run. WasBegun run (happened self.new)) }
+        ensures adds { AddsRuns (happened self.old) (happened self.new) [] }
+        ensures carries { CarriesRuns (carries self.old) (carries self.new) [] }
+        ensures no_fault { faulted self.new ≡ faulted self.old };
 
     /// Goes on with a run by a bounded piece of work. What came of it, or `None` while it goes on.
     /// Its task is lent as long as its job runs. With an outcome or a fault the run is over.

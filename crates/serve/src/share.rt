@@ -107,6 +107,11 @@ impl Share {
             && quiet.min(rested) < LEAST_PATIENCE.max(self.took / 4)
     }
 
+    /// When its rest behind its last dear piece ends at the latest.
+    pub(crate) fn rest_end(&self) -> u64 {
+        self.ended.saturating_add(self.took)
+    }
+
     /// A piece has ended at this moment, of which so much is charged, where whoever had least had
     /// this. Behind a long one it is known for that, and behind a dear one it rests.
     pub(crate) fn charge(&mut self, charged: u64, passed: u64, least: u64)

@@ -25,11 +25,19 @@ pub record MayTake (look change settled : Option (List (List ℕ)) → Type 0)
   pub may_change : change place
   pub is_settled : settled place
 
--- a file that is open, of which this says what it is, is a regular one that stood there itself
-pub record WasFileAt (stood : Option (List (List ℕ)) → Identity → Type 0)
-    (is : Identity → Type 0) (place : Option (List (List ℕ))) : Type 0 where
+-- a file that is open, of which these say its identity and where it stood, is a regular one that
+-- stood there itself
+pub record WasFileAt (has : Identity → Type 0) (stood_at : Option (List (List ℕ)) → Type 0)
+    (place : Option (List (List ℕ))) : Type 0 where
   pub what : Identity
-  pub opened : is what
+  pub opened : has what
+  pub there : stood_at place
+  pub regular : what.kind ≡ File
+
+-- a file was seen at a place
+pub record WasFileSeen (stood : Option (List (List ℕ)) → Identity → Type 0)
+    (place : Option (List (List ℕ))) : Type 0 where
+  pub what : Identity
   pub there : stood place what
   pub regular : what.kind ≡ File
 
@@ -37,9 +45,7 @@ pub record WasFileAt (stood : Option (List (List ℕ)) → Identity → Type 0)
 pub record IsFileThere (settled : Option (List (List ℕ)) → Type 0)
     (stood : Option (List (List ℕ)) → Identity → Type 0)
     (place : Option (List (List ℕ))) : Type 0 where
-  pub what : Identity
-  pub there : stood place what
-  pub regular : what.kind ≡ File
+  pub seen : WasFileSeen stood place
   pub is_settled : settled place
 
 -- ---- going down

@@ -16,7 +16,8 @@ pub enum Kind {
     Other,
 }
 
-/// What a thing on a disk keeps for as long as it is there, under whatever name.
+/// What a thing on a disk keeps for as long as it is there, under whatever name. Once it is gone and
+/// nobody has it open, something else may get the same.
 #[derive(Clone, Copy, Debug, PartialEq, Eq)]
 pub struct Identity {
     pub device: u64,
@@ -46,17 +47,21 @@ pub enum Access {
 
 /// A file that is open, or what was there in its place. It is closed where it is let go.
 pub trait OpenFile: Drop {
+    ghost use Rattle.system.specs.Places.{Place};
     ghost use Rattle.system.specs.declared.directory.Identity.{Identity};
 
-    // That this is open, whatever has become of its names.
-    ghost is: { Self → Identity → Type 0 };
+    // That what is open has this identity. Nothing else has it as long as this is open.
+    ghost has: { Self → Identity → Type 0 };
+
+    // That what is open stood at a place at some time, itself and no link to it.
+    ghost stood_at: { Self → Place → Type 0 };
 
     // Whether it may be written, locked, and made to allow what a mode says.
     ghost may_write: { Self → Type 0 };
 
     /// What is told of what is open.
     fn facts(&self) -> io::Result<Facts>
-        ensures { IfOk result (λ f. is self.now f.identity) };
+        ensures { IfOk result (λ f. has self.now f.identity) };
 
     /// Reads bytes from a place on, and says how many; none at the end alone.
     fn read_at(&self, room: &mut [u8], from: u64) -> io::Result<usize>
@@ -101,7 +106,8 @@ pub trait Directory: Drop {
     // That nobody else changes meanwhile what has a name at a place.
     ghost is_settled: { Place → Type 0 };
 
-    // That this stood at a place at some time, itself and no link to it.
+    // That something of this identity stood at a place at some time, itself and no link to it. What
+    // has the identity later may be something else.
     ghost stood: { Place → Identity → Type 0 };
 
     /// The directory of this name in this one. A link is none.
@@ -134,6 +140,14 @@ pub trait Directory: Drop {
         requires may { may_look (entry name.now (place self.now)) }
         ensures { IfOk result (λ f. stood (entry name.now (place self.now)) f.identity) };
 
+    /// The same while a file is open. What has the name and the identity of that file is the file
+    /// itself, since nothing else has its identity meanwhile.
+    fn look_while_open(&self, name: &[u8], file: &Self::File) -> io::Result<Facts>
+        requires name { IsTrue (is_name name.now) }
+        requires may { may_look (entry name.now (place self.now)) }
+        ensures { IfOk result (λ f. Self.File.has file.now f.identity
+            → Self.File.stood_at file.now (entry name.now (place self.now))) };
+
     /// Opens what has this name, or what a link of this name leads to. To open a FIFO to read it
     /// alone would wait for whoever writes to it, so that is for what is known to be a file.
     fn open_file(&self, name: &[u8], access: Access) -> io::Result<Self::File>
@@ -141,8 +155,7 @@ pub trait Directory: Drop {
         requires no_wait { access ≡ Read
             → IsFileThere is_settled stood (entry name.now (place self.now)) }
         requires may { may_look (entry name.now (place self.now)) }
-        ensures own { IfOk result (λ file. (what : Identity) → Self.File.is file what
-            → stood (entry name.now (place self.now)) what
+        ensures own { IfOk result (λ file. Self.File.stood_at file (entry name.now (place self.now))
             → may_change (entry name.now (place self.now)) → Self.File.may_write file) };
 
     /// Makes a file that may be used as a mode says, as far as the process's own mask allows, and
@@ -199,7 +212,7 @@ pub trait Directory: Drop {
         requires may { may_change (entry name.now (place self.now)) };
 }
 
-/// Whether two are the same thing.
+/// Whether two identities are the same.
 pub fn is_same(one: Identity, other: Identity) -> bool
     ensures { IsTrue result → one ≡ other }
 {

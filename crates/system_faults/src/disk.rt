@@ -138,28 +138,22 @@ impl Disk {
     /// A program changes what has a name.
     fn change(&mut self, spot: Spot, change: Change) -> io::Result<()> {
         let name = spot.name.as_bytes();
-        let inode = match self.tree.entry(spot.above, name) {
-            Ok(old) => self.tree.node(old)?.inode,
-            Err(_) => 0,
-        };
+        let old = self.tree.entry(spot.above, name).ok();
         self.tree.detach(spot.above, name);
-        let (what, renewed) = match change {
+        let what = match change {
             Change::Vanishes => return Ok(()),
-            Change::Link(target) => (What::Link(Some(target)), None),
-            Change::Directory => (What::Directory, None),
-            Change::File => (What::File, None),
-            Change::Fifo => (What::Fifo, None),
-            Change::Renewed => (What::File, None),
-            Change::RenewedLink(target) => (What::Link(Some(target)), Some(target)),
+            Change::Link(target) | Change::RenewedLink(target) => What::Link(Some(target)),
+            Change::Directory => What::Directory,
+            Change::File | Change::Renewed => What::File,
+            Change::Fifo => What::Fifo,
         };
         let new = self
             .tree
             .add(spot.above, name, what, 0o777, Maker::Program)?;
-        if let Change::Renewed = change {
-            self.tree.node_mut(new)?.inode = inode;
-        }
-        if let Some(target) = renewed {
-            self.tree.node_mut(target)?.inode = inode;
+        match (change, old) {
+            (Change::Renewed, Some(old)) => self.tree.renew(new, old)?,
+            (Change::RenewedLink(target), Some(old)) => self.tree.renew(target, old)?,
+            _ => {}
         }
         self.tree.node_mut(new)?.bytes.extend_from_slice(b"new")?;
         Ok(())

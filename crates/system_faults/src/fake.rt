@@ -10,11 +10,25 @@ use std::cell::{Cell, RefCell, RefMut};
 use std::io::{self, ErrorKind};
 use system::{Access, Directory, Facts, Identity, OpenFile};
 
+/// What is open, as is noted on the disk until it is let go.
+struct Handle<'a> {
+    disk: &'a RefCell<Disk>,
+    node: NodeId,
+}
+
+impl<'a> Drop for Handle<'a> {
+    fn drop(self) {
+        let Handle { disk, node } = self;
+        if let Ok(mut disk) = disk.try_borrow_mut() {
+            disk.tree.close(node);
+        }
+    }
+}
+
 /// A directory of a tree in memory that is open.
 #[derive(Drop)]
 pub struct FakeDirectory<'a> {
-    disk: &'a RefCell<Disk>,
-    node: NodeId,
+    handle: Handle<'a>,
     /// The names by which it was opened, the last first.
     names: Vec<Vec<u8>>,
     /// Up to which name it was listed.
@@ -24,8 +38,7 @@ pub struct FakeDirectory<'a> {
 /// A file of a tree in memory that is open.
 #[derive(Drop)]
 pub struct FakeFile<'a> {
-    disk: &'a RefCell<Disk>,
-    node: NodeId,
+    handle: Handle<'a>,
     identity: Identity,
 }
 
@@ -47,6 +60,19 @@ fn called<'a>(
     let mut disk = borrowed(disk)?;
     disk.begin(call, node, name)?;
     Ok(disk)
+}
+
+impl<'a> Handle<'a> {
+    /// Opens a node on a disk.
+    fn new(disk: &'a RefCell<Disk>, opened: &mut Disk, node: NodeId) -> Handle<'a> {
+        opened.tree.open(node);
+        Handle { disk, node }
+    }
+
+    /// The disk, for a call that may be by a name.
+    fn called(&self, call: Call, name: &[u8]) -> io::Result<RefMut<'a, Disk>> {
+        called(self.disk, call, self.node, name)
+    }
 }
 
 /// The names of what has one below others.
@@ -78,33 +104,32 @@ impl<'a> FakeDirectory<'a> {
     /// The directory of the start.
     pub fn start(alloc: Global, disk: &'a RefCell<Disk>) -> FakeDirectory<'a> {
         FakeDirectory {
-            disk,
-            node: START,
+            handle: Handle { disk, node: START },
             names: Vec::new(alloc),
             listed: Cell::new(0),
         }
     }
 
-    /// The disk, for a call that may be by a name.
-    fn called(&self, call: Call, name: &[u8]) -> io::Result<RefMut<'a, Disk>> {
-        called(self.disk, call, self.node, name)
-    }
-
     /// Who made it.
     pub fn maker(&self) -> io::Result<Maker> {
-        Ok(borrowed(self.disk)?.tree.node(self.node)?.maker)
+        let Handle { disk, node } = &self.handle;
+        Ok(borrowed(*disk)?.tree.node(*node)?.maker)
     }
 
     /// Who made what has this name.
     pub fn maker_in(&self, name: &[u8]) -> io::Result<Maker> {
-        let disk = borrowed(self.disk)?;
-        Ok(disk.tree.node(disk.tree.entry(self.node, name)?)?.maker)
+        let disk = borrowed(self.handle.disk)?;
+        Ok(
+            disk.tree
+                .node(disk.tree.entry(self.handle.node, name)?)?
+                .maker,
+        )
     }
 
     /// What a link of this name says.
     pub fn link_text(&self, alloc: Global, name: &[u8]) -> io::Result<Vec<u8>> {
-        let disk = borrowed(self.disk)?;
-        let node = disk.tree.node(disk.tree.entry(self.node, name)?)?;
+        let disk = borrowed(self.handle.disk)?;
+        let node = disk.tree.node(disk.tree.entry(self.handle.node, name)?)?;
         match node.what {
             What::Link(None) => Ok(Vec::from_slice(alloc, &node.bytes)?),
             _ => Ok(Vec::new(alloc)),
@@ -112,11 +137,10 @@ impl<'a> FakeDirectory<'a> {
     }
 
     /// A file that was opened or made in it.
-    fn file(&self, disk: &Disk, node: NodeId) -> io::Result<FakeFile<'a>> {
+    fn file(&self, disk: &mut Disk, node: NodeId) -> io::Result<FakeFile<'a>> {
         let identity = disk.facts(node)?.identity;
         Ok(FakeFile {
-            disk: self.disk,
-            node,
+            handle: Handle::new(self.handle.disk, disk, node),
             identity,
         })
     }
@@ -125,24 +149,27 @@ impl<'a> FakeDirectory<'a> {
 impl<'a> FakeFile<'a> {
     /// The disk, for a call.
     fn called(&self, call: Call) -> io::Result<RefMut<'a, Disk>> {
-        called(self.disk, call, self.node, b"")
+        self.handle.called(call, b"")
     }
 
     /// All that is in it.
     pub fn contents(&self, alloc: Global) -> io::Result<Vec<u8>> {
-        let disk = borrowed(self.disk)?;
-        Ok(Vec::from_slice(alloc, &disk.tree.node(self.node)?.bytes)?)
+        let disk = borrowed(self.handle.disk)?;
+        Ok(Vec::from_slice(alloc, &disk.tree.node(self.handle.node)?.bytes)?)
     }
 }
 
 impl<'a> OpenFile for FakeFile<'a> {
-    ghost is = { λ file what. file.identity ≡ what };
+    ghost has = { λ file what. file.identity ≡ what };
+
+    // What stood where is known to the disk alone.
+    ghost stood_at = { λ _ _. ⊤ };
 
     ghost may_write = { λ _. ⊤ };
 
     fn facts(&self) -> io::Result<Facts> {
         let mut disk = self.called(Call::FileFacts)?;
-        let answer = disk.facts(self.node);
+        let answer = disk.facts(self.handle.node);
         let Facts { size, mode, .. } = disk.noted(answer)?;
         Ok(Facts {
             identity: self.identity,
@@ -153,7 +180,7 @@ impl<'a> OpenFile for FakeFile<'a> {
 
     fn read_at(&self, room: &mut [u8], from: u64) -> io::Result<usize> {
         let mut disk = self.called(Call::Read)?;
-        let bytes = disk.read(self.node, from)?;
+        let bytes = disk.read(self.handle.node, from)?;
         let count = bytes.len().min(room.len());
         room[..count].copy_from_slice(&bytes[..count]);
         Ok(count)
@@ -161,13 +188,13 @@ impl<'a> OpenFile for FakeFile<'a> {
 
     fn write_all(&mut self, bytes: &[u8]) -> io::Result<()> {
         let mut disk = self.called(Call::Write)?;
-        let answer = disk.write(self.node, bytes);
+        let answer = disk.write(self.handle.node, bytes);
         disk.noted(answer)
     }
 
     fn allow(&self, mode: u32) -> io::Result<()> {
         let mut disk = self.called(Call::AllowFile)?;
-        let answer = disk.allow(self.node, mode);
+        let answer = disk.allow(self.handle.node, mode);
         disk.noted(answer)
     }
 
@@ -192,36 +219,36 @@ impl<'a> Directory for FakeDirectory<'a> {
     ghost stood = { λ _ _. ⊤ };
 
     fn open_in(&self, name: &[u8]) -> io::Result<FakeDirectory<'a>> {
-        let mut disk = self.called(Call::OpenIn, name)?;
-        let answer = disk.open_directory(self.node, name);
+        let mut disk = self.handle.called(Call::OpenIn, name)?;
+        let answer = disk.open_directory(self.handle.node, name);
         let node = disk.noted(answer)?;
+        let names = below(disk.alloc, name, &self.names)?;
         Ok(FakeDirectory {
-            disk: self.disk,
-            node,
-            names: below(disk.alloc, name, &self.names)?,
+            handle: Handle::new(self.handle.disk, &mut disk, node),
+            names,
             listed: Cell::new(0),
         })
     }
 
     fn again(&self) -> io::Result<FakeDirectory<'a>> {
-        let disk = self.called(Call::Again, b"")?;
+        let mut disk = self.handle.called(Call::Again, b"")?;
+        let names = same_names(disk.alloc, &self.names)?;
         Ok(FakeDirectory {
-            disk: self.disk,
-            node: self.node,
-            names: same_names(disk.alloc, &self.names)?,
+            handle: Handle::new(self.handle.disk, &mut disk, self.handle.node),
+            names,
             listed: Cell::new(0),
         })
     }
 
     fn facts(&self) -> io::Result<Facts> {
-        let mut disk = self.called(Call::Facts, b"")?;
-        let answer = disk.facts(self.node);
+        let mut disk = self.handle.called(Call::Facts, b"")?;
+        let answer = disk.facts(self.handle.node);
         disk.noted(answer)
     }
 
     fn list(&self, room: &mut [u8]) -> io::Result<usize> {
-        let mut disk = self.called(Call::List, b"")?;
-        let answer = disk.list(self.node, self.listed.get(), room.len());
+        let mut disk = self.handle.called(Call::List, b"")?;
+        let answer = disk.list(self.handle.node, self.listed.get(), room.len());
         let (names, last) = disk.noted(answer)?;
         self.listed.set(last);
         let count = names.len().min(room.len());
@@ -230,31 +257,35 @@ impl<'a> Directory for FakeDirectory<'a> {
     }
 
     fn look(&self, name: &[u8]) -> io::Result<Facts> {
-        let mut disk = self.called(Call::Look, name)?;
-        let answer = disk.look(self.node, name);
+        let mut disk = self.handle.called(Call::Look, name)?;
+        let answer = disk.look(self.handle.node, name);
         let facts = disk.noted(answer)?;
         Ok(facts)
     }
 
+    fn look_while_open(&self, name: &[u8], _file: &FakeFile<'a>) -> io::Result<Facts> {
+        self.look(name)
+    }
+
     fn open_file(&self, name: &[u8], access: Access) -> io::Result<FakeFile<'a>> {
-        let mut disk = self.called(Call::OpenFile, name)?;
-        let answer = disk.open_file(self.node, name, access);
+        let mut disk = self.handle.called(Call::OpenFile, name)?;
+        let answer = disk.open_file(self.handle.node, name, access);
         let node = disk.noted(answer)?;
-        let file = self.file(&disk, node)?;
+        let file = self.file(&mut disk, node)?;
         Ok(file)
     }
 
     fn make_file(&self, name: &[u8], mode: u32) -> io::Result<FakeFile<'a>> {
-        let mut disk = self.called(Call::MakeFile, name)?;
-        let answer = disk.make(self.node, name, What::File, mode);
+        let mut disk = self.handle.called(Call::MakeFile, name)?;
+        let answer = disk.make(self.handle.node, name, What::File, mode);
         let node = disk.noted(answer)?;
-        let file = self.file(&disk, node)?;
+        let file = self.file(&mut disk, node)?;
         Ok(file)
     }
 
     fn make_link(&self, name: &[u8], target: &str) -> io::Result<()> {
-        let mut disk = self.called(Call::MakeLink, name)?;
-        let answer = disk.make(self.node, name, What::Link(None), 0o777);
+        let mut disk = self.handle.called(Call::MakeLink, name)?;
+        let answer = disk.make(self.handle.node, name, What::Link(None), 0o777);
         let node = disk.noted(answer)?;
         disk.tree
             .node_mut(node)?
@@ -264,45 +295,45 @@ impl<'a> Directory for FakeDirectory<'a> {
     }
 
     fn make_dir(&self, name: &[u8], mode: u32) -> io::Result<()> {
-        let mut disk = self.called(Call::MakeDir, name)?;
-        let answer = disk.make(self.node, name, What::Directory, mode);
+        let mut disk = self.handle.called(Call::MakeDir, name)?;
+        let answer = disk.make(self.handle.node, name, What::Directory, mode);
         disk.noted(answer)?;
         Ok(())
     }
 
     fn remove_file(&self, name: &[u8]) -> io::Result<()> {
-        let mut disk = self.called(Call::RemoveFile, name)?;
-        let answer = disk.remove(self.node, name, false);
+        let mut disk = self.handle.called(Call::RemoveFile, name)?;
+        let answer = disk.remove(self.handle.node, name, false);
         disk.noted(answer)
     }
 
     fn remove_dir(&self, name: &[u8]) -> io::Result<()> {
-        let mut disk = self.called(Call::RemoveDir, name)?;
-        let answer = disk.remove(self.node, name, true);
+        let mut disk = self.handle.called(Call::RemoveDir, name)?;
+        let answer = disk.remove(self.handle.node, name, true);
         disk.noted(answer)
     }
 
     fn move_into(&self, name: &[u8], other: &FakeDirectory<'a>, new_name: &[u8]) -> io::Result<()> {
-        let mut disk = self.called(Call::MoveInto, name)?;
-        let answer = disk.rename(self.node, name, other.node, new_name);
+        let mut disk = self.handle.called(Call::MoveInto, name)?;
+        let answer = disk.rename(self.handle.node, name, other.handle.node, new_name);
         disk.noted(answer)
     }
 
     fn link_into(&self, name: &[u8], other: &FakeDirectory<'a>, new_name: &[u8]) -> io::Result<()> {
-        let mut disk = self.called(Call::LinkInto, name)?;
-        let answer = disk.link(self.node, name, other.node, new_name);
+        let mut disk = self.handle.called(Call::LinkInto, name)?;
+        let answer = disk.link(self.handle.node, name, other.handle.node, new_name);
         disk.noted(answer)
     }
 
     fn allow(&self, mode: u32) -> io::Result<()> {
-        let mut disk = self.called(Call::Allow, b"")?;
-        let answer = disk.allow(self.node, mode);
+        let mut disk = self.handle.called(Call::Allow, b"")?;
+        let answer = disk.allow(self.handle.node, mode);
         disk.noted(answer)
     }
 
     fn allow_in(&self, name: &[u8], mode: u32) -> io::Result<()> {
-        let mut disk = self.called(Call::AllowIn, name)?;
-        let answer = disk.allow_in(self.node, name, mode);
+        let mut disk = self.handle.called(Call::AllowIn, name)?;
+        let answer = disk.allow_in(self.handle.node, name, mode);
         disk.noted(answer)
     }
 }

@@ -41,6 +41,8 @@ pub struct Node {
     pub what: What,
     pub mode: u32,
     pub maker: Maker,
+    /// How often it is open.
+    opened: u32,
     /// What is in a file, or what a link says.
     pub bytes: Vec<u8>,
 }
@@ -89,6 +91,7 @@ impl Tree {
             what,
             mode,
             maker,
+            opened: 0,
             bytes: Vec::new(self.alloc),
         })?;
         Ok(id)
@@ -140,6 +143,38 @@ impl Tree {
     /// Whether it is another run's.
     pub fn is_other(&self, id: NodeId) -> bool {
         self.is_of(id, Maker::Other)
+    }
+
+    /// Notes that a node is opened.
+    pub fn open(&mut self, id: NodeId) {
+        if let Ok(node) = self.node_mut(id) {
+            node.opened = node.opened.saturating_add(1);
+        }
+    }
+
+    /// Notes that it is closed.
+    pub fn close(&mut self, id: NodeId) {
+        if let Ok(node) = self.node_mut(id) {
+            node.opened = node.opened.saturating_sub(1);
+        }
+    }
+
+    /// Whether a node is still there: it has a name, or is open.
+    fn is_there(&self, id: NodeId) -> bool {
+        let is_open = match self.node(id) {
+            Ok(node) => node.opened > 0,
+            Err(_) => false,
+        };
+        is_open || self.entries.iter().any(|entry| entry.node == id)
+    }
+
+    /// Gives a node the number that another one had, unless that is still there.
+    pub fn renew(&mut self, id: NodeId, old: NodeId) -> io::Result<()> {
+        if !self.is_there(old) {
+            let inode = self.node(old)?.inode;
+            self.node_mut(id)?.inode = inode;
+        }
+        Ok(())
     }
 
     /// What has a name in a directory.

@@ -44,9 +44,9 @@ pub enum Change {
     Directory,
     File,
     Fifo,
-    /// A file comes in its place that gets the number of what was there.
+    /// A file comes in its place that gets the number of what was there, if that is gone.
     Renewed,
-    /// A link comes in its place, to this, which gets the number of what was there.
+    /// A link comes in its place, to this, which gets the number of what was there, if that is gone.
     RenewedLink(NodeId),
 }
 

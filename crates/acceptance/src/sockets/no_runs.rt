@@ -9,7 +9,7 @@ use program_status::{Fault, Output};
 use run_calls::RunKey;
 use run_outcomes::Outcome;
 use runner::RunFault;
-use serve::{ErrorLines, LoggedSockets, Nobody, Runs, Sockets, Tally, serve};
+use serve::{Doing, ErrorLines, LoggedSockets, Nobody, Runs, Sockets, Tally, serve};
 use server_core::LentTask;
 use server_events::Configs;
 use std::alloc::{AllocError, Global};
@@ -42,8 +42,12 @@ impl Runs for NoRuns {
         None
     }
 
-    fn next_waits(&self) -> bool {
-        false
+    fn next_doing(&self) -> Doing {
+        Doing::Goes
+    }
+
+    fn look(&mut self, _number: usize) -> Option<RunKey> {
+        None
     }
 
     fn ask(

@@ -267,6 +267,10 @@ def folders(checks):
         checks.ends(checks.serve("roots", word()), 1, told, **plain)
         told = "remoted: cannot make closed/new: Permission denied (os error 13)\n"
         checks.ends(checks.serve("closed/new", word()), 1, told, **plain)
+        os.mkdir(os.path.join(checks.folder, "barred"), 0o700)
+        for option in ["--stop", "--end"]:
+            told = f"remoted: {option} is looked for in barred: Permission denied (os error 13)\n"
+            checks.ends(checks.serve("unmade", option, "barred/in", word()), 1, told, **plain)
     else:
         print("skipped a folder of another user: it needs root")
 

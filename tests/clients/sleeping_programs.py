@@ -10,6 +10,7 @@ which `cc` makes.
 """
 
 import os
+import signal
 import sys
 import tempfile
 import time
@@ -28,28 +29,33 @@ class Sleepers:
     """Programs that sleep, of as many teams as they take."""
 
     def __init__(self, ports, count):
+        self.seconds = f"{SECONDS}{count:04}"
         self.peers = [Peer(port) for port in ports[: count // SLOTS]]
         for number in range(count):
-            peer, action = self.peers[number // SLOTS], Action(["/bin/sleep", f"{SECONDS}{number:04}"])
+            peer, action = self.peers[number // SLOTS], Action(["/bin/sleep", f"{self.seconds}{number:04}"])
             peer.store(action.blobs)
             peer.begin(EXECUTE, m.field(6, action.digest))
         for _ in range(1200):
-            if sleeping() == count:
+            if len(self.processes()) == count:
                 return
             time.sleep(0.1)
-        raise SystemExit(f"FAULT only {sleeping()} of {count} programs have begun within two minutes")
+        raise SystemExit(f"FAULT only {len(self.processes())} of {count} programs have begun within two minutes")
 
+    def processes(self):
+        """The numbers of those that sleep."""
+        found = []
+        for process in filter(str.isdigit, os.listdir("/proc")):
+            try:
+                with open(f"/proc/{process}/cmdline", "rb") as file:
+                    if file.read().startswith(b"/bin/sleep\0" + self.seconds.encode()):
+                        found.append(int(process))
+            except OSError:
+                pass
+        return found
 
-def sleeping():
-    """How many of the programs sleep."""
-    count = 0
-    for process in filter(str.isdigit, os.listdir("/proc")):
-        try:
-            with open(f"/proc/{process}/cmdline", "rb") as file:
-                count += file.read().startswith(b"/bin/sleep\0" + SECONDS.encode())
-        except OSError:
-            pass
-    return count
+    def end(self):
+        for process in self.processes():
+            os.kill(process, signal.SIGKILL)
 
 
 def shares(load, server, port):
@@ -91,8 +97,9 @@ def try_calls(load, server, begin, count):
     port = server.ports[-1]
     alone = shares(load, server, port)
     without = idle_part(server)
-    _sleepers = begin()
+    sleepers = begin()
     beside, part = shares(load, server, port), idle_part(server)
+    sleepers.end()
     kept = {kind: beside[kind] / alone[kind] for kind in alone}
     holds = kept["call"] >= 0.9 and min(kept["write"], kept["read"]) >= 0.95 and part <= without + 0.03
     words = ", ".join(f"{kind} keeps {part:.2f}" for kind, part in kept.items())
@@ -103,8 +110,9 @@ def try_calls(load, server, begin, count):
 def try_true(load, server, begin, count):
     port = server.ports[-1]
     alone = milliseconds_of_true(port)
-    _sleepers = begin()
+    sleepers = begin()
     beside = min(milliseconds_of_true(port) for _ in range(ROUNDS))
+    sleepers.end()
     holds = beside <= 1.2 * alone
     print(f"{'ok' if holds else 'FAULT'} /bin/true takes {alone:.2f} ms alone, {beside:.2f} beside {count} that sleep", flush=True)
     return holds

@@ -10,21 +10,24 @@ const MOST_FOUND: usize = 16;
 /// How many of those are looked at each time that were started last: most programs end soon.
 const LATEST: usize = 8;
 
-/// How many of the others, in a circle.
-const IN_CIRCLE: usize = 40;
+/// How many of the others at least, in a circle, and at most: a sixteenth of them between these.
+const LEAST_IN_CIRCLE: usize = 16;
 
-/// With how many numbers programs are looked at: with the last one, none is, and one is told.
-pub(crate) const LOOKS: usize = MOST_FOUND + LATEST + IN_CIRCLE + 1;
+const MOST_IN_CIRCLE: usize = 64;
 
-/// What is known of the programs that run. To look at one takes a call of the system.
+/// With how many numbers programs are looked at that run.
+pub(crate) const LOOKS: usize = MOST_FOUND + MOST_IN_CIRCLE + LATEST;
+
+/// What is known of the programs that run, and of those that are looked for. To look at one that
+/// runs takes a call of the system.
 #[derive(Drop)]
 pub(crate) struct Looks {
     /// Those that were found to have ended, until they are asked.
     found: Vec<RunKey>,
-    /// The place of that which is looked at next of the others.
+    /// The place of that which is looked at next of those that were not started last.
     next: usize,
-    /// The place of that which is told next, whether or not it has ended.
-    told: usize,
+    /// The place of that which is told next of those that are looked for.
+    sought: usize,
 }
 
 /// Whether the program of a run is to be asked.
@@ -43,20 +46,17 @@ impl Looks {
         Looks {
             found: Vec::new(alloc),
             next: 0,
-            told: 0,
+            sought: 0,
         }
     }
 
-    /// The run of a program that is to be asked, if that is which this number chooses.
+    /// The run of a program that is to be asked, if that is which this number chooses. The circle
+    /// comes first, into which all get: where more end than can be asked, none waits for ever.
     pub(crate) fn look(&mut self, started: &mut [Started], number: usize) -> Option<RunKey> {
         if number < MOST_FOUND {
             return self.found_at(started, number);
         }
-        let behind = number - MOST_FOUND;
-        if behind >= LATEST + IN_CIRCLE {
-            return self.next_told(started);
-        }
-        let place = self.place(started.len(), behind)?;
+        let place = self.place(started.len(), number - MOST_FOUND)?;
         let one = started.get_mut(place)?;
         if !one.is_to_ask() {
             return None;
@@ -64,6 +64,16 @@ impl Looks {
         let run = one.run();
         self.note(run);
         Some(run)
+    }
+
+    /// The place of one that is looked for, of so many, in a circle.
+    pub(crate) fn sought_place(&mut self, count: usize, number: usize) -> Option<usize> {
+        if number >= count {
+            return None;
+        }
+        let place = if self.sought < count { self.sought } else { 0 };
+        self.sought = place + 1;
+        Some(place)
     }
 
     /// One that was found to have ended. It is forgotten where it was asked since.
@@ -86,27 +96,16 @@ impl Looks {
 
     /// The place of that which is looked at, of so many.
     fn place(&mut self, count: usize, number: usize) -> Option<usize> {
-        if number < LATEST {
-            return count.checked_sub(number + 1);
+        if number >= MOST_IN_CIRCLE {
+            return count.checked_sub(number - MOST_IN_CIRCLE + 1);
         }
         let others = count.saturating_sub(LATEST);
-        if number - LATEST >= others {
+        let most = (others / 16).clamp(LEAST_IN_CIRCLE, MOST_IN_CIRCLE);
+        if number >= most.min(others) {
             return None;
         }
         let place = if self.next < others { self.next } else { 0 };
         self.next = place + 1;
         Some(place)
-    }
-
-    /// The next of all, in a circle, whatever it does.
-    fn next_told(&mut self, started: &[Started]) -> Option<RunKey> {
-        let place = if self.told < started.len() {
-            self.told
-        } else {
-            0
-        };
-        let one = started.get(place)?;
-        self.told = place + 1;
-        Some(one.run())
     }
 }

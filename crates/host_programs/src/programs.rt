@@ -23,7 +23,7 @@ use crate::starting::{add_variables, bare_command};
 use crate::way::Way;
 use host_files::{root_path, working_path};
 use host_shells::Sessions;
-use run_calls::{Command as Ordered, MOST_LOOKS, Place, Programs, RunKey, Stream};
+use run_calls::{Command as Ordered, Place, Programs, RunKey, Stream};
 use std::cell::Cell;
 use std::fs::File;
 use std::io::{self, ErrorKind};
@@ -245,17 +245,19 @@ impl<'a, R: Clock + Files<File = File> + AllocGlobal, S: Spawner> Table<'a, R, S
         }
     }
 
-    /// Looks at what this number chooses. What is looked for comes before what runs.
+    /// Looks at what this number chooses. What is looked for comes behind what runs, as to go on
+    /// with it takes longer.
     fn look(&mut self, number: usize) -> Option<RunKey>
         ensures spawner { self.new.spawner ≡ self.old.spawner }
         ensures way { self.new.way ≡ self.old.way }
         ensures same { KeepsWay self.old self.new }
     {
-        let sought = MOST_LOOKS - LOOKS;
-        if number < sought {
-            return self.way.sought_at(number);
+        if number < LOOKS {
+            return self.looks.look(&mut self.started, number);
         }
-        self.looks.look(&mut self.started, number - sought)
+        let count = self.way.sought_count();
+        let place = self.looks.sought_place(count, number - LOOKS)?;
+        self.way.sought_at(place)
     }
 
     fn kill(&mut self, run: RunKey) -> io::Result<bool>

@@ -4,13 +4,15 @@ use host_files::is_executable;
 use run_calls::Command as Ordered;
 use std::fs;
 use std::io::{self, ErrorKind};
-use std::rt::Files;
+use std::rt::{Clock, Files};
+use std::time::{Duration, Instant};
 
 /// Where a program with no slash in its name is looked for if its environment has no `PATH`.
 const DEFAULT_PATH: &str = "/bin:/usr/bin";
 
-/// In how many folders it is looked at a time.
-const MOST_FOLDERS: usize = 1_024;
+/// For how many microseconds no further folder is begun: to look in one may go through links, and
+/// take as long as a thousand others.
+const MOST_TIME: u64 = 200;
 
 /// The most bytes of a path that the system takes.
 const MOST_PATH: usize = 4_095;
@@ -64,10 +66,10 @@ enum Place {
     Nothing,
 }
 
-/// Goes on with the search for a program that can be executed, in a bounded number of folders. A
-/// name with a slash in it is one from the working directory on; any other is looked for along the
-/// command's own `PATH`.
-pub(crate) fn search_from<R: Files + AllocGlobal>(
+/// Goes on with the search for a program that can be executed, for a bounded time. A name with a
+/// slash in it is one from the working directory on; any other is looked for along the command's own
+/// `PATH`.
+pub(crate) fn search_from<R: Clock + Files + AllocGlobal>(
     rt: &R,
     directory: &str,
     ordered: &Ordered,
@@ -85,19 +87,18 @@ pub(crate) fn search_from<R: Files + AllocGlobal>(
         });
     }
     let path = search_path(ordered);
+    let begun = Instant::now(rt)?;
     let mut next = progress;
-    for folder in path
-        .get(next.from..)
-        .unwrap_or("")
-        .split(':')
-        .take(MOST_FOLDERS)
-    {
+    for folder in path.get(next.from..).unwrap_or("").split(':') {
         match look(rt, directory, folder, program)? {
             Place::Program => return Ok(Search::Found),
             Place::Refused => next.is_refused = true,
             Place::Nothing => {}
         }
         next.from = next.from.saturating_add(folder.len()).saturating_add(1);
+        if begun.elapsed(rt)? >= Duration::from_micros(MOST_TIME) {
+            break;
+        }
     }
     Ok(if next.from > path.len() {
         next.over()

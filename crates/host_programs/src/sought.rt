@@ -8,7 +8,7 @@ use crate::search::{Progress, Search, search_from};
 use run_calls::{Command as Ordered, RunKey, Variable};
 use std::alloc::{AllocError, Global};
 use std::io;
-use std::rt::Files;
+use std::rt::{Clock, Files};
 
 /// A program whose search path is so long that it is still looked for.
 #[derive(Drop)]
@@ -103,7 +103,7 @@ impl Sought {
     }
 
     /// Goes on with the search.
-    pub(crate) fn go_on<R: Files + AllocGlobal>(&mut self, rt: &R) -> io::Result<Search>
+    pub(crate) fn go_on<R: Clock + Files + AllocGlobal>(&mut self, rt: &R) -> io::Result<Search>
         ensures { sought_shown self.new ≡ sought_shown self.old }
     {
         let found = search_from(rt, self.directory.as_str(), &self.ordered, self.progress)?;

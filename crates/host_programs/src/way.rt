@@ -71,6 +71,14 @@ impl Way {
         }
     }
 
+    /// How many are still looked for.
+    pub(crate) fn sought_count(&self) -> usize {
+        match self {
+            Way::By(_) => 0,
+            Way::AsTheyAre(sought) => sought.len(),
+        }
+    }
+
     /// The run of the one at this place that is still looked for.
     pub(crate) fn sought_at(&self, at: usize) -> Option<RunKey> {
         match self {

@@ -48,6 +48,14 @@ impl EndedJobs {
         }
     }
 
+    /// Whether no job is to be ended.
+    pub(crate) fn is_empty(&self) -> bool {
+        self.instances.iter().all(|jobs| match jobs.try_borrow() {
+            Ok(numbers) => numbers.is_empty(),
+            Err(_) => false,
+        })
+    }
+
     /// Whether a job is to be ended. Its number is forgotten: a job is told once that it failed.
     pub(crate) fn take(&self, run: RunKey) -> bool {
         let Some(jobs) = self.instances.get(run.instance as usize) else {

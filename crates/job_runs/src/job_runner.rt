@@ -1,10 +1,10 @@
 //! Runs that a runner carries out.
 
-ghost use Rattle.std.specs.Prelude.{◌≡◌, ◌≤◌, ◌<◌, ◌⊎◌, ◌+◌, ◌++◌, ◌∷◌, ◌||◌, [], true, false, Some, None, Ok, OnOk, OnErr, IfOk, IfSome, length, nat_lt, slice_get, vec_capacity, vec_len};
+ghost use Rattle.std.specs.Prelude.{◌≡◌, ◌≤◌, ◌<◌, ◌⊎◌, ◌+◌, ◌++◌, ◌∷◌, ◌||◌, ℕ, [], true, false, Some, None, Ok, OnOk, OnErr, IfOk, IfSome, length, nat_lt, slice_get, vec_capacity, vec_len};
 ghost use Rattle.std.specs.List.{list_any};
 ghost use Rattle.std.specs.Option.{is_some, option_map};
 ghost use Rattle.runner.specs.Faults.{Counted};
-ghost use Rattle.runner.specs.Runs.{HasNone, IsAsked, IsOver, can_go_on, is_run_of};
+ghost use Rattle.runner.specs.Runs.{HasNone, IsAsked, IsOver, can_go_on, is_run_of, runs_at};
 ghost use Rattle.runner.specs.declared.stage.Run.{Run};
 ghost use Rattle.job_runs.specs.Texts.{numbered_text};
 ghost use Rattle.server_core.specs.Lent.{lent_shown};
@@ -111,7 +111,10 @@ impl<F: Folder + Drop, P: Programs + Drop> JobRunner<F, P> {
     }
 
     /// The place of the run that comes next.
-    fn place(&self) -> usize {
+    fn place(&self) -> usize
+        ensures { result ≡ turn_in (count_of (asked_keys self.now.runner.runs.items
+            self.now.to_begin.items self.now.together)) self.now.next }
+    {
         if self.next < self.count() {
             self.next
         } else {
@@ -359,11 +362,7 @@ impl<F: Folder + Drop, P: Programs + Drop> Runs for JobRunner<F, P> {
         ensures together { (key : RunKey) → IsAmong key self.old.together
             → (result ≡ Some key) ⊎ IsAmong key self.new.together }
     {
-        let place = if self.next < self.count() {
-            self.next
-        } else {
-            0
-        };
+        let place = self.place();
         self.next = place.saturating_add(1);
         let of_runner = self.runner.count();
         if place < of_runner {
@@ -431,6 +430,26 @@ impl<F: Folder + Drop, P: Programs + Drop> Runs for JobRunner<F, P> {
         } else {
             Doing::Goes
         }
+    }
+
+    fn pass(&mut self) -> usize
+        ensures carries { CarriesRuns
+            (Carry self.old.runner.runs.items self.old.to_begin.items
+            (F.asked self.old.runner.folder) (P.asked self.old.runner.programs))
+            (Carry self.new.runner.runs.items self.new.to_begin.items
+            (F.asked self.new.runner.folder) (P.asked self.new.runner.programs))
+            ([]) }
+        ensures runner { self.new.runner ≡ self.old.runner }
+        ensures to_begin { self.new.to_begin ≡ self.old.to_begin }
+        ensures together { self.new.together ≡ self.old.together }
+        ensures passed { let keys = asked_keys self.old.runner.runs.items
+            self.old.to_begin.items self.old.together in
+            (at : ℕ) → turn_in (count_of keys) self.old.next ≤ at → at < self.new.next
+            → runs_at self.old.runner.runs.items at ≡ true }
+    {
+        let place = self.place();
+        self.next = self.runner.first_to_ask(place).max(place);
+        self.next - place
     }
 
     fn look(&mut self, number: usize) -> Option<RunKey>

@@ -337,6 +337,26 @@ impl<'a, F: Folder + Drop, P: Programs + Drop> Runs for OperatedRuns<'a, F, P> {
         }
     }
 
+    /// None, while a job is to be ended.
+    fn pass(&mut self) -> usize
+        ensures carries { CarriesRuns
+            (Carry self.old.runs.runner.runs.items self.old.runs.to_begin.items
+            (F.asked self.old.runs.runner.folder) (P.asked self.old.runs.runner.programs))
+            (Carry self.new.runs.runner.runs.items self.new.runs.to_begin.items
+            (F.asked self.new.runs.runner.folder) (P.asked self.new.runs.runner.programs))
+            ([]) }
+        ensures adds { AddsRuns None None [] }
+        ensures runner { self.new.runs.runner ≡ self.old.runs.runner }
+        ensures to_begin { self.new.runs.to_begin ≡ self.old.runs.to_begin }
+        ensures together { self.new.runs.together ≡ self.old.runs.together }
+    {
+        if self.oversight.ended.is_empty() {
+            self.runs.pass()
+        } else {
+            0
+        }
+    }
+
     fn look(&mut self, number: usize) -> Option<RunKey>
         ensures carries { CarriesRuns
             (Carry self.old.runs.runner.runs.items self.old.runs.to_begin.items

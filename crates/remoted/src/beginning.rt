@@ -122,6 +122,17 @@ pub fn can_open<E: Write>(instances: &Instances, errors: &mut E) -> io::Result<b
     Ok(most >= fewest)
 }
 
+/// Whether this is a folder, in which a file can be looked for.
+fn may_look_for(rt: &HostRuntime, folder: &str, path: &str) -> io::Result<bool> {
+    if !fs::metadata(rt, folder)?.is_dir() {
+        return Ok(false);
+    }
+    match fs::symlink_metadata(rt, path) {
+        Err(error) if error.kind() != ErrorKind::NotFound => Err(error),
+        _ => Ok(true),
+    }
+}
+
 /// Whether the folder is there in which the file of an option is looked for. Where it is not, that
 /// is told: the file would never be found.
 pub fn has_folder<E: Write>(
@@ -134,8 +145,8 @@ pub fn has_folder<E: Write>(
         return Ok(true);
     };
     let folder = folder_of(path);
-    match fs::metadata(rt, folder) {
-        Ok(found) if found.is_dir() => return Ok(true),
+    match may_look_for(rt, folder, path) {
+        Ok(true) => return Ok(true),
         Err(error) if is_memory(&error) => return Err(error),
         Err(error) if error.kind() != ErrorKind::NotFound => {
             writeln!(

@@ -14,7 +14,7 @@ pub enum Stream {
 }
 
 /// With how many numbers programs are looked at, once a millisecond.
-pub const MOST_LOOKS: usize = 73;
+pub const MOST_LOOKS: usize = 97;
 
 /// The programs of runs, one for each. No call waits for a program.
 pub trait Programs {

@@ -1,5 +1,6 @@
 -- The runs of a runner, and what its calls make of them.
-use Rattle.std.specs.Prelude.{◌≡◌, ◌==◌, ◌&&◌, ◌⊎◌, ⊤, ℕ, Bool, true, false, List, [], ◌∷◌, ◌++◌, take, drop, Option, Some, None, option_map, Result, Ok, Err}
+use Rattle.std.specs.Prelude.{◌≡◌, ◌==◌, ◌&&◌, ◌⊎◌, ⊤, ℕ, Bool, true, false, List, [], ◌∷◌, ◌++◌, take, drop, Option, Some, None, option_map, slice_get, Result, Ok, Err}
+use Rattle.std.specs.Option.{option_map_or}
 use Rattle.std.specs.List.{list_any}
 use Rattle.run_calls.specs.declared.task.RunKey.{RunKey}
 use Rattle.run_calls.specs.declared.task.Task.{Task}
@@ -76,6 +77,10 @@ abbrev pub runs_program : State → Bool
 runs_program (Live (stages.Running outputs)) = true
 runs_program (Live s) = false
 runs_program (Over e) = false
+
+-- whether the program of the run of this number runs
+abbrev pub runs_at : List Run → ℕ → Bool
+runs_at runs at = option_map_or (λ (run : Run). runs_program run.state) (slice_get runs at) false
 
 -- ---- of runs that are over
 

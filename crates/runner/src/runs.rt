@@ -1,12 +1,12 @@
 //! Runs, from their start to their end.
 
-ghost use Rattle.std.specs.Prelude.{◌≡◌, ◌<◌, ◌≤◌, ◌++◌, ◌∷◌, ◌⊎◌, [], false, not, None, Some, Ok, IfOk, IfErr, IfSome, IfNone, OnOk, OnErr, length, vec_len, option_map, slice_get};
+ghost use Rattle.std.specs.Prelude.{◌≡◌, ◌<◌, ◌≤◌, ◌++◌, ◌∷◌, ◌⊎◌, ℕ, [], true, false, not, None, Some, Ok, IfOk, IfErr, IfSome, IfNone, OnOk, OnErr, length, vec_len, option_map, slice_get};
 ghost use Rattle.std.specs.List.{list_any};
 ghost use Rattle.std.specs.Option.{option_map_or};
 ghost use Rattle.runner.specs.Bounds.{AddsAtMost, most_calls};
 ghost use Rattle.runner.specs.Faults.{Counted, FaultFailed};
 ghost use Rattle.runner.specs.Sizes.{IsCounted};
-ghost use Rattle.runner.specs.Runs.{Becomes, EndsBy, KillsBy, HasNone, can_go_on, ending_of, IsAt, IsAsked, IsKilled, IsOver, IsStarted, is_run_of, kept_at, runs_program, still_left};
+ghost use Rattle.runner.specs.Runs.{Becomes, EndsBy, KillsBy, HasNone, can_go_on, ending_of, IsAt, IsAsked, IsKilled, IsOver, IsStarted, is_run_of, kept_at, runs_at, runs_program, still_left};
 ghost use Rattle.runner.specs.declared.stage.Ending.TheVariants.{Removing};
 ghost use Rattle.runner.specs.declared.stage.Run.{Run};
 ghost use Rattle.runner.specs.declared.stage.State.TheVariants.{Over};
@@ -273,13 +273,26 @@ impl<F: Folder + Drop, P: Programs + Drop> Runner<F, P> {
 
     /// Whether the program of the run of this number runs.
     pub fn runs_program(&self, at: usize) -> bool
-        ensures { result ≡ option_map_or (λ (run : Run). runs_program run.state)
-            (slice_get self.now.runs.items at) false }
+        ensures { result ≡ runs_at self.now.runs.items at }
     {
         match self.runs.get(at) {
             Some(run) => runs_program(&run.state),
             None => false,
         }
+    }
+
+    /// The number of the first run, from this one on, whose program does not run; the count, where
+    /// the programs of all of these run.
+    pub fn first_to_ask(&self, from: usize) -> usize
+        ensures passed { (at : ℕ) → from ≤ at → at < result
+            → runs_at self.now.runs.items at ≡ true }
+    {
+        for at in from..self.runs.len() {
+            if !self.runs_program(at) {
+                return at;
+            }
+        }
+        self.runs.len()
     }
 
     /// Looks at one of the programs, which this number chooses, and says of which run one is to be

@@ -19,9 +19,6 @@ use server_core::LentTask;
 use server_events::{Configs, What};
 use std::io::Write;
 
-/// How many runs come up at most in a millisecond in which none can go on at once.
-const MOST_PASSED: usize = 256;
-
 /// How much is told at most of why a run failed.
 const MOST_TOLD: u32 = 400;
 
@@ -84,7 +81,7 @@ fn told<R: Runs, E: Write>(
     }
 }
 
-/// Goes on with a run, and tells the server what came of it.
+/// Goes on with a run, and tells the server what came of it. Whether anything came of it.
 fn ask<R: Runs, E: Write>(
     counting: &mut Counting,
     configs: &Configs,
@@ -92,7 +89,7 @@ fn ask<R: Runs, E: Write>(
     errors: &mut ErrorLines<E>,
     moment: u64,
     run: RunKey,
-)
+) -> bool
     ensures serving { (sockets : Option (List SocketEvent)) → KeepsServingBegun run
         sockets (R.happened runs.old) counting.old moment
         sockets (R.happened runs.new) counting.new moment }
@@ -102,26 +99,24 @@ fn ask<R: Runs, E: Write>(
 {
     let task = counting.server.lend(run.instance, run.job);
     let answer = runs.ask(run, task);
-    if let Some(outcome) = told(errors, configs, moment, runs, run, task, answer) {
-        let ended = What::Outcome(run.job, outcome);
-        let _ = tell(counting, runs, moment, run.instance, ended);
+    match told(errors, configs, moment, runs, run, task, answer) {
+        Some(outcome) => {
+            let ended = What::Outcome(run.job, outcome);
+            let _ = tell(counting, runs, moment, run.instance, ended);
+            true
+        }
+        None => false,
     }
 }
 
-/// How many of so many runs come up in a turn. Where none can go on at once, all wait for programs
-/// or folders: some come up then where it is due, once a millisecond, and else none.
+/// How many of so many runs come up in a turn: each once. Where none can go on at once, all wait for
+/// programs or folders: they come up then where it is due, once a millisecond, and else none does.
 fn most_passed(count: usize, is_busy: bool, is_due: bool) -> usize
     ensures busy { is_busy ≡ true → result ≡ count }
-    ensures due { is_busy ≡ false → is_due ≡ true → result ≡ min count 256 }
+    ensures due { is_due ≡ true → result ≡ count }
     ensures waiting { is_busy ≡ false → is_due ≡ false → result ≡ 0 }
 {
-    if is_busy {
-        count
-    } else if is_due {
-        count.min(MOST_PASSED)
-    } else {
-        0
-    }
+    if is_busy || is_due { count } else { 0 }
 }
 
 /// The same where it is asked now.
@@ -133,7 +128,7 @@ fn ask_if<R: Runs, E: Write>(
     moment: u64,
     run: RunKey,
     is_asked: bool,
-)
+) -> bool
     ensures serving { (sockets : Option (List SocketEvent)) → KeepsServingBegun run
         sockets (R.happened runs.old) counting.old moment
         sockets (R.happened runs.new) counting.new moment }
@@ -142,12 +137,14 @@ fn ask_if<R: Runs, E: Write>(
         (E.contents errors.new.output) errors.new.backlog }
 {
     if is_asked {
-        ask(counting, configs, runs, errors, moment, run);
+        ask(counting, configs, runs, errors, moment, run)
+    } else {
+        false
     }
 }
 
 /// Asks those runs, once a millisecond, of which it is found that their programs have ended, as some
-/// of the programs are looked at.
+/// of the programs are looked at. For the looks nobody is charged.
 fn ask_ended<S: Sockets, R: Runs, E: Write>(
     counting: &mut Counting,
     pace: &mut Pace,
@@ -173,8 +170,10 @@ fn ask_ended<S: Sockets, R: Runs, E: Write>(
         let Some(run) = runs.look(number) else {
             continue;
         };
+        pace.leave_out(sockets.passed());
         let is_asked = pace.takes(run.instance, Doing::Goes);
-        ask_if(counting, configs, runs, errors, moment, run, is_asked);
+        let is_told = ask_if(counting, configs, runs, errors, moment, run, is_asked);
+        pace.note_told(is_told);
         if is_asked && pace.note_asked(sockets, sockets.passed(), run.instance) {
             break;
         }
@@ -184,7 +183,8 @@ fn ask_ended<S: Sockets, R: Runs, E: Write>(
 /// Goes on with the runs of those instances whose turn it is, or with as many as it takes until
 /// they had their time of this turn: the next one begins with the others. Of those that wait for
 /// folders a share is asked once a millisecond, which is when they are due, and of those whose
-/// programs run those that have ended. It says whether a run can go on at once.
+/// programs run those that have ended. It says whether one was asked that could go on, or anything
+/// came of one.
 pub(crate) fn ask_all<S: Sockets, R: Runs, E: Write>(
     counting: &mut Counting,
     pace: &mut Pace,
@@ -202,17 +202,25 @@ pub(crate) fn ask_all<S: Sockets, R: Runs, E: Write>(
         (E.contents errors.new.output) errors.new.backlog }
 {
     ask_ended(counting, pace, configs, sockets, runs, errors, moment);
+    pace.leave_out(sockets.passed());
     let most = most_passed(runs.count(), runs.is_busy(), pace.is_due());
+    let mut passed: usize = 0;
     for _ in 0..most {
+        passed = passed.saturating_add(runs.pass());
+        if passed >= most {
+            break;
+        }
+        passed = passed.saturating_add(1);
         let doing = runs.next_doing();
         let Some(run) = runs.next() else {
             break;
         };
         let is_asked = pace.takes(run.instance, doing);
-        ask_if(counting, configs, runs, errors, moment, run, is_asked);
+        let is_told = ask_if(counting, configs, runs, errors, moment, run, is_asked);
+        pace.note_told(is_told);
         if is_asked && pace.note_asked(sockets, sockets.passed(), run.instance) {
             break;
         }
     }
-    runs.is_busy()
+    pace.goes_on(runs.is_busy())
 }

@@ -256,6 +256,10 @@ impl<R: Runs> Runs for LoggedRuns<R> {
         self.runs.next_doing()
     }
 
+    fn pass(&mut self) -> usize {
+        self.runs.pass()
+    }
+
     /// None is where, by the log, that run was not begun.
     fn look(&mut self, number: usize) -> Option<RunKey> {
         let run = self.runs.look(number)?;

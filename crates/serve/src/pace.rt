@@ -36,6 +36,12 @@ const LEAST_HELD: u64 = 300;
 /// For how many milliseconds at most nothing is told where nothing comes and nothing runs.
 const QUIET_TIME: u64 = 50;
 
+/// For how many milliseconds where programs run, and nothing moved for some time.
+const CALM_TIME: u64 = 5;
+
+/// For how many microseconds that is.
+const CALM_AFTER: u64 = 64_000;
+
 /// For how many microseconds of a turn runs are asked.
 const MOST_ASKED: u64 = 1_000;
 
@@ -61,6 +67,8 @@ pub(crate) struct Pace {
     is_passed_over: bool,
     /// Until when an instance rests at most.
     rests_until: u64,
+    /// When something moved last.
+    moved: u64,
     /// When the last turn had ended in which an instance used up its slice.
     full_ended: u64,
     /// What that one had of it.
@@ -75,6 +83,10 @@ pub(crate) struct Pace {
     waiting: usize,
     /// What asking runs took in this turn.
     asked: u64,
+    /// Whether one was asked that could go on.
+    has_gone_on: bool,
+    /// Whether anything came of one.
+    has_told: bool,
     /// Whether a dear piece ended this turn.
     is_spent: bool,
     /// The place of the connection from which on those of the heavy one are tried.
@@ -93,6 +105,7 @@ impl Pace {
             has_heavy: false,
             is_passed_over: false,
             rests_until: 0,
+            moved: 0,
             full_ended: 0,
             full_took: 0,
             is_heavy_now: false,
@@ -100,6 +113,8 @@ impl Pace {
             is_due: false,
             waiting: 0,
             asked: 0,
+            has_gone_on: false,
+            has_told: false,
             is_spent: false,
             from: 0,
         })
@@ -120,6 +135,8 @@ impl Pace {
         self.is_due = is_due;
         self.waiting = MOST_WAITING;
         self.asked = 0;
+        self.has_gone_on = false;
+        self.has_told = false;
         self.is_spent = false;
         let mut number: u32 = 0;
         let mut most = 0;
@@ -195,18 +212,27 @@ impl Pace {
 
     /// For how many milliseconds the sockets may wait for something to come, behind a turn: not at
     /// all where something moved, or where a heavy instance was passed over, which may go on; for one
-    /// where there are runs, which are to be asked, or where an instance may rest.
-    pub(crate) fn patience(&self, has_moved: bool, has_runs: bool) -> u64
+    /// where an instance may rest, or where there are runs, which are to be looked at; for some of
+    /// these where nothing moved for longer.
+    pub(crate) fn patience(&mut self, has_moved: bool, has_runs: bool) -> u64
         ensures at_once { has_moved ≡ true → result ≡ 0 }
-        ensures passed_over { self.now.is_passed_over ≡ true → result ≡ 0 }
+        ensures passed_over { self.old.is_passed_over ≡ true → result ≡ 0 }
+        ensures runs { has_runs ≡ true → result ≤ 5 }
         ensures bound { result ≤ 50 }
     {
+        if has_moved {
+            self.moved = self.passed;
+        }
         if has_moved || self.is_passed_over {
             0
-        } else if has_runs || self.may_rest() {
+        } else if self.may_rest() {
+            1
+        } else if !has_runs {
+            QUIET_TIME
+        } else if self.passed.saturating_sub(self.moved) < CALM_AFTER {
             1
         } else {
-            QUIET_TIME
+            CALM_TIME
         }
     }
 
@@ -338,7 +364,10 @@ impl Pace {
             return false;
         }
         match doing {
-            Doing::Goes => true,
+            Doing::Goes => {
+                self.has_gone_on = true;
+                true
+            }
             Doing::Waits => {
                 if self.is_due {
                     self.waiting = self.waiting.saturating_sub(1);
@@ -347,6 +376,29 @@ impl Pace {
             }
             Doing::Runs => false,
         }
+    }
+
+    /// What was done since the clock was read last was done for nobody. It shows this.
+    pub(crate) fn leave_out(&mut self, passed: u64)
+        ensures shares { self.new.shares ≡ self.old.shares }
+    {
+        self.passed = passed;
+    }
+
+    /// A run was asked. Whether anything came of it.
+    pub(crate) fn note_told(&mut self, is_told: bool)
+        ensures shares { self.new.shares ≡ self.old.shares }
+    {
+        self.has_told = self.has_told || is_told;
+    }
+
+    /// Whether runs are a reason to wait for nothing behind this turn, where one can go on or none
+    /// can: anything came of one, or one was asked that could go on. One that may not be asked yet
+    /// is none.
+    pub(crate) fn goes_on(&self, is_busy: bool) -> bool
+        ensures waiting { is_busy ≡ false → IsTrue result → self.now.has_told ≡ true }
+    {
+        self.has_told || self.has_gone_on && is_busy
     }
 
     /// When what is done for an instance now is to end, if it can be cut.

@@ -65,6 +65,12 @@ pub trait Runs {
     /// What the run does that comes next.
     fn next_doing(&self) -> Doing;
 
+    /// Passes over those that come next and whose programs run, and says over how many.
+    fn pass(&mut self) -> usize
+        ensures adds { AddsRuns (happened self.old) (happened self.new) [] }
+        ensures carries { CarriesRuns (carries self.old) (carries self.new) [] }
+        ensures no_fault { faulted self.new ≡ faulted self.old };
+
     /// Looks at one of the programs, which this number chooses, and says of which run one is to be
     /// asked, as it has ended. Those are looked at that were started last, and a share of the
     /// others.

@@ -444,8 +444,8 @@ impl Serving {
 ///
 /// What an instance orders is carried out at once. In each turn the runs go on, one after another,
 /// for a millisecond at most; where all wait for programs or folders, 64 of them at most, once a
-/// millisecond. A fault of a run is the outcome of a job that failed, and a line of `errors`, which
-/// is not waited for.
+/// millisecond, or each fifth one where nothing moved for a while. A fault of a run is the outcome
+/// of a job that failed, and a line of `errors`, which is not waited for.
 ///
 /// `numbers`: between two connections that are accepted under one number at the port of an instance
 /// the first is closed.

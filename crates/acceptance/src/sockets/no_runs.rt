@@ -46,6 +46,10 @@ impl Runs for NoRuns {
         Doing::Goes
     }
 
+    fn pass(&mut self) -> usize {
+        0
+    }
+
     fn look(&mut self, _number: usize) -> Option<RunKey> {
         None
     }

@@ -9,8 +9,8 @@ returns-in-Some g c = record {
   lines = answer_lines c.args.configs.now c.args.moment c.args.run _ _ _ _ _ _ _ _ c.ask-answer.ensures.fault c.tell.ensures.no_fault c.in-Some.ensures.line;
 }
 
-pub returns-in_default : goal.returns-in_default
-returns-in_default g c = record {
-  serving = λ sockets configs begun at. asked_none configs sockets _ _ _ _ _ _ _ begun c.lend-task.ensures.task c.ask-answer.ensures.adds c.in_default.ensures.gave at;
-  lines = answer_lines c.args.configs.now c.args.moment c.args.run _ _ _ _ _ _ _ _ c.ask-answer.ensures.fault refl c.in_default.ensures.line;
+pub returns-in-None : goal.returns-in-None
+returns-in-None g c = record {
+  serving = λ sockets configs begun at. asked_none configs sockets _ _ _ _ _ _ _ begun c.lend-task.ensures.task c.ask-answer.ensures.adds c.in-None.ensures.gave at;
+  lines = answer_lines c.args.configs.now c.args.moment c.args.run _ _ _ _ _ _ _ _ c.ask-answer.ensures.fault refl c.in-None.ensures.line;
 }

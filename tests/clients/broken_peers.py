@@ -1,5 +1,5 @@
 #!/usr/bin/env python3
-"""broken_peers.py PROGRAM [--calls N] [--silent]: a caller beside 62 broken peers of the same instance.
+"""broken_peers.py PROGRAM [--calls N] [--silent] [--halves]: a caller beside 62 broken peers of the same instance.
 
 PROGRAM is the built `remoted`. The caller makes N calls (2,000) of FindMissingBlobs one after another, alone and then
 beside 62 peers of each of these kinds in turn:
@@ -7,8 +7,10 @@ beside 62 peers of each of these kinds in turn:
   full    Reads of a blob of a million bytes, of which nothing is ever taken
   endless a request without an end, of which a frame comes each 50 milliseconds
 The 99th percentile of its times has to stay below four times what it is alone. With --silent there are 64 peers in
-the end that say nothing at all, and a caller has to be let in after 60 seconds, or a few more. A line for each kind;
-it ends with status 1 where one is wrong.
+the end that say nothing at all, and a caller has to be let in after 60 seconds, or a few more. With --halves there are
+four other instances instead, of each of which a program sleeps, and over 60 connections 6,000 calls wait of which five bytes
+came: a minute later the caller's 99th percentile stays below four times what it is beside the programs alone. A line for
+each kind; it ends with status 1 where one is wrong.
 """
 
 import argparse
@@ -17,6 +19,7 @@ import multiprocessing
 import time
 
 import messages as m
+from executing import Action, Peer
 from raw import PREFACE, WINDOWS, Connection, block, connect, frame
 from server import Server
 
@@ -105,12 +108,44 @@ def let_in(port):
     raise SystemExit("64 silent peers let nobody in for 75 seconds")
 
 
+def half_calls(port):
+    """Connections on which 100 calls wait, of whose messages five bytes came."""
+    opened = [connect(port) for _ in range(60)]
+    streams = range(1, 201, 2)
+    halves = b"".join(frame(1, 4, each, block(m.FIND_MISSING)) + frame(0, 0, each, b"\0\0\0\1\0") for each in streams)
+    for each in opened:
+        each.sendall(PREFACE + WINDOWS + halves)
+    return opened
+
+
+def beside_halves(program, calls):
+    teams = [(f"team{number}", 10**8, 1) for number in range(4)]
+    with Server(program, [*teams, ("main", 10**8)]) as server:
+        for number, port in enumerate(server.ports[:4]):
+            with Peer(port) as peer:
+                peer.next(peer.start(Action(["/bin/sleep", f"100.{number}"], seconds=100)))
+        alone = min(percentile(server.ports[-1], calls) for _ in range(3))
+        opened = [each for port in server.ports[:4] for each in half_calls(port)]
+        # An instance is known for long pieces for a minute.
+        time.sleep(62)
+        found = min(percentile(server.ports[-1], calls) for _ in range(3))
+        for each in opened:
+            each.close()
+    print(f"ok halves: the 99th percentile is {found:.2f} ms, {alone:.2f} beside the programs alone", flush=True)
+    if found >= 4 * alone:
+        raise SystemExit(f"halves: that is {found / alone:.1f} times as long")
+
+
 def main():
     parser = argparse.ArgumentParser()
     parser.add_argument("program")
     parser.add_argument("--calls", type=int, default=2000)
     parser.add_argument("--silent", action="store_true")
+    parser.add_argument("--halves", action="store_true")
     words = parser.parse_args()
+    if words.halves:
+        beside_halves(words.program, words.calls)
+        return
     with Server(words.program, [("main", 10**8)]) as server:
         port = server.ports[0]
         connection = Connection(port)

@@ -22,7 +22,8 @@ from shared_time import files, run_many
 
 SECONDS = 15
 MOST = 0.1
-WRITES = "while :; do dd if=/dev/zero of=f bs=1M count=200 conv=fsync 2>/dev/null; done"
+# For as long as a file is there: a server that a signal ends leaves its programs.
+WRITES = "while [ -e {} ]; do dd if=/dev/zero of=f bs=1M count=200 conv=fsync 2>/dev/null; done"
 
 
 def waits(port):
@@ -43,18 +44,20 @@ def main():
     parser.add_argument("program")
     parser.add_argument("--work", default="/dev/shm")
     given = parser.parse_args()
-    with tempfile.TemporaryDirectory(dir=given.work) as folder:
+    with tempfile.TemporaryDirectory(dir=given.work) as folder, tempfile.NamedTemporaryFile() as writes:
         teams = [("red", 4 * 10**9, 16), ("blue", 10**7)]
         with Server(given.program, teams, 2**62, folder=folder) as server:
             with Peer(server.ports[0]) as peer:
                 for number in range(4):
-                    action = Action(["/bin/sh", "-c", f": {number}; {WRITES}"], do_not_cache=True)
+                    action = Action(["/bin/sh", "-c", f": {number}; {WRITES.format(writes.name)}"], do_not_cache=True)
                     peer.store(action.blobs)
                     peer.begin(EXECUTE, m.field(6, action.digest))
                 end = run_many(server.ports[0], 4, "head -c 300000 /dev/zero > o", files(50, 3000), files=["o"])
                 time.sleep(3)
                 found = waits(server.ports[1])
                 end()
+                writes.close()
+                time.sleep(1)
     at = lambda part: f"{1000 * found[int(len(found) * part)]:.1f}"
     words = f"{len(found)} calls: half take {at(0.5)} ms at most, 99 of 100 {at(0.99)}, the longest {1000 * found[-1]:.1f}"
     print(f"{'ok' if found[-1] <= MOST else 'FAULT'} on {given.work}: {words}", flush=True)

@@ -303,7 +303,7 @@ def main():
     parser.add_argument("--megabytes", type=int, default=48)
     options = parser.parse_args()
     folder = tempfile.mkdtemp(prefix="execution-soak-")
-    size = f"size={options.megabytes}m,nr_inodes=5000"
+    size = f"size={options.megabytes}m,nr_inodes=5000,mode=0755"
     mounted = subprocess.run(["mount", "-t", "tmpfs", "-o", size, "tmpfs", folder], capture_output=True).returncode == 0
     try:
         run(options, folder, mounted)

@@ -72,6 +72,9 @@ def make_leftovers(program, folder):
 def leftovers(context):
     kept = ["0-1", "2024-11", "aside", "remoted.lock", "start-07", "start-5.txt", "start-x"]
     own = os.path.basename(context.server.start())
+    # It is removed in the background.
+    more = lambda: sorted(set(os.listdir(context.server.folder)) - {*kept, own})
+    expect(programs.settled(more, 60), [], "what is left")
     expect(sorted(os.listdir(context.server.folder)), sorted([*kept, own]), "what is no run's")
     expect(os.listdir(os.path.join(context.server.folder, "aside")), ["kept"], "what a link led to")
     return "what a run before left is removed at the start, through no link, and nothing else"

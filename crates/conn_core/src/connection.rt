@@ -29,6 +29,7 @@ use http2_streams::{Stream, Streams};
 use std::alloc::{AllocError, Global};
 use std::collections::VecDeque;
 use std::marker::Model;
+use std::rc::Rc;
 
 /// One connection of the server. After `feed` or `read_frame` was refused memory it is to be
 /// closed.
@@ -200,6 +201,21 @@ impl Connection {
     {
         self.at_rest = false;
         self.sender.owe_message(&self.streams, stream, message)
+    }
+
+    /// Owes a message that may be owed to other streams, too, as `owe_message` does. All that are
+    /// owed it share its bytes, on whatever connection they are.
+    pub fn owe_shared(&mut self, stream: u32, message: Rc<Vec<u8>>) -> Result<(), AllocError>
+        requires { length message.value.items < message_length_limit }
+        ensures stands { OnOk result (Owes stream (Message message.value.items) self.old
+            self.new) }
+        ensures fit { KeepsFit self.old.sending self.new.sending }
+        ensures sources { KeepsSources self.old.sending self.new.sending }
+        ensures rest { self.new ≡ record self.old { sending = self.new.sending } }
+        ensures err { OnErr result (self.new ≡ self.old) }
+    {
+        self.at_rest = false;
+        self.sender.owe_shared(&self.streams, stream, message)
     }
 
     /// Owes the bytes from a place until another of a source's text to the stream, where it is

@@ -12,11 +12,11 @@ use Rattle.execution.specs.Waiting.{WaitAnswer, has_told, watches}
 use Rattle.execution.specs.InPool.{job_holders}
 
 abbrev pub answer_shown : Code.ExecuteAnswer → ExecuteAnswer
-answer_shown (Done operation) = done operation.items
+answer_shown (Done operation) = done operation.value.items
 answer_shown (Queued number operation) = queued number operation.items
 
 abbrev pub wait_shown : Wait.WaitAnswer → WaitAnswer
-wait_shown (HasTold operation) = has_told operation.items
+wait_shown (HasTold operation) = has_told operation.value.items
 wait_shown (Watches number operation) = watches number operation.items
 
 -- a job that could not be made holds nothing

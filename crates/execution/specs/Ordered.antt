@@ -27,4 +27,4 @@ order_meant after (Kill job) = Some (kill job)
 
 abbrev pub told_shown : Told → ToldValue
 told_shown t =
-    record { number = t.number; operation = t.operation.now; is_last = t.is_last }
+    record { number = t.number; operation = t.operation.now.value.items; is_last = t.is_last }

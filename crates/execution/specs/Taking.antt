@@ -8,9 +8,9 @@ use Rattle.execution.specs.declared.steps.Step.TheVariants.{TimesOut, Ends, Star
 use Rattle.execution.specs.Steps.{StepValue, times_out, ends, starts, change_of, jobs_after_steps}
 
 abbrev pub step_shown : Step → StepValue
-step_shown (TimesOut number operation) = times_out number operation.items
-step_shown (Ends number operation) = ends number operation.items
-step_shown (Starts number deadline operation) = starts number deadline operation.items
+step_shown (TimesOut number operation) = times_out number operation.value.items
+step_shown (Ends number operation) = ends number operation.value.items
+step_shown (Starts number deadline operation) = starts number deadline operation.value.items
 
 abbrev pub steps_shown : List Step → List StepValue
 steps_shown steps = map step_shown steps

@@ -36,6 +36,7 @@ use job_queue::{LAST_NUMBER, Queue};
 use keyed_maps::MapKey;
 use rpc::Refusal;
 use std::alloc::{AllocError, Global};
+use std::rc::Rc;
 
 /// The stored result of an action, where it is complete, unless it is not to be looked up. This is
 /// no use of it.
@@ -65,17 +66,18 @@ fn tell_done(
     queue: &mut Queue<Job>,
     action: &Digest,
     end: End,
-) -> Result<Vec<u8>, AllocError>
+) -> Result<Rc<Vec<u8>>, AllocError>
     requires next { queue.old.next ≤ LAST_NUMBER }
     requires size { action.now.size < 2 ^ 63 }
-    ensures told { IfOk result (λ told. told.items
+    ensures told { IfOk result (λ told. told.value.items
         ≡ completed_text queue.old.next action.now (end_shown end)) }
     ensures done { OnOk result (queue.new ≡ jobs_after_done
         (completed_text queue.old.next action.now (end_shown end)) queue.old) }
     ensures err { OnErr result (queue.new ≡ queue.old) }
 {
-    let operation = completed(alloc, key, queue.next(), action, end)?;
-    let told = Vec::from_slice(alloc, &operation)?;
+    let text = completed(alloc, key, queue.next(), action, end)?;
+    let operation = Rc::new(alloc, text)?;
+    let told = operation.clone()?;
     queue.push_done(operation);
     Ok(told)
 }

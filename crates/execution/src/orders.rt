@@ -10,6 +10,7 @@ ghost use Rattle.execution.specs.Taking.{step_shown};
 use crate::job::{Job, Task};
 use crate::steps::Step;
 use job_queue::Queue;
+use std::rc::Rc;
 
 /// What is ordered of whoever runs jobs.
 #[derive(Clone, Copy, PartialEq, Eq, Debug)]
@@ -21,10 +22,11 @@ pub enum Order {
 }
 
 /// What those are told who watch a number.
-#[derive(Clone, Copy, PartialEq, Eq, Debug)]
+#[derive(Clone, Copy, Debug)]
 pub struct Told<'a> {
     pub number: u64,
-    pub operation: &'a [u8],
+    /// Its bytes are shared by all that are told.
+    pub operation: &'a Rc<Vec<u8>>,
     /// Whether no other follows.
     pub is_last: bool,
 }

@@ -14,6 +14,7 @@ use execution_messages::{End, ExecutionStage, Fault, completed, unfinished};
 use job_queue::{Queue, Running};
 use keyed_maps::MapKey;
 use std::alloc::{AllocError, Global};
+use std::rc::Rc;
 
 /// What happens to a job at an event.
 #[derive(Drop, Debug)]
@@ -21,19 +22,19 @@ pub enum Step {
     /// The job that runs under a number comes to its deadline, and ends with this Operation.
     TimesOut {
         number: u64,
-        operation: Vec<u8>,
+        operation: Rc<Vec<u8>>,
     },
     /// The job that runs under a number ends with this Operation.
     Ends {
         number: u64,
-        operation: Vec<u8>,
+        operation: Rc<Vec<u8>>,
     },
     /// The least-numbered job that waits, under this number, runs until a deadline, in
     /// milliseconds. Its Operation is now this.
     Starts {
         number: u64,
         deadline: u128,
-        operation: Vec<u8>,
+        operation: Rc<Vec<u8>>,
     },
 }
 
@@ -53,7 +54,8 @@ fn add_due(
         return Ok(());
     }
     let end = End::Fails(Fault::TimedOut, Vec::new(alloc));
-    let operation = completed(alloc, key, *number, &running.job.task.action, end)?;
+    let text = completed(alloc, key, *number, &running.job.task.action, end)?;
+    let operation = Rc::new(alloc, text)?;
     steps.push(Step::TimesOut {
         number: *number,
         operation,
@@ -86,7 +88,8 @@ fn step_started(alloc: Global, moment: u64, waiting: &(u64, Job)) -> Result<Step
         ≡ start_of moment (waiting_in p waiting.now)) }
 {
     let (number, job) = waiting;
-    let operation = unfinished(alloc, *number, ExecutionStage::Executing, &job.task.action)?;
+    let text = unfinished(alloc, *number, ExecutionStage::Executing, &job.task.action)?;
+    let operation = Rc::new(alloc, text)?;
     Ok(Step::Starts {
         number: *number,
         deadline: moment as u128 + job.timeout as u128,
@@ -133,7 +136,8 @@ fn step_ended(
     let Some(job) = queue.running_job(number) else {
         return Ok(steps);
     };
-    let operation = completed(alloc, key, number, &job.task.action, end)?;
+    let text = completed(alloc, key, number, &job.task.action, end)?;
+    let operation = Rc::new(alloc, text)?;
     steps.push(Step::Ends { number, operation })?;
     Ok(steps)
 }

@@ -15,13 +15,14 @@ use crate::steps::Step;
 use blob_pool::Pool;
 use job_queue::Queue;
 use std::collections::VecDeque;
+use std::rc::Rc;
 
 /// Ends the job that runs under a number, and releases what it kept.
-fn end_job(pool: &mut Pool, queue: &mut Queue<Job>, number: u64, operation: Vec<u8>)
+fn end_job(pool: &mut Pool, queue: &mut Queue<Job>, number: u64, operation: Rc<Vec<u8>>)
     requires runs { IsRunning number queue.old }
     requires held { (k : ℕ) → jobs_holders queue.old k ≤ count_at pool.old k }
     ensures ended { jobs_in pool.new queue.new
-        ≡ jobs_after_end number operation.items (jobs_in pool.old queue.old) }
+        ≡ jobs_after_end number operation.value.items (jobs_in pool.old queue.old) }
     ensures moves { Moves pool.old pool.new (jobs_holders queue.old) (jobs_holders queue.new) }
 {
     let job = queue.end(number, operation).unwrap();

@@ -84,10 +84,7 @@ fn answer(
             let answer = watched(alloc, number, ExecutionStage::Executing, action)?;
             Ok(answer)
         }
-        Some(Stage::HasEnded(operation)) => {
-            let operation = Vec::from_slice(alloc, operation)?;
-            Ok(WaitAnswer::HasTold(operation))
-        }
+        Some(Stage::HasEnded(operation)) => { Ok(WaitAnswer::HasTold(operation.clone()?)) }
     }
 }
 

@@ -108,6 +108,10 @@ impl<'a> Sockets for FakeSockets<'a> {
         self.turns
     }
 
+    fn may_read(&self, _socket: Socket) -> bool {
+        true
+    }
+
     /// The server is never without a processor.
     fn processor(&self) -> ProcessorTime {
         ProcessorTime {

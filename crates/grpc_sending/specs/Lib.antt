@@ -1,4 +1,5 @@
 pub mod Bytes
+pub mod Contents
 pub mod Owed
 pub mod StoredSending
 pub mod SendingSteps

@@ -8,10 +8,12 @@ ghost use Rattle.grpc_calls.specs.Responses.{fields_of, is_last};
 ghost use Rattle.grpc_messages.specs.Wire.{message_length_limit};
 ghost use Rattle.grpc_messages.specs.Writing.{framed_message};
 ghost use Rattle.grpc_sending.specs.declared.piece.StoredPiece.{StoredPiece};
+ghost use Rattle.grpc_sending.specs.Contents.{content_bytes};
 ghost use Rattle.grpc_sending.specs.SendingSteps.{stored_front};
 ghost use Rattle.grpc_sending.specs.Sources.{source_of};
 ghost use Rattle.grpc_calls.specs.Responses.{longest_block};
 
+use crate::content::Content;
 use crate::range::Cursor;
 use byteorder::{BigEndian, ByteOrder};
 use grpc_calls::ResponseBlock;
@@ -113,26 +115,27 @@ impl<'a> BlockText<'a> {
 #[derive(Drop)]
 pub(crate) struct FramedMessage {
     prefix: [u8; PREFIX_LENGTH],
-    message: Vec<u8>,
+    message: Content,
     /// How many bytes were put, the prefix with them.
     put: usize,
 }
 
 impl Model for FramedMessage {
     ghost use Rattle.std.specs.Prelude.{ℕ, List, drop, ◌≡◌, ◌<◌, ◌≤◌, ◌+◌, ◌++◌, ◌^◌, length};
+    ghost use Rattle.grpc_sending.specs.Contents.{content_bytes};
 
     ghost Value = { List ℕ };
 
-    ghost view = { λ m. drop m.put (m.prefix ++ m.message.items) };
+    ghost view = { λ m. drop m.put (m.prefix ++ content_bytes m.message) };
 
-    ghost invariant = { λ m. (length m.prefix ≡ 5) × (m.put ≤ 5 + length m.message.items)
-        × (5 + length m.message.items < 2 ^ 64) };
+    ghost invariant = { λ m. (length m.prefix ≡ 5) × (m.put ≤ 5 + length (content_bytes m.message))
+        × (5 + length (content_bytes m.message) < 2 ^ 64) };
 }
 
 impl FramedMessage {
-    pub(crate) fn new(message: Vec<u8>) -> FramedMessage
-        requires { length message.items < message_length_limit }
-        ensures { result ≡ framed_message message.items }
+    pub(crate) fn new(message: Content) -> FramedMessage
+        requires { length (content_bytes message) < message_length_limit }
+        ensures { result ≡ framed_message (content_bytes message) }
     {
         let mut size = [0u8; 4];
         BigEndian::write_u32(&mut size, message.len() as u32);
@@ -150,7 +153,7 @@ impl FramedMessage {
         let of_prefix = self.put.min(PREFIX_LENGTH);
         (
             &self.prefix[of_prefix..],
-            &self.message[self.put - of_prefix..],
+            &self.message.as_slice()[self.put - of_prefix..],
         )
     }
 

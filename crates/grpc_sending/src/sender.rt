@@ -9,6 +9,7 @@ ghost use Rattle.http2_streams.specs.Sending.{LeavesOthers};
 ghost use Rattle.http2_streams.specs.StandsFor.{AreStreams};
 ghost use Rattle.grpc_messages.specs.Wire.{message_length_limit};
 ghost use Rattle.grpc_sending.specs.Bytes.{most_untaken};
+ghost use Rattle.grpc_sending.specs.Contents.{content_bytes};
 ghost use Rattle.grpc_sending.specs.Owed.{OwedItem, Headed, Message, Range, owed_with_item};
 ghost use Rattle.grpc_sending.specs.Pump.{history_after_pump, next_frames};
 ghost use Rattle.grpc_sending.specs.StoredSending.{Tells, PumpsEnded, AddsNothing, AddsToLive, Enters, DropsClosed, DropsAll, Owes, OwesRange, IsAtRest, PumpsStreams, PumpsSending, KeepsFit, KeepsFitWith, SourceTexts, StoredSending, IsStoredSending, QueuesEndWithin, EndsWithinText, KeepsSources, HoldsMore, HasFewSources, new_stored_sending, sending_in, sources_of, stored_on};
@@ -19,6 +20,7 @@ ghost use Rattle.http2_frames.specs.declared.reader.TheConstants.{MAX_FRAME_SIZE
 
 use crate::backlog::Backlog;
 use crate::buffer::{CAPACITY, OutBuffer};
+use crate::content::Content;
 use crate::parts::Parts;
 use crate::piece::{EncodedBlock, FramedMessage, StoredPiece};
 use crate::queue::{self, StoredQueue};
@@ -30,6 +32,7 @@ use http2_frames::{ErrorCode, Frame, HEADER_LENGTH, payload_length};
 use http2_streams::Streams;
 use std::alloc::{AllocError, Global};
 use std::marker::Model;
+use std::rc::Rc;
 
 /// The pump puts more while fewer bytes than these are untaken.
 pub const PUMP_LIMIT: usize = 65_536;
@@ -201,6 +204,44 @@ impl Sender {
     ) -> Result<(), AllocError>
         requires { length message.items < message_length_limit }
         ensures ok { OnOk result (Owes streams.now stream (Message message.items) self.old
+            self.new) }
+        ensures fit { KeepsFit self.old self.new }
+        ensures none { AddsToLive streams.now self.old self.new }
+        ensures sources { KeepsSources self.old self.new }
+        ensures pending { self.new.pending ≡ self.old.pending }
+        ensures err { OnErr result (self.new ≡ self.old) }
+    {
+        self.owe_content(streams, stream, Content::Own(message))
+    }
+
+    /// Owes a message that may be owed to other streams, too, as `owe_message` does. All that are
+    /// owed it share its bytes, on whatever connection they are.
+    pub fn owe_shared(
+        &mut self,
+        streams: &Streams,
+        stream: u32,
+        message: Rc<Vec<u8>>,
+    ) -> Result<(), AllocError>
+        requires { length message.value.items < message_length_limit }
+        ensures ok { OnOk result (Owes streams.now stream (Message message.value.items) self.old
+            self.new) }
+        ensures fit { KeepsFit self.old self.new }
+        ensures none { AddsToLive streams.now self.old self.new }
+        ensures sources { KeepsSources self.old self.new }
+        ensures pending { self.new.pending ≡ self.old.pending }
+        ensures err { OnErr result (self.new ≡ self.old) }
+    {
+        self.owe_content(streams, stream, Content::Shared(message))
+    }
+
+    fn owe_content(
+        &mut self,
+        streams: &Streams,
+        stream: u32,
+        message: Content,
+    ) -> Result<(), AllocError>
+        requires { length (content_bytes message) < message_length_limit }
+        ensures ok { OnOk result (Owes streams.now stream (Message (content_bytes message)) self.old
             self.new) }
         ensures fit { KeepsFit self.old self.new }
         ensures none { AddsToLive streams.now self.old self.new }

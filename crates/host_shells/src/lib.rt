@@ -10,4 +10,4 @@ mod shell;
 
 pub use opening_shell::{Answer, OpeningShell};
 pub use removing_shell::{Removing, RemovingShells};
-pub use sessions::{Progress, Question, SESSION, Session, Sessions};
+pub use sessions::Sessions;

@@ -2,12 +2,14 @@
 
 use crate::processes::{Processes, alive_since, is_there};
 use crate::shell::Shell;
+use host_system::HostChild;
 use std::alloc::AllocError;
 use std::io::{self, ErrorKind};
 use std::time::{Duration, Instant};
+use system::{Progress, Question};
 
 /// Makes a program the first of a session of its own, whose number is its own number.
-pub const SESSION: &str = "/usr/bin/setsid";
+pub(crate) const SESSION: &str = "/usr/bin/setsid";
 
 /// How often it is looked for what is left of a session, while anything is.
 const MOST_SEARCHES: u32 = 20;
@@ -20,34 +22,14 @@ const KEPT_AGAIN: u64 = 1;
 
 /// A session that is to be ended.
 #[derive(Clone, Copy)]
-pub struct Session {
+pub(crate) struct Session {
     /// That of its first process.
-    pub number: u32,
+    pub(crate) number: u32,
     /// Whether that process was waited for. The system may give the number to another one then, but
     /// not while anything is left of the session.
-    pub is_reaped: bool,
+    pub(crate) is_reaped: bool,
     /// A moment before that process was started.
-    pub begun: Instant,
-}
-
-/// A question to a shell.
-#[derive(Clone, Copy)]
-pub struct Question {
-    /// The number of the shell.
-    shell: u64,
-    /// It is answered when so many are.
-    place: u64,
-}
-
-/// How far a session is ended.
-#[derive(Clone, Copy)]
-pub enum Progress {
-    Alive,
-    /// It was told then to end by itself.
-    Told(Instant),
-    /// The shell was asked to end it, or what was found of it. So often it may be looked still.
-    Asked(Question, u32),
-    Ended,
+    pub(crate) begun: Instant,
 }
 
 /// The number of a session that can be ended: 0 and 1 would stand for others than those of
@@ -96,20 +78,6 @@ impl<'a> Sessions<'a> {
         }
     }
 
-    /// Sees to it that a shell stands that has not ended and that answers, where one can be had
-    /// now, unless that was done a moment ago.
-    pub fn keep(&mut self, now: Instant) -> Result<(), AllocError> {
-        if let Some(kept) = self.kept {
-            if now.duration_since(kept) < Duration::from_millis(KEPT_AGAIN) {
-                return Ok(());
-            }
-        }
-        self.kept = Some(now);
-        let shell = self.taken(now)?;
-        self.shell = shell;
-        Ok(())
-    }
-
     /// Takes out the shell, where one can be had now.
     fn taken(&mut self, now: Instant) -> Result<Option<Shell>, AllocError> {
         self.killed.retain_mut(|shell| !shell.has_ended());
@@ -137,47 +105,6 @@ impl<'a> Sessions<'a> {
         Shell::start(self.rt, now).ok()
     }
 
-    /// Tells a session to end by itself, where that is possible now.
-    pub fn tell(&mut self, session: u32, now: Instant) -> io::Result<Progress> {
-        let session = checked(session)?;
-        let Some(mut shell) = self.taken(now)? else {
-            return Ok(Progress::Alive);
-        };
-        let answer = shell.tell_group(self.rt.alloc(), session);
-        self.shell = Some(shell);
-        if answer? {
-            Ok(Progress::Told(now))
-        } else {
-            Ok(Progress::Alive)
-        }
-    }
-
-    /// Does the next of what is to be done to end a session, and tells how far that is. Its first
-    /// process and the group of that are ended, and then all else that is found in it, until
-    /// nothing is, or it was looked often. Nothing is done where nothing is left of it.
-    ///
-    /// Where another process has its number, it has ended.
-    pub fn end(
-        &mut self,
-        session: Session,
-        progress: Progress,
-        now: Instant,
-    ) -> io::Result<Progress> {
-        checked(session.number)?;
-        if let Progress::Ended = progress {
-            return Ok(Progress::Ended);
-        }
-        if session.is_reaped && self.has_gone(session, progress)? {
-            return Ok(Progress::Ended);
-        }
-        let Some(mut shell) = self.taken(now)? else {
-            return Ok(progress);
-        };
-        let answer = self.go_on(&mut shell, session, progress);
-        self.shell = Some(shell);
-        answer
-    }
-
     /// Whether nothing is left of a session whose first process was waited for: another one has its
     /// number, or that is seen before the shell is asked.
     fn has_gone(&self, session: Session, progress: Progress) -> io::Result<bool> {
@@ -202,7 +129,7 @@ impl<'a> Sessions<'a> {
         progress: Progress,
     ) -> io::Result<Progress> {
         match progress {
-            Progress::Asked(question, searches) if question.shell == self.number => {
+            Progress::Asked(question, searches) if question.asked == self.number => {
                 if question.place > shell.answered() {
                     return Ok(progress);
                 }
@@ -216,8 +143,8 @@ impl<'a> Sessions<'a> {
     }
 
     fn asked(&self, place: u64, searches: u32) -> Progress {
-        let shell = self.number;
-        Progress::Asked(Question { shell, place }, searches)
+        let asked = self.number;
+        Progress::Asked(Question { asked, place }, searches)
     }
 
     /// Ends what is left of a session, of which all that was found was ended by the answer to a
@@ -250,16 +177,80 @@ impl<'a> Sessions<'a> {
     /// Looks for processes, unless that was done since a question was answered.
     fn look_since(&mut self, shell: &Shell, question: Question) -> io::Result<()> {
         if let Some(looked) = self.looked {
-            if looked.shell == self.number && question.place <= looked.place {
+            if looked.asked == self.number && question.place <= looked.place {
                 return Ok(());
             }
         }
         self.looked = None;
         self.processes.look()?;
         self.looked = Some(Question {
-            shell: self.number,
+            asked: self.number,
             place: shell.answered(),
         });
         Ok(())
+    }
+}
+
+impl<'a> system::Sessions for Sessions<'a> {
+    type Child = HostChild;
+
+    /// Sees to it that a shell stands that has not ended and that answers, where one can be had
+    /// now, unless that was done a moment ago.
+    fn keep(&mut self, now: Instant) -> io::Result<()> {
+        if let Some(kept) = self.kept {
+            if now.duration_since(kept) < Duration::from_millis(KEPT_AGAIN) {
+                return Ok(());
+            }
+        }
+        self.kept = Some(now);
+        let shell = self.taken(now)?;
+        self.shell = shell;
+        Ok(())
+    }
+
+    /// Tells a session to end by itself, where that is possible now.
+    fn tell(&mut self, child: &HostChild, now: Instant) -> io::Result<Progress> {
+        let session = checked(child.number())?;
+        let Some(mut shell) = self.taken(now)? else {
+            return Ok(Progress::Alive);
+        };
+        let answer = shell.tell_group(self.rt.alloc(), session);
+        self.shell = Some(shell);
+        if answer? {
+            Ok(Progress::Told(now))
+        } else {
+            Ok(Progress::Alive)
+        }
+    }
+
+    /// Does the next of what is to be done to end a session, and tells how far that is. Its first
+    /// process and the group of that are ended, and then all else that is found in it, until
+    /// nothing is, or it was looked often. Nothing is done where nothing is left of it.
+    ///
+    /// Where another process has its number, it has ended.
+    fn end(
+        &mut self,
+        child: &HostChild,
+        session: system::Session,
+        progress: Progress,
+        now: Instant,
+    ) -> io::Result<Progress> {
+        let session = Session {
+            number: checked(child.number())?,
+            is_reaped: session.is_reaped,
+            begun: session.begun,
+        };
+        if let Progress::Ended = progress {
+            return Ok(Progress::Ended);
+        }
+        if session.is_reaped && self.has_gone(session, progress)? {
+            return Ok(Progress::Ended);
+        }
+        let Some(mut shell) = self.taken(now)? else {
+            return Ok(progress);
+        };
+        let answer = self.go_on(&mut shell, session, progress);
+        self.shell = Some(shell);
+        answer
     }
 }

@@ -67,6 +67,15 @@ ArePassedOn learned ports =
 abbrev pub may_read : {D W : Type 0} → Port D W → Bool
 may_read port = list_any (λ w. w.may_read) (values port.wires)
 
+-- whether something may have come on the connection of a number; of one that is not open it is to be
+-- asked
+abbrev pub may_read_of : {W : Type 0} → Option (Watched W) → Bool
+may_read_of None = true
+may_read_of (Some w) = w.may_read
+
+abbrev pub may_read_on : {D W : Type 0} → ℕ → Port D W → Bool
+may_read_on connection port = may_read_of (wire_at connection port.wires.entries)
+
 -- whether there is something to do at a port of which nothing more is told: a client may wait, a
 -- closed connection lingers, or something may have come on an open one
 abbrev pub has_more : {D W : Type 0} → Port D W → Bool

@@ -1,13 +1,13 @@
 //! The sockets of a host, and its clock.
 #![tactic(auto)]
 
-ghost use Rattle.std.specs.Prelude.{◌≡◌, ◌<◌, ◌≤◌, ◌++◌, ℕ, [], ◌∷◌, None, Some, length, slice_get, IfOk, OnOk};
+ghost use Rattle.std.specs.Prelude.{◌≡◌, ◌<◌, ◌≤◌, ◌++◌, ℕ, [], ◌∷◌, None, Some, length, slice_get, IfOk, IfSome, OnOk};
 ghost use Rattle.std.specs.Io.{ReadsAtMost, WritesAtMost};
 ghost use Rattle.serve.specs.SocketEvents.{Adds, Carries, accept_events, clock, read_events, shutdown_events, write_events};
 ghost use Rattle.wires.specs.Wires as wires;
 ghost use Rattle.host_sockets.specs.Ports.{AreAt, BecomesAt, ClosesAt, HappensAt, IsOpen, LetsInAt, ListensAt, NoneIsOpen, OpenStay, OthersStay, addresses};
 ghost use Rattle.host_sockets.specs.Laid.{AreLaid};
-ghost use Rattle.host_sockets.specs.Told.{ArePassedOn, AreTold, StaysToldAt, StaysToldOf, wait_of};
+ghost use Rattle.host_sockets.specs.Told.{ArePassedOn, AreTold, StaysToldAt, StaysToldOf, may_read_on, wait_of};
 
 mod counts;
 mod laws;
@@ -283,6 +283,16 @@ impl<'a, H: Host> Sockets for HostSockets<'a, H> {
         match self.told.get(instance as usize) {
             Some(told) => *told,
             None => 0,
+        }
+    }
+
+    fn may_read(&self, socket: Socket) -> bool
+        ensures told { IfSome (slice_get self.now.ports.items socket.instance)
+            (λ port. result ≡ may_read_on socket.connection port) }
+    {
+        match self.ports.get(socket.instance as usize) {
+            Some(port) => port.may_read_on(socket.connection),
+            None => true,
         }
     }
 

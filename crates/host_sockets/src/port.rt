@@ -5,7 +5,7 @@ ghost use Rattle.std.specs.List.{list_any};
 ghost use Rattle.std.specs.Io.{ReadsAtMost, WritesAtMost};
 ghost use Rattle.wires.specs.Wires.{read_events, write_events};
 ghost use Rattle.host_sockets.specs.Ports.{Closes, HappensOn, LetsIn, OnlyClosedGo, OpenStay, has_open, on, wire_at};
-ghost use Rattle.host_sockets.specs.Told.{ArePassedOn, AreTold, IsPassedOn, IsToldOf, OnlyTold, StaysTold, StaysToldAt, has_more, may_read};
+ghost use Rattle.host_sockets.specs.Told.{ArePassedOn, AreTold, IsPassedOn, IsToldOf, OnlyTold, StaysTold, StaysToldAt, has_more, may_read, may_read_on};
 
 use crate::counts::SocketCounts;
 use crate::lingering::{LINGERING_LIMIT, Lingering, Room};
@@ -78,6 +78,17 @@ impl<D: Door> Port<D> {
         ensures { result ≡ has_more self.now }
     {
         self.may_wait || !self.lingering.is_empty() || self.may_read()
+    }
+
+    /// Whether something may have come on the connection of a number. Of one that is not open it is
+    /// to be asked.
+    pub(crate) fn may_read_on(&self, connection: u32) -> bool
+        ensures { result ≡ may_read_on connection self.now }
+    {
+        match self.wires.get(&connection) {
+            Some(watched) => watched.may_read(),
+            None => true,
+        }
     }
 
     /// Whether something may have come on an open connection.

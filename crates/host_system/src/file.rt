@@ -19,6 +19,11 @@ impl HostFile {
     pub fn new(file: File) -> HostFile {
         HostFile { file }
     }
+
+    /// The same file, for a program that writes into it.
+    pub(crate) fn stream(&self) -> io::Result<File> {
+        self.file.try_clone()
+    }
 }
 
 /// What it is that was found.

@@ -34,7 +34,7 @@ use Rattle.execution.proofs.Calling.{jobs_same}
 use Rattle.blob_pool.proofs.Moves.{moves_more}
 use Rattle.bytestream.specs.Shown.{source_shown}
 use Rattle.instance_core.specs.declared.answer.Answer.{Answer}
-use Rattle.instance_core.specs.declared.answer.Answer.TheVariants.{Message, Messages, Range, Watching}
+use Rattle.instance_core.specs.declared.answer.Answer.TheVariants.{Message, Operation, Messages, Range, Watching}
 use Rattle.instance_core.specs.declared.contents.Settings.{Settings}
 use Rattle.instance_core.specs.declared.contents.Contents.{Contents}
 use Rattle.instance_core.specs.Calls.{Calls}
@@ -195,6 +195,7 @@ answer_held p q old new given m held k = let a = m.counts k in let b = held k in
 pub answer_ends_within : (q : Slots) (method : Method) (s : InstanceState) (message : List ℕ) (r : Result Answer CallError) → Answers (answer_shown q) r (answer_to method s message) → EndsWithin q r
 answer_ends_within q method s message (Ok (Range source)) h = range_within_text method s message (source_shown q source) h
 answer_ends_within q method s message (Ok (Message bytes)) h = tt
+answer_ends_within q method s message (Ok (Operation operation)) h = tt
 answer_ends_within q method s message (Ok (Messages list)) h = tt
 answer_ends_within q method s message (Ok (Watching number operation)) h = tt
 answer_ends_within q method s message (Err e) h = tt

@@ -28,7 +28,7 @@ use Rattle.instance_core.specs.Changes.{InstanceChange, Text, Keeps, state_after
 use Rattle.instance_core.specs.Answer.{call_change, request_end_answer}
 use Rattle.instance_core.specs.Shown.{Makes, with_calls}
 use Rattle.instance_core.specs.declared.answer.Answer.{Answer}
-use Rattle.instance_core.specs.declared.answer.Answer.TheVariants.{Message, Messages, Range, Watching}
+use Rattle.instance_core.specs.declared.answer.Answer.TheVariants.{Message, Operation, Messages, Range, Watching}
 use Rattle.instance_core.specs.Replies.{AnswerValue, answering}
 use Rattle.instance_core.specs.Carries.{answer_shown, number_watched, settled, shaped, Leaves}
 
@@ -96,6 +96,7 @@ changed_more (c ∷ a) b s = changed_more a b (state_after_change c s)
 settled_change : (q : Slots) (outcome : Result Answer CallError) (answer : Result AnswerValue Refusal) (id : CallId) (method : Method) (m : InstanceState) → Answers (answer_shown q) outcome answer → IfNoMemory outcome ⊥
     → state_after_change (call_change id method answer) m ≡ with_calls (settled id method (number_watched outcome) m.calls) m
 settled_change q (Ok (Message bytes)) answer id method m h none = rw h refl
+settled_change q (Ok (Operation operation)) answer id method m h none = rw h refl
 settled_change q (Ok (Messages list)) answer id method m h none = rw h refl
 settled_change q (Ok (Range source)) answer id method m h none = rw h refl
 settled_change q (Ok (Watching n operation)) answer id method m h none = rw h refl

@@ -9,7 +9,7 @@ use Rattle.cas_service.specs.declared.error.CallError.{CallError}
 use Rattle.cas_service.specs.Answers.{Answers, IfAnswered, IfNoMemory}
 use Rattle.bytestream.specs.Shown.{source_shown}
 use Rattle.instance_core.specs.declared.answer.Answer.{Answer}
-use Rattle.instance_core.specs.declared.answer.Answer.TheVariants.{Message, Messages, Range, Watching}
+use Rattle.instance_core.specs.declared.answer.Answer.TheVariants.{Message, Operation, Messages, Range, Watching}
 use Rattle.instance_core.specs.declared.contents.Settings.{Settings}
 use Rattle.instance_core.specs.declared.contents.Contents.{Contents}
 use Rattle.instance_core.specs.declared.event.CallId.{CallId}
@@ -29,6 +29,7 @@ use Rattle.instance_core.specs.State.{InstanceState}
 -- an answer as a plain value, with the text that its range finds in a pool
 abbrev pub answer_shown : Slots → Answer → AnswerValue
 answer_shown p (Message bytes) = one_message bytes.items
+answer_shown p (Operation operation) = one_message operation.value.items
 answer_shown p (Messages list) = messages (map (λ message. message.items) list.items)
 answer_shown p (Range source) = range (source_shown p source)
 answer_shown p (Watching number operation) = watching number operation.items
@@ -40,11 +41,11 @@ shaped shape (Err e) = Err e
 
 -- the answer of a call of Execute, and of WaitExecution
 abbrev pub executed_so : Code.ExecuteAnswer → Answer
-executed_so (Done operation) = Message operation
+executed_so (Done operation) = Operation operation
 executed_so (Queued number operation) = Watching number operation
 
 abbrev pub waited_so : Wait.WaitAnswer → Answer
-waited_so (HasTold operation) = Message operation
+waited_so (HasTold operation) = Operation operation
 waited_so (Watches number operation) = Watching number operation
 
 -- the number of the job that a call watches which is answered so

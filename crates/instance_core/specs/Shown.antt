@@ -59,6 +59,7 @@ range_shown p range = record {
 abbrev pub item_shown : Slots → ReplyItem → ReplyItemValue
 item_shown p Item.Begins = begins
 item_shown p (Item.Says bytes) = says bytes.items
+item_shown p (Item.Tells bytes) = says bytes.value.items
 item_shown p (Item.Gives range) = gives (range_shown p range)
 item_shown p Item.Ends = ends
 item_shown p (Item.Refuses refusal) = refuses refusal

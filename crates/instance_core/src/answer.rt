@@ -6,12 +6,15 @@ ghost use Rattle.instance_core.specs.declared.answer.Answer.TheVariants.{Message
 
 use bytestream::Source;
 use cas_service::CallError;
+use std::rc::Rc;
 
 /// What a method answers.
 #[derive(Drop)]
 pub enum Answer {
     /// One message.
     Message(Vec<u8>),
+    /// The Operation of an execution that is done, which is kept: its bytes are shared.
+    Operation(Rc<Vec<u8>>),
     /// Messages, in order.
     Messages(Vec<Vec<u8>>),
     /// A range of a blob, whose text is held.

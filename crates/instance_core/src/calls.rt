@@ -150,6 +150,7 @@ fn count_sent(counts: &mut CallCounts, method: Method, replies: &[Reply]) {
 fn length_of(item: &ReplyItem) -> u64 {
     match item {
         ReplyItem::Says(message) => message.len() as u64,
+        ReplyItem::Tells(message) => message.len() as u64,
         ReplyItem::Gives(range) => range.until.saturating_sub(range.from),
         ReplyItem::Begins | ReplyItem::Ends | ReplyItem::Refuses(_) => 0,
     }

@@ -3,6 +3,7 @@
 use blob_pool::Kept;
 use digest::Digest;
 use rpc::{Method, Refusal};
+use std::rc::Rc;
 
 /// What names a call.
 #[derive(Clone, Copy, Debug, PartialEq, Eq, Hash)]
@@ -45,6 +46,8 @@ pub enum ReplyItem {
     Begins,
     /// A whole message.
     Says(Vec<u8>),
+    /// A whole message whose bytes are shared by all that are told.
+    Tells(Rc<Vec<u8>>),
     /// A range of a blob, as messages.
     Gives(GivenRange),
     /// The reply is whole, with status OK.

@@ -21,7 +21,7 @@ fn execute_answer(answer: ExecuteAnswer) -> Answer
     ensures { result ≡ executed_so answer }
 {
     match answer {
-        ExecuteAnswer::Done(operation) => Answer::Message(operation),
+        ExecuteAnswer::Done(operation) => Answer::Operation(operation),
         ExecuteAnswer::Queued(number, operation) => Answer::Watching(number, operation),
     }
 }
@@ -31,7 +31,7 @@ fn wait_answer(answer: WaitAnswer) -> Answer
     ensures { result ≡ waited_so answer }
 {
     match answer {
-        WaitAnswer::HasTold(operation) => Answer::Message(operation),
+        WaitAnswer::HasTold(operation) => Answer::Operation(operation),
         WaitAnswer::Watches(number, operation) => Answer::Watching(number, operation),
     }
 }

@@ -23,6 +23,7 @@ use cas_service::CallError;
 use instance_view::Seen;
 use rpc::Refusal;
 use std::alloc::{AllocError, Global};
+use std::rc::Rc;
 
 /// What a call is refused for, unless memory ran out.
 pub fn refusal_in(error: CallError) -> Result<Refusal, AllocError>
@@ -92,6 +93,23 @@ pub fn reply_with(
     ensures given { (k : ℕ) → result_holders result k ≡ 0 }
 {
     let items = items_to_send(alloc, outcome)?;
+    reply_of(alloc, call, items)
+}
+
+/// A whole reply of an Operation whose bytes are shared.
+fn operation_reply(
+    alloc: Global,
+    call: CallId,
+    operation: Rc<Vec<u8>>,
+) -> Result<Vec<Reply>, AllocError>
+    ensures replies { (p : Slots) → Gives p result
+        (reply_with call (Ok (Value.one_message operation.value.items))) }
+    ensures given { (k : ℕ) → result_holders result k ≡ 0 }
+{
+    let mut items = Vec::new(alloc);
+    items.push(ReplyItem::Begins)?;
+    items.push(ReplyItem::Tells(operation))?;
+    items.push(ReplyItem::Ends)?;
     reply_of(alloc, call, items)
 }
 
@@ -199,6 +217,7 @@ pub fn reply_to_request(
 {
     match outcome {
         Ok(Answer::Message(message)) => reply_with(alloc, call, Ok(message)),
+        Ok(Answer::Operation(operation)) => operation_reply(alloc, call, operation),
         Ok(Answer::Messages(messages)) => messages_reply(alloc, call, messages),
         Ok(Answer::Range(source)) => give(alloc, pool, call, &source),
         Ok(Answer::Watching(_, operation)) => first_reply(alloc, call, operation),

@@ -33,8 +33,7 @@ fn tell(alloc: Global, call: CallId, told: &Told<'_>) -> Result<Reply, AllocErro
     ensures given { (k : ℕ) → IfOk result (λ reply. items_holders reply.items.items k ≡ 0) }
 {
     let mut items = Vec::new(alloc);
-    let operation = Vec::from_slice(alloc, told.operation)?;
-    items.push(ReplyItem::Says(operation))?;
+    items.push(ReplyItem::Tells(told.operation.clone()?))?;
     if told.is_last {
         items.push(ReplyItem::Ends)?;
     }

@@ -1,13 +1,14 @@
 -- Where the first entry of a number stands.
-use Rattle.std.proofs.Common.{◌≡◌, ℕ, ◌+◌, ◌<◌, ◌≤◌, Bool, true, false, List, [], ◌∷◌, length, map, get_or, Some, None, refl, sym, ap, ◌∙◌, add-one, arith}
+use Rattle.std.proofs.Common.{◌≡◌, ℕ, ◌+◌, ◌<◌, ◌≤◌, Bool, true, false, List, [], ◌∷◌, length, map, get_or, Option, Some, None, refl, sym, ap, ◌∙◌, add-one, arith}
 use Rattle.std.specs.Prelude.{option_map}
 use Rattle.std.specs.declared.alloc.Global.{Global}
+use Rattle.std.specs.declared.rc.Rc.{Rc}
 use Rattle.std.specs.declared.vec.Vec.{Vec}
 use Rattle.std.proofs.lemmas.Map.Made.{lookup-map_values}
 use Rattle.std.specs.List.{remove}
 use Rattle.std.specs.Map.{lookup, remove_entry}
 use Rattle.job_queue.specs.Jobs.{same_number}
-use Rattle.job_queue.specs.Codes.{place_of, ended_shown}
+use Rattle.job_queue.specs.Codes.{place_of, ended_shown, operation_shown}
 
 module _ {A : Type 0} where
   pub lookup-past : (n : ℕ) (es : List (ℕ × A)) → length es ≤ place_of n es → lookup (same_number n) es ≡ None
@@ -40,14 +41,6 @@ module _ {A : Type 0} where
 
 -- ---- the Operations that are kept
 
-abbrev items_of : Vec ℕ Global → List ℕ
-items_of operation = operation.items
-
-pub lookup-ended_shown : (n : ℕ) (es : List (ℕ × Vec ℕ Global)) → lookup (same_number n) (map ended_shown es) ≡ option_map items_of (lookup (same_number n) es)
-lookup-ended_shown n es = lookup-map_values items_of (same_number n) es
-
-pub ended_some : (n : ℕ) (es : List (ℕ × Vec ℕ Global)) (operation : Vec ℕ Global) → Some operation ≡ lookup (same_number n) es → Some operation.items ≡ lookup (same_number n) (map ended_shown es)
-ended_some n es operation is = sym (lookup-ended_shown n es ∙ ap (option_map items_of) (sym is))
-
-pub ended_none : (n : ℕ) (es : List (ℕ × Vec ℕ Global)) → None ≡ lookup (same_number n) es → None ≡ lookup (same_number n) (map ended_shown es)
-ended_none n es is = sym (lookup-ended_shown n es ∙ ap (option_map items_of) (sym is))
+pub ended_is : (n : ℕ) (es : List (ℕ × Rc (Vec ℕ Global) Global)) (found : Option (Rc (Vec ℕ Global) Global)) → found ≡ lookup (same_number n) es
+    → option_map operation_shown found ≡ lookup (same_number n) (map ended_shown es)
+ended_is n es found is = ap (option_map operation_shown) is ∙ sym (lookup-map_values operation_shown (same_number n) es)

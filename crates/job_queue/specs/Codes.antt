@@ -2,6 +2,7 @@
 use Rattle.std.specs.Prelude.{ℕ, ◌+◌, List, [], ◌∷◌, if◌then◌else◌, refl}
 use Rattle.std.specs.Coded.{Coded, code_by, coded×, coded_ℕ, coded_list}
 use Rattle.std.specs.declared.alloc.Global.{Global}
+use Rattle.std.specs.declared.rc.Rc.{Rc}
 use Rattle.std.specs.declared.vec.Vec.{Vec}
 use Rattle.job_queue.specs.declared.queue.Running.{Running}
 use Rattle.job_queue.specs.Jobs.{Jobs, same_number}
@@ -11,9 +12,13 @@ abbrev pub place_of : {A : Type 0} → ℕ → List (ℕ × A) → ℕ
 place_of n [] = 0
 place_of n (e ∷ es) = if same_number n e.0 then 0 else place_of n es + 1
 
--- an entry without where its bytes lie in memory
-abbrev pub ended_shown : (ℕ × Vec ℕ Global) → (ℕ × List ℕ)
-ended_shown e = (e.0, e.1.items)
+-- the bytes of an Operation, without where they lie in memory and who else has them
+abbrev pub operation_shown : Rc (Vec ℕ Global) Global → List ℕ
+operation_shown operation = operation.value.items
+
+-- an entry of an Operation
+abbrev pub ended_shown : (ℕ × Rc (Vec ℕ Global) Global) → (ℕ × List ℕ)
+ended_shown e = (e.0, operation_shown e.1)
 
 -- a running job is stored as the pair of its fields
 abbrev pub running_code : {J : Type 0} → Coded J → Coded (Running J)

@@ -4,7 +4,7 @@ ghost use Rattle.std.specs.Prelude.{◌≡◌, ◌≤◌, ◌<◌, ◌+◌, ◌�
 ghost use Rattle.std.specs.VecDeque.{deque_len, deque_capacity};
 ghost use Rattle.std.specs.Option.{option_copied};
 ghost use Rattle.std.specs.Map.{lookup, remove_entry};
-ghost use Rattle.job_queue.specs.Codes.{ended_shown};
+ghost use Rattle.job_queue.specs.Codes.{ended_shown, operation_shown};
 ghost use Rattle.job_queue.specs.Jobs.{no_jobs, same_number, with_ended, jobs_after_push, jobs_after_done, jobs_after_start, jobs_after_end, jobs_without, running_job, first_due, front_of, first_number, started, stage_of, stage_among};
 ghost use Rattle.job_queue.specs.Stages.{stage_shown};
 ghost use Rattle.job_queue.specs.declared.error.JobError.TheVariants.{Full, Unknown, NoMemory};
@@ -14,6 +14,7 @@ use crate::error::JobError;
 use std::alloc::{AllocError, Global};
 use std::collections::VecDeque;
 use std::marker::Model;
+use std::rc::Rc;
 
 /// The last number that a job is given.
 pub const LAST_NUMBER: u64 = 9_223_372_036_854_775_808;
@@ -40,25 +41,23 @@ pub struct Running<J> {
 pub enum Stage<'a, J> {
     Waits(&'a J),
     Runs(&'a Running<J>),
-    /// It ended with this Operation.
-    HasEnded(&'a [u8]),
+    /// It ended with this Operation, which costs memory once, however many are told of it.
+    HasEnded(&'a Rc<Vec<u8>>),
 }
 
 /// The Operation that is kept under a number.
-#[tactic(auto, using(crate::proofs::Places::ended_some, crate::proofs::Places::ended_none))]
-fn find_ended(ended: &VecDeque<(u64, Vec<u8>)>, number: u64) -> Option<&[u8]>
-    ensures { option_copied result
+fn find_ended(ended: &VecDeque<(u64, Rc<Vec<u8>>)>, number: u64) -> Option<&Rc<Vec<u8>>>
+    ensures { option_map operation_shown (option_copied result)
         ≡ lookup (same_number number) (map ended_shown ended.now.items) }
 {
-    let operation = find_along(ended, number)?;
-    Some(operation.as_slice())
+    find_along(ended, number)
 }
 
 /// The stage of the job of a number.
 fn stage_in<'a, J>(
     running: &'a [(u64, Running<J>)],
     waiting: &'a VecDeque<(u64, J)>,
-    ended: &'a VecDeque<(u64, Vec<u8>)>,
+    ended: &'a VecDeque<(u64, Rc<Vec<u8>>)>,
     number: u64,
 ) -> Option<Stage<'a, J>>
     ensures { option_map stage_shown result
@@ -131,11 +130,11 @@ fn first_due<J>(running: &[(u64, Running<J>)], moment: u64) -> Option<u64>
 
 /// Keeps the Operation of a job that has ended, in the place of the one that ended first where as
 /// many are kept as may be.
-fn keep_ended(ended: &mut VecDeque<(u64, Vec<u8>)>, number: u64, operation: Vec<u8>)
+fn keep_ended(ended: &mut VecDeque<(u64, Rc<Vec<u8>>)>, number: u64, operation: Rc<Vec<u8>>)
     requires few { deque_len ended.old ≤ MOST_ENDED }
     requires room { MOST_ENDED < deque_capacity ended.old }
     ensures kept { map ended_shown ended.new.items
-        ≡ with_ended number operation.items (map ended_shown ended.old.items) }
+        ≡ with_ended number operation.value.items (map ended_shown ended.old.items) }
     ensures few { deque_len ended.new ≤ MOST_ENDED }
     ensures room { deque_capacity ended.new ≡ deque_capacity ended.old }
 {
@@ -151,7 +150,7 @@ pub struct Queue<J> {
     next: u64,
     waiting: VecDeque<(u64, J)>,
     running: Vec<(u64, Running<J>)>,
-    ended: VecDeque<(u64, Vec<u8>)>,
+    ended: VecDeque<(u64, Rc<Vec<u8>>)>,
 }
 
 // Written out, so that no crate above proves again that each part of it may be dropped.
@@ -253,10 +252,10 @@ impl<J: Drop> Queue<J> {
     }
 
     /// A job that is done at once is given the next number, and has ended with an Operation.
-    pub fn push_done(&mut self, operation: Vec<u8>) -> u64
+    pub fn push_done(&mut self, operation: Rc<Vec<u8>>) -> u64
         requires number { self.old.next ≤ LAST_NUMBER }
         ensures number { result ≡ self.old.next }
-        ensures done { self.new ≡ jobs_after_done operation.items self.old }
+        ensures done { self.new ≡ jobs_after_done operation.value.items self.old }
     {
         let number = self.next;
         keep_ended(&mut self.ended, number, operation);
@@ -323,8 +322,8 @@ impl<J: Drop> Queue<J> {
 
     /// A job that runs ends with an Operation, and is given to the caller: [`JobError::Unknown`]
     /// where none runs under the number.
-    pub fn end(&mut self, number: u64, operation: Vec<u8>) -> Result<J, JobError>
-        ensures ok { OnOk result (self.new ≡ jobs_after_end number operation.items self.old) }
+    pub fn end(&mut self, number: u64, operation: Rc<Vec<u8>>) -> Result<J, JobError>
+        ensures ok { OnOk result (self.new ≡ jobs_after_end number operation.value.items self.old) }
         ensures job { IfOk result (λ job. running_job number self.old ≡ Some job) }
         ensures err { OnErr result (self.new ≡ self.old) }
         ensures unknown { IfErr result (λ error.

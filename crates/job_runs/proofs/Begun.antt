@@ -9,7 +9,8 @@ use Rattle.runner.specs.Runs.{IsStarted}
 use Rattle.job_runs.specs.Tasks.{IsTaskOf}
 use Rattle.job_runs.specs.Runs.{IsBegun}
 
-pub begun_of : {A E : Type 0} (r : Result A E) (run : RunKey) (task : TaskValue) (made : Task) (old new : List Run) → IsTaskOf task made → OnOk r ((b : Run) × IsStarted run made b × (new ≡ old ++ b ∷ [])) → OnOk r (IsBegun run task old new)
+pub begun_of : {A E : Type 0} (r : Result A E) (run : RunKey) (task : TaskValue) (made : Task) (old new : List Run) → IsTaskOf task made →
+    OnOk r ((b : Run) × IsStarted run made b × (new ≡ old ++ b ∷ [])) → OnOk r (IsBegun run task old new)
 begun_of (Err e) run task made old new of_task on = tt
 begun_of (Ok x) run task made old new of_task on = record {
   made = made;

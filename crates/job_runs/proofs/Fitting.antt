@@ -67,10 +67,12 @@ fits_push plan job jobs h =
     let ns : List ℕ = open_numbers jobs in
     let last : ℕ = jobs.next in
     record {
-      rising = rw (open_push job jobs) (related-append (λ a b. a < b) ns (last ∷ []) h.rising (tt, tt) (all-weaker (λ n. n < last) (λ n. AllByRecursion (λ b. n < b) (last ∷ [])) (λ n below. (below, tt)) ns h.given));
+      rising = rw (open_push job jobs) (related-append (λ a b. a < b) ns (last ∷ []) h.rising (tt, tt)
+          (all-weaker (λ n. n < last) (λ n. AllByRecursion (λ b. n < b) (last ∷ [])) (λ n below. (below, tt)) ns h.given));
       given = rw (open_push job jobs) (all-append (λ n. n < last + 1) ns (last ∷ []) (one_more last ns h.given) (omega arith, tt));
       running = h.running;
-      waiting = rw (keys_push last job jobs.waiting) (all-append (λ n. plan n ≡ not_yet) (keys_of jobs.waiting) (last ∷ []) h.waiting (h.later last (omega arith), tt));
+      waiting = rw (keys_push last job jobs.waiting)
+          (all-append (λ n. plan n ≡ not_yet) (keys_of jobs.waiting) (last ∷ []) h.waiting (h.later last (omega arith), tt));
       later = λ n past. h.later n (omega (arith, past));
     }
 
@@ -150,9 +152,11 @@ fits_without n plan next jobs over h = record {
       same_number m n ≡ b → next m ≡ to_run t
   go m t is true here =
       let gone : task_of n (jobs_without n jobs) ≡ None = ap task_in (none_left n jobs.running (keys_of jobs.waiting) h.rising) in
-      let there : task_of n (jobs_without n jobs) ≡ Some t = subst (λ (k : ℕ). task_of k (jobs_without n jobs) ≡ Some t) (eqb-true m n here) is in
+      let there : task_of n (jobs_without n jobs) ≡ Some t =
+      subst (λ (k : ℕ). task_of k (jobs_without n jobs) ≡ Some t) (eqb-true m n here) is in
       absurd (let no : None ≡ Some t = sym gone ∙ there in cc)
-  go m t is false other = over.others m (eqb-false m n other) ∙ h.running m t (sym (ap task_in (lookup_without m n jobs.running other)) ∙ is)
+  go m t is false other = over.others m (eqb-false m n other)
+      ∙ h.running m t (sym (ap task_in (lookup_without m n jobs.running other)) ∙ is)
 
 pub fits_end : (n : ℕ) (operation : List ℕ) (plan next : ℕ → Order) (jobs : Jobs JobValue) →
     IsOver n plan next → Fits plan jobs → Fits next (jobs_after_end n operation jobs)
@@ -256,7 +260,8 @@ pub started_runs : (w : ℕ × JobValue) (ws : List (ℕ × JobValue)) (plan : �
     (jobs : Jobs JobValue) (deadline : ℕ) → Fits plan (waiting_with jobs (w ∷ ws)) →
     task_of w.0 (with_running jobs (w.0, record { deadline = deadline; job = w.1 })) ≡ Some w.1.task
 started_runs w ws plan jobs deadline h =
-    ap task_in (lookup_last w.0 jobs.running (record { deadline = deadline; job = w.1 }) (none_below w.0 jobs.running (keys_of ws) h.rising))
+    ap task_in (lookup_last w.0 jobs.running (record { deadline = deadline; job = w.1 })
+    (none_below w.0 jobs.running (keys_of ws) h.rising))
 
 pub fits_start : (w : ℕ × JobValue) (ws : List (ℕ × JobValue)) (plan next : ℕ → Order)
     (jobs : Jobs JobValue) (deadline : ℕ) → IsStarted w.0 w.1.task plan next →
@@ -271,15 +276,19 @@ fits_start w ws plan next jobs deadline started h =
       rising = rw same h.rising;
       given = rw same h.given;
       running = λ m t is. go m t is (same_number m w.0) refl;
-      waiting = front_apart w ws plan next started.others (keys_of ws) (related-back (λ a b. a < b) (keys_of jobs.running) (w.0 ∷ keys_of ws) h.rising).0 h.waiting.1;
-      later = λ m past. (let below : w.0 < jobs.next = all_at (λ k. k < jobs.next) (keys_of jobs.running) w.0 (keys_of ws) h.given in started.others m (λ is. omega (arith, below, past, is)) ∙ h.later m past);
+      waiting = front_apart w ws plan next started.others (keys_of ws)
+          (related-back (λ a b. a < b) (keys_of jobs.running) (w.0 ∷ keys_of ws) h.rising).0 h.waiting.1;
+      later = λ m past. (let below : w.0 < jobs.next = all_at (λ k. k < jobs.next) (keys_of jobs.running) w.0 (keys_of ws) h.given in
+          started.others m (λ is. omega (arith, below, past, is)) ∙ h.later m past);
     } where
       go : (m : ℕ) (t : TaskValue) →
           task_of m (with_running jobs (w.0, record { deadline = deadline; job = w.1 })) ≡ Some t →
           (b : Bool) → same_number m w.0 ≡ b → next m ≡ to_run t
       go m t is true here =
           let number : m ≡ w.0 = eqb-true m w.0 here in
-          let found : Some w.1.task ≡ Some t = sym (started_runs w ws plan jobs deadline h) ∙ subst (λ (k : ℕ). task_of k (with_running jobs (w.0, record { deadline = deadline; job = w.1 })) ≡ Some t) number is in
+          let found : Some w.1.task ≡ Some t = sym (started_runs w ws plan jobs deadline h)
+          ∙ subst (λ (k : ℕ). task_of k (with_running jobs (w.0, record { deadline = deadline; job = w.1 })) ≡ Some t) number is in
           let task : w.1.task ≡ t = cc in
           ap next number ∙ started.started ∙ ap to_run task
-      go m t is false other = started.others m (eqb-false m w.0 other) ∙ h.running m t (sym (ap task_in (lookup_behind m jobs.running (w.0, record { deadline = deadline; job = w.1 }) other)) ∙ is)
+      go m t is false other = started.others m (eqb-false m w.0 other)
+          ∙ h.running m t (sym (ap task_in (lookup_behind m jobs.running (w.0, record { deadline = deadline; job = w.1 }) other)) ∙ is)

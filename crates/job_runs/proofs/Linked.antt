@@ -40,14 +40,17 @@ none_own key (r ∷ rs) h =
 pub first_own : (key : RunKey) (r : Run) (rs : List Run) → r.place.run ≡ key → own_runs key (r ∷ rs) ≡ r ∷ own_runs key rs
 first_own key r rs same = cond_true (is_run_of key r) (r ∷ own_runs key rs) (own_runs key rs) (ap (is_key key) same ∙ key_same key)
 
-pub first_other : (other : RunKey) (r : Run) (rs : List Run) → is_key other r.place.run ≡ false → own_runs other (r ∷ rs) ≡ own_runs other rs
+pub first_other : (other : RunKey) (r : Run) (rs : List Run) → is_key other r.place.run ≡ false →
+    own_runs other (r ∷ rs) ≡ own_runs other rs
 first_other other r rs apart = cond_false (is_run_of other r) (r ∷ own_runs other rs) (own_runs other rs) apart
 
-kept_own : (key : RunKey) (place : Place) (kept : Option State) (rs : List Run) → place.run ≡ key → own_runs key (run_kept place kept ++ rs) ≡ run_kept place kept ++ own_runs key rs
+kept_own : (key : RunKey) (place : Place) (kept : Option State) (rs : List Run) → place.run ≡ key →
+    own_runs key (run_kept place kept ++ rs) ≡ run_kept place kept ++ own_runs key rs
 kept_own key place None rs same = refl
 kept_own key place (Some s) rs same = first_own key (run_of place s) rs same
 
-kept_other : (other : RunKey) (place : Place) (kept : Option State) (rs : List Run) → is_key other place.run ≡ false → own_runs other (run_kept place kept ++ rs) ≡ own_runs other rs
+kept_other : (other : RunKey) (place : Place) (kept : Option State) (rs : List Run) → is_key other place.run ≡ false →
+    own_runs other (run_kept place kept ++ rs) ≡ own_runs other rs
 kept_other other place None rs apart = refl
 kept_other other place (Some s) rs apart = first_other other (run_of place s) rs apart
 
@@ -60,14 +63,17 @@ pub record IsReplaced (key : RunKey) (state : State) (kept : Option State) (old 
   pub then : new ≡ earlier ++ (run_kept place kept ++ later)
   pub same_key : place.run ≡ key
 
-pub others_stay : (key other : RunKey) (state : State) (kept : Option State) (old new : List Run) → IsReplaced key state kept old new → is_key other key ≡ false → own_runs other new ≡ own_runs other old
+pub others_stay : (key other : RunKey) (state : State) (kept : Option State) (old new : List Run) → IsReplaced key state kept old new →
+    is_key other key ≡ false → own_runs other new ≡ own_runs other old
 others_stay key other state kept old new is apart =
     let off : is_key other is.place.run ≡ false = ap (is_key other) is.same_key ∙ apart in
     ap (own_runs other) is.then ∙ filter-append (is_run_of other) is.earlier (run_kept is.place kept ++ is.later)
-    ∙ ap (λ (zs : List Run). own_runs other is.earlier ++ zs) (kept_other other is.place kept is.later off ∙ sym (first_other other (run_of is.place state) is.later off))
+    ∙ ap (λ (zs : List Run). own_runs other is.earlier ++ zs)
+    (kept_other other is.place kept is.later off ∙ sym (first_other other (run_of is.place state) is.later off))
     ∙ sym (filter-append (is_run_of other) is.earlier (run_of is.place state ∷ is.later)) ∙ sym (ap (own_runs other) is.there)
 
-alone : (key : RunKey) (s : SoFar) (xs : List Run) (r : Run) (ys : List Run) → IsLinked key s (xs ++ r ∷ ys) → (xs ≡ []) × (ys ≡ []) × IsInState key s r.place r.state
+alone : (key : RunKey) (s : SoFar) (xs : List Run) (r : Run) (ys : List Run) → IsLinked key s (xs ++ r ∷ ys) →
+    (xs ≡ []) × (ys ≡ []) × IsInState key s r.place r.state
 alone key s [] r [] h = (refl, refl, h)
 alone key s [] r (y ∷ ys) h = absurd h
 alone key s (x ∷ []) r ys h = absurd h
@@ -78,7 +84,8 @@ pub record IsOnlyOne (key : RunKey) (s : SoFar) (state : State) (kept : Option S
   pub state_is : IsInState key s place state
   pub left : own_runs key new ≡ run_kept place kept
 
-pub only_one : (key : RunKey) (s : SoFar) (state : State) (kept : Option State) (old new : List Run) → (is : IsReplaced key state kept old new) → IsLinked key s (own_runs key old) → IsOnlyOne key s state kept is.place new
+pub only_one : (key : RunKey) (s : SoFar) (state : State) (kept : Option State) (old new : List Run) →
+    (is : IsReplaced key state kept old new) → IsLinked key s (own_runs key old) → IsOnlyOne key s state kept is.place new
 only_one key s state kept old new is linked =
     let so : own_runs key old ≡ own_runs key is.earlier ++ run_of is.place state ∷ own_runs key is.later =
     ap (own_runs key) is.there ∙ filter-append (is_run_of key) is.earlier (run_of is.place state ∷ is.later)
@@ -122,7 +129,8 @@ same_adds {C} before now is = subst (λ (o : Option (List C)). Adds before o [])
 no_end_calls : (key : RunKey) (f g : Option (List FolderCall)) (p q : Option (List ProgramCall)) → g ≡ f → q ≡ p → EndCalls key f g p q
 no_end_calls key f g p q fs ps = record { calls = []; folders = same_adds f g fs; programs = same_adds p q ps; own = tt; idle = tt }
 
-kill_calls : (key : RunKey) (a : Result ProgramAnswer ErrorKind) (e : Ending) (f g : Option (List FolderCall)) (p q : Option (List ProgramCall)) → g ≡ f → Adds p q (called (kill_asked key) a ++ forgotten key e) → EndCalls key f g p q
+kill_calls : (key : RunKey) (a : Result ProgramAnswer ErrorKind) (e : Ending) (f g : Option (List FolderCall))
+    (p q : Option (List ProgramCall)) → g ≡ f → Adds p q (called (kill_asked key) a ++ forgotten key e) → EndCalls key f g p q
 kill_calls key a Killing f g p q fs adds = record {
   calls = of_programs record { question = kill_asked key; answer = a } ∷ [];
   folders = same_adds f g fs;
@@ -131,14 +139,16 @@ kill_calls key a Killing f g p q fs adds = record {
   idle = ((refl, refl), tt);
 }
 kill_calls key a Removing f g p q fs adds = record {
-  calls = of_programs record { question = kill_asked key; answer = a } ∷ of_programs record { question = forget_asked key; answer = Ok program_done } ∷ [];
+  calls = of_programs record { question = kill_asked key; answer = a } ∷ of_programs record
+      { question = forget_asked key; answer = Ok program_done } ∷ [];
   folders = same_adds f g fs;
   programs = adds;
   own = (refl, (refl, tt));
   idle = ((refl, refl), ((refl, refl), tt));
 }
 
-pub end_calls : (key : RunKey) (e : Option Ending) (left : Result (Option Ending) RunFault) (f g : Option (List FolderCall)) (p q : Option (List ProgramCall)) → EndsBy key e left f g p q → EndCalls key f g p q
+pub end_calls : (key : RunKey) (e : Option Ending) (left : Result (Option Ending) RunFault) (f g : Option (List FolderCall))
+    (p q : Option (List ProgramCall)) → EndsBy key e left f g p q → EndCalls key f g p q
 end_calls key None left f g p q by = no_end_calls key f g p q by.1 by.2
 end_calls key (Some Killing) left f g p q by = kill_calls key by.3.0 (left_of_kill by.3.0) f g p q by.2 by.3.2
 end_calls key (Some Removing) left f g p q by = record {
@@ -149,7 +159,8 @@ end_calls key (Some Removing) left f g p q by = record {
   idle = ((refl, refl), tt);
 }
 
-live_ended : (key : RunKey) (o : Order) (calls : List RunCall) (place : Place) (stage : Stage) → IsLive key o calls place stage → ended o ≡ no_more
+live_ended : (key : RunKey) (o : Order) (calls : List RunCall) (place : Place) (stage : Stage) → IsLive key o calls place stage →
+    ended o ≡ no_more
 live_ended key (to_run t) calls place stage h = refl
 live_ended key not_yet calls place stage h = absurd h
 live_ended key no_more calls place stage h = absurd h
@@ -163,11 +174,13 @@ idle_ended not_yet calls h = h
 idle_ended (to_run t) calls h = tt
 idle_ended no_more calls h = tt
 
-left_linked : (key : RunKey) (calls : List RunCall) (place : Place) (left : Option Ending) → IsLinked key (record { order = no_more; calls = calls }) (run_left place left)
+left_linked : (key : RunKey) (calls : List RunCall) (place : Place) (left : Option Ending) →
+    IsLinked key (record { order = no_more; calls = calls }) (run_left place left)
 left_linked key calls place None = tt
 left_linked key calls place (Some e) = refl
 
-nothing_linked : (key : RunKey) (s : SoFar) (o : Order) (rs : List Run) → rs ≡ [] → IsIdle o s.calls → IsLinked key (record { order = o; calls = s.calls }) rs
+nothing_linked : (key : RunKey) (s : SoFar) (o : Order) (rs : List Run) → rs ≡ [] → IsIdle o s.calls →
+    IsLinked key (record { order = o; calls = s.calls }) rs
 nothing_linked key s o rs none idle = subst (IsLinked key (record { order = o; calls = s.calls })) (sym none) idle
 
 was_idle : (key : RunKey) (s : SoFar) (rs : List Run) → rs ≡ [] → IsLinked key s rs → IsIdle s.order s.calls
@@ -179,8 +192,10 @@ pub record IsEnd (key : RunKey) (s : SoFar) (first : RunEvent) : Type 0 where
   pub right : IsRight key s (told first)
 
 -- there is no run
-pub none_ended : (key : RunKey) (s : SoFar) (first : RunEvent) (old new : List Run) (f g : Option (List FolderCall)) (p q : Option (List ProgramCall))
-    → IsEnd key s first → own_runs key old ≡ [] → new ≡ old → g ≡ f → q ≡ p → IsLinked key s (own_runs key old) → Adds1 key s first [] (own_runs key new) f g p q
+pub none_ended : (key : RunKey) (s : SoFar) (first : RunEvent) (old new : List Run) (f g : Option (List FolderCall))
+    (p q : Option (List ProgramCall))
+    → IsEnd key s first → own_runs key old ≡ [] → new ≡ old → g ≡ f → q ≡ p → IsLinked key s (own_runs key old) →
+    Adds1 key s first [] (own_runs key new) f g p q
 none_ended key s first old new f g p q end none same fs ps linked = record {
   calls = [];
   folders = same_adds f g fs;
@@ -189,26 +204,35 @@ none_ended key s first old new f g p q end none same fs ps linked = record {
   of_last = tt;
   right = (end.right, tt);
   linked = nothing_linked key s (order_by s.order first) (own_runs key new) (ap (own_runs key) same ∙ none)
-      (subst (λ (o : Order). IsIdle o s.calls) (sym end.order) (idle_ended s.order s.calls (was_idle key s (own_runs key old) none linked)));
+      (subst (λ (o : Order). IsIdle o s.calls) (sym end.order)
+      (idle_ended s.order s.calls (was_idle key s (own_runs key old) none linked)));
 }
 
-pub replaced_end : (key : RunKey) (state : State) (old new : List Run) (f g : Option (List FolderCall)) (p q : Option (List ProgramCall)) → (ends : Ends key state old new f g p q) → IsReplaced key state (option_map Over (still_left ends.left)) old new
-replaced_end key state old new f g p q ends = record { earlier = ends.earlier; later = ends.later; place = ends.place; there = ends.there; then = ends.then; same_key = ends.same_key }
+pub replaced_end : (key : RunKey) (state : State) (old new : List Run) (f g : Option (List FolderCall)) (p q : Option (List ProgramCall)) →
+    (ends : Ends key state old new f g p q) → IsReplaced key state (option_map Over (still_left ends.left)) old new
+replaced_end key state old new f g p q ends = record
+    { earlier = ends.earlier; later = ends.later; place = ends.place; there = ends.there; then = ends.then; same_key = ends.same_key }
 
 -- the run that is ended is the only one of its key
-pub only_ended : (key : RunKey) (s : SoFar) (state : State) (old new : List Run) (f g : Option (List FolderCall)) (p q : Option (List ProgramCall))
-    → (ends : Ends key state old new f g p q) → IsLinked key s (own_runs key old) → IsOnlyOne key s state (option_map Over (still_left ends.left)) ends.place new
+pub only_ended : (key : RunKey) (s : SoFar) (state : State) (old new : List Run) (f g : Option (List FolderCall))
+    (p q : Option (List ProgramCall))
+    → (ends : Ends key state old new f g p q) → IsLinked key s (own_runs key old) →
+    IsOnlyOne key s state (option_map Over (still_left ends.left)) ends.place new
 unfolding replaced_end
-only_ended key s state old new f g p q ends linked = only_one key s state (option_map Over (still_left ends.left)) old new (replaced_end key state old new f g p q ends) linked
+only_ended key s state old new f g p q ends linked =
+    only_one key s state (option_map Over (still_left ends.left)) old new (replaced_end key state old new f g p q ends) linked
 
-one_ended : (key : RunKey) (s : SoFar) (first : RunEvent) (state : State) (old new : List Run) (f g : Option (List FolderCall)) (p q : Option (List ProgramCall))
-    → IsEnd key s first → (ends : Ends key state old new f g p q) → IsLinked key s (own_runs key old) → Adds1 key s first [] (own_runs key new) f g p q
+one_ended : (key : RunKey) (s : SoFar) (first : RunEvent) (state : State) (old new : List Run) (f g : Option (List FolderCall))
+    (p q : Option (List ProgramCall))
+    → IsEnd key s first → (ends : Ends key state old new f g p q) → IsLinked key s (own_runs key old) →
+    Adds1 key s first [] (own_runs key new) f g p q
 unfolding replaced_end
 one_ended key s first state old new f g p q end ends linked =
     let one = only_one key s state (option_map Over (still_left ends.left)) old new (replaced_end key state old new f g p q ends) linked in
     let cs = end_calls key (ending_of state) ends.left f g p q ends.by in
     let now : order_by s.order first ≡ no_more = end.order ∙ state_ended key s ends.place state one.state_is in
-    let same : record { order = no_more; calls = s.calls } ≡ step_by s (told first) = ap (λ (o : Order). record { order = o; calls = s.calls }) (sym now) in
+    let same : record { order = no_more; calls = s.calls } ≡ step_by s (told first) =
+    ap (λ (o : Order). record { order = o; calls = s.calls }) (sym now) in
     record {
       calls = cs.calls;
       folders = cs.folders;
@@ -217,20 +241,29 @@ one_ended key s first state old new f g p q end ends linked =
       of_last = tt;
       right = (
         end.right,
-        right_of_append key (step_by s (told first)) (map asked cs.calls) [] (subst (λ (r : SoFar). AreRightOf key r (map asked cs.calls)) same (idle_calls key s.calls cs.calls cs.idle)) tt,
+        right_of_append key (step_by s (told first)) (map asked cs.calls) []
+            (subst (λ (r : SoFar). AreRightOf key r (map asked cs.calls)) same (idle_calls key s.calls cs.calls cs.idle)) tt,
       );
-      linked = subst (λ (xs : List RunStep). IsLinked key (fold step_by (step_by s (told first)) xs) (own_runs key new)) (sym (append-nil (map asked cs.calls)))
+      linked = subst (λ (xs : List RunStep). IsLinked key (fold step_by (step_by s (told first)) xs) (own_runs key new))
+          (sym (append-nil (map asked cs.calls)))
           (subst (λ (r : SoFar). IsLinked key (fold step_by r (map asked cs.calls)) (own_runs key new)) same
-          (subst (λ (r : SoFar). IsLinked key r (own_runs key new)) (sym (after_asked (record { order = no_more; calls = s.calls }) cs.calls))
-          (subst (IsLinked key (record { order = no_more; calls = s.calls ++ cs.calls })) (sym one.left) (left_linked key (s.calls ++ cs.calls) ends.place (still_left ends.left)))));
+          (subst (λ (r : SoFar). IsLinked key r (own_runs key new))
+          (sym (after_asked (record { order = no_more; calls = s.calls }) cs.calls))
+          (subst (IsLinked key (record { order = no_more; calls = s.calls ++ cs.calls })) (sym one.left)
+          (left_linked key (s.calls ++ cs.calls) ends.place (still_left ends.left)))));
     }
 
-pub killed_adds : (key : RunKey) (s : SoFar) (first : RunEvent) (told_it : Result ⊤ RunFault) (old new : List Run) (f g : Option (List FolderCall)) (p q : Option (List ProgramCall))
-    → IsEnd key s first → IsKilled key told_it old new f g p q → IsLinked key s (own_runs key old) → Adds1 key s first [] (own_runs key new) f g p q
-killed_adds key s first told_it old new f g p q end (inl h) linked = none_ended key s first old new f g p q end (none_own key old h.0.0) h.0.1 h.0.2 h.0.3 linked
+pub killed_adds : (key : RunKey) (s : SoFar) (first : RunEvent) (told_it : Result ⊤ RunFault) (old new : List Run)
+    (f g : Option (List FolderCall)) (p q : Option (List ProgramCall))
+    → IsEnd key s first → IsKilled key told_it old new f g p q → IsLinked key s (own_runs key old) →
+    Adds1 key s first [] (own_runs key new) f g p q
+killed_adds key s first told_it old new f g p q end (inl h) linked =
+    none_ended key s first old new f g p q end (none_own key old h.0.0) h.0.1 h.0.2 h.0.3 linked
 killed_adds key s first told_it old new f g p q end (inr h) linked = one_ended key s first h.0 old new f g p q end h.1 linked
 
-pub killed_others : (key other : RunKey) (told_it : Result ⊤ RunFault) (old new : List Run) (f g : Option (List FolderCall)) (p q : Option (List ProgramCall))
+pub killed_others : (key other : RunKey) (told_it : Result ⊤ RunFault) (old new : List Run) (f g : Option (List FolderCall))
+    (p q : Option (List ProgramCall))
     → IsKilled key told_it old new f g p q → is_key other key ≡ false → own_runs other new ≡ own_runs other old
 killed_others key other told_it old new f g p q (inl h) apart = ap (own_runs other) h.0.1
-killed_others key other told_it old new f g p q (inr h) apart = others_stay key other h.0 _ old new (replaced_end key h.0 old new f g p q h.1) apart
+killed_others key other told_it old new f g p q (inr h) apart =
+    others_stay key other h.0 _ old new (replaced_end key h.0 old new f g p q h.1) apart

@@ -40,7 +40,8 @@ AreNoTurns xs = AllByRecursion IsNoTurn xs
 
 -- ---- the changes of an event of a call
 
-mapped : {A : Type 0} (P : InstanceChange → Type 0) (f : A → InstanceChange) → ((x : A) → P (f x)) → (xs : List A) → AllByRecursion P (map f xs)
+mapped : {A : Type 0} (P : InstanceChange → Type 0) (f : A → InstanceChange) → ((x : A) → P (f x)) → (xs : List A) →
+    AllByRecursion P (map f xs)
 mapped P f h [] = tt
 mapped P f h (x ∷ xs) = (h x, mapped P f h xs)
 
@@ -52,37 +53,47 @@ and_then : (xs : List InstanceChange) (x : InstanceChange) → AreNoTurns xs →
 and_then xs x h k = all-append IsNoTurn xs (x ∷ []) h (k, tt)
 
 -- a text is used, or a part taken
-use_or_part : {A : Type 0} (f : A → InstanceChange) → ((x : A) → IsNoTurn (f x)) → (b : Bool) (x : A) (s : InstanceState) (part : PartValue) → AreNoTurns (cond b (f x ∷ []) (part_changes true s part))
+use_or_part : {A : Type 0} (f : A → InstanceChange) → ((x : A) → IsNoTurn (f x)) →
+    (b : Bool) (x : A) (s : InstanceState) (part : PartValue) → AreNoTurns (cond b (f x ∷ []) (part_changes true s part))
 use_or_part f h true x s part = (h x, tt)
 use_or_part f h false x s part = (tt, (tt, tt))
 
 first_changes_no_turn : (s : InstanceState) (bytes : List ℕ) → AreNoTurns (first_changes s bytes)
-first_changes_no_turn s bytes = on_result (λ r. AreNoTurns (changes_asked (first_part_changes s) r)) (λ asked. use_or_part Text (λ t. tt) _ _ s asked.part) (λ refusal. tt) _
+first_changes_no_turn s bytes = on_result (λ r. AreNoTurns (changes_asked (first_part_changes s) r))
+    (λ asked. use_or_part Text (λ t. tt) _ _ s asked.part) (λ refusal. tt) _
 
 next_changes_no_turn : (s : InstanceState) (write : OpenWriteValue) (bytes : List ℕ) → AreNoTurns (next_changes s write bytes)
-next_changes_no_turn s write bytes = on_result (λ r. AreNoTurns (changes_asked (part_changes false s) r)) (λ part. (tt, (tt, tt))) (λ refusal. tt) _
+next_changes_no_turn s write bytes = on_result (λ r. AreNoTurns (changes_asked (part_changes false s) r)) (λ part. (tt, (tt, tt)))
+    (λ refusal. tt) _
 
-first_no_turn : (id : CallId) (method : Method) (xs : List InstanceChange) (r : Result WrittenValue Refusal) → AreNoTurns xs → AreNoTurns (first_write_answer id method xs r).changes
+first_no_turn : (id : CallId) (method : Method) (xs : List InstanceChange) (r : Result WrittenValue Refusal) → AreNoTurns xs →
+    AreNoTurns (first_write_answer id method xs r).changes
 first_no_turn id method xs (Ok (Writing.Goes write)) h = and_then xs (Goes id (record { method = method; progress = writes write })) h tt
 first_no_turn id method xs (Ok (Writing.Answered reply)) h = and_then xs (Ends id) h tt
 first_no_turn id method xs (Err refusal) h = and_then xs (Ends id) h tt
 
-next_no_turn : (id : CallId) (xs : List InstanceChange) (r : Result (Option (List ℕ)) Refusal) → AreNoTurns xs → AreNoTurns (next_write_answer id xs r).changes
+next_no_turn : (id : CallId) (xs : List InstanceChange) (r : Result (Option (List ℕ)) Refusal) → AreNoTurns xs →
+    AreNoTurns (next_write_answer id xs r).changes
 next_no_turn id xs (Ok None) h = h
 next_no_turn id xs (Ok (Some reply)) h = and_then xs (Ends id) h tt
 next_no_turn id xs (Err refusal) h = and_then xs (Ends id) h tt
 
-first_message_no_turn : (s : InstanceState) (id : CallId) (method : Method) (bytes : List ℕ) → AreNoTurns (first_message_answer s id method bytes).changes
-first_message_no_turn s id Called.Write bytes = first_no_turn id Called.Write (first_changes s bytes) (first_outcome s bytes) (first_changes_no_turn s bytes)
+first_message_no_turn : (s : InstanceState) (id : CallId) (method : Method) (bytes : List ℕ) →
+    AreNoTurns (first_message_answer s id method bytes).changes
+first_message_no_turn s id Called.Write bytes =
+    first_no_turn id Called.Write (first_changes s bytes) (first_outcome s bytes) (first_changes_no_turn s bytes)
 first_message_no_turn s id method bytes = (tt, tt)
 
-by_progress_no_turn : (s : InstanceState) (id : CallId) (method : Method) (bytes : List ℕ) (p : ProgressValue) → AreNoTurns (answer_by_progress s id method bytes p).changes
+by_progress_no_turn : (s : InstanceState) (id : CallId) (method : Method) (bytes : List ℕ) (p : ProgressValue) →
+    AreNoTurns (answer_by_progress s id method bytes p).changes
 by_progress_no_turn s id method bytes waits = first_message_no_turn s id method bytes
 by_progress_no_turn s id method bytes (has first) = (tt, tt)
-by_progress_no_turn s id method bytes (writes write) = next_no_turn id (next_changes s write bytes) (next_outcome s write bytes) (next_changes_no_turn s write bytes)
+by_progress_no_turn s id method bytes (writes write) =
+    next_no_turn id (next_changes s write bytes) (next_outcome s write bytes) (next_changes_no_turn s write bytes)
 by_progress_no_turn s id method bytes (watches n) = tt
 
-message_no_turn : (s : InstanceState) (id : CallId) (bytes : List ℕ) (o : Option CallValue) → AreNoTurns (message_answer s id bytes o).changes
+message_no_turn : (s : InstanceState) (id : CallId) (bytes : List ℕ) (o : Option CallValue) →
+    AreNoTurns (message_answer s id bytes o).changes
 message_no_turn s id bytes None = tt
 message_no_turn s id bytes (Some call) = by_progress_no_turn s id call.method bytes call.progress
 
@@ -106,7 +117,8 @@ execution_no_turn (Executor.Does operation) = tt
 execution_no_turn (Executor.Pushes job) = tt
 
 execute_no_turn : (s : InstanceState) (request : List ℕ) → AreNoTurns (request_changes Called.Execute s request)
-execute_no_turn s request = on_result (λ r. AreNoTurns (execution_changes s r)) (λ asked. mapped IsNoTurn execution_change execution_no_turn (executed s asked).changes) (λ refusal. tt) _
+execute_no_turn s request = on_result (λ r. AreNoTurns (execution_changes s r))
+    (λ asked. mapped IsNoTurn execution_change execution_no_turn (executed s asked).changes) (λ refusal. tt) _
 
 request_no_turn : (s : InstanceState) (method : Method) (request : List ℕ) → AreNoTurns (request_changes method s request)
 request_no_turn s Called.FindMissingBlobs request = mapped IsNoTurn Text (λ t. tt) _
@@ -133,7 +145,8 @@ end_no_turn s id (Some call) = go call.progress where
   go waits = (tt, tt)
   go (has request) =
       let r = answer_to call.method s request in
-      and_then (request_changes call.method s request) (call_change id call.method r) (request_no_turn s call.method request) (last_no_turn id call.method r)
+      and_then (request_changes call.method s request) (call_change id call.method r) (request_no_turn s call.method request)
+      (last_no_turn id call.method r)
   go (writes write) = (tt, tt)
   go (watches n) = tt
 
@@ -156,9 +169,11 @@ IsStored (Text t) = Unit {0}
 IsStored (Keeps results) = Unit {0}
 IsStored other = ⊥
 
-admitted_stored : {A : Type 0} (f : A → InstanceChange) → ((x : A) → IsStored (f x)) → (xs : List A) (results : List Blob) → AllByRecursion IsStored (map f xs ++ Keeps results ∷ [])
+admitted_stored : {A : Type 0} (f : A → InstanceChange) → ((x : A) → IsStored (f x)) → (xs : List A) (results : List Blob) →
+    AllByRecursion IsStored (map f xs ++ Keeps results ∷ [])
 admitted_stored f h xs results = all-append IsStored (map f xs) (Keeps results ∷ []) (mapped IsStored f h xs) (tt, tt)
 
-pub ending_stored : (s : InstanceState) (outcome : OutcomeValue) (o : Option JobValue) → AllByRecursion IsStored (ending_changes s outcome o)
+pub ending_stored : (s : InstanceState) (outcome : OutcomeValue) (o : Option JobValue) →
+    AllByRecursion IsStored (ending_changes s outcome o)
 ending_stored s outcome None = tt
 ending_stored s outcome (Some job) = admitted_stored Text (λ t. tt) _ _

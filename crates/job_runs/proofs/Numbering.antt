@@ -20,7 +20,8 @@ text_behind : (b : Blob) (bs : List Blob) (n : ℕ) → numbered_text (b ∷ bs)
 text_behind b bs n = let next : 1 + n ≡ suc n = omega arith in rw next refl
 
 -- a digest's number finds its text
-pub number_finds : (texts : List Blob) (d : Digest) → numbered_text texts (text_number texts d) ≡ unwrap_or (lookup (same_digest d) texts) []
+pub number_finds : (texts : List Blob) (d : Digest) →
+    numbered_text texts (text_number texts d) ≡ unwrap_or (lookup (same_digest d) texts) []
 number_finds [] d = refl
 number_finds (b ∷ bs) d = by (same_digest d b.0) refl (number_finds bs d)
   where
@@ -39,7 +40,8 @@ lent_text lent p ts n t there found = ap (λ (o : Option Slots). numbered_text (
     go (x ∷ xs) zero found = let same : x ≡ t = cc in ap (λ (x : KeptText). text_at p x.text) same
     go (x ∷ xs) (suc n) found = go xs n found
 
-pub no_text : (lent : Option Slots) (p : Slots) (ts : List KeptText) (n : ℕ) → lent ≡ Some p → slice_get ts n ≡ None → numbered_text (lent_in lent ts) n ≡ []
+pub no_text : (lent : Option Slots) (p : Slots) (ts : List KeptText) (n : ℕ) → lent ≡ Some p → slice_get ts n ≡ None →
+    numbered_text (lent_in lent ts) n ≡ []
 no_text lent p ts n there found = ap (λ (o : Option Slots). numbered_text (lent_in o ts) n) there ∙ go ts n found
   where
     go : (ts : List KeptText) (n : ℕ) → slice_get ts n ≡ None → numbered_text (blobs_in p (kept_entries ts)) n ≡ []

@@ -88,7 +88,8 @@ ended_adds key t before told_it old new f g p q (inr h) linked =
     let ends = h.1 in
     let one = only_ended key (at t before) h.0 old new f g p q ends linked in
     let cs = end_calls key (ending_of h.0) ends.left f g p q ends.by in
-    subst (λ (rs : List Run). Adds1 key (at t before) (lent key.instance key.job (Some t)) (outcome_events key told_failed) rs f g p q) (sym one.left)
+    subst (λ (rs : List Run). Adds1 key (at t before) (lent key.instance key.job (Some t)) (outcome_events key told_failed) rs f g p q)
+    (sym one.left)
     (becoming_adds key t before told_failed (run_left ends.place (still_left ends.left)) f g p q (record {
       calls = cs.calls;
       folders = cs.folders;
@@ -105,13 +106,16 @@ ended_carries : (key : RunKey) (t : TaskValue) (told_it : Result ⊤ RunFault) (
     → IsKilled key told_it runs now f g p q → noted ≡ without_key key to_begin
     → Carry runs to_begin f p h → Carry now noted g q (h ++ lent key.instance key.job (Some t) ∷ outcome_events key told_failed)
 ended_carries key t told_it runs now to_begin noted f g p q h killed taken was =
-    let others : (other : RunKey) → is_key other key ≡ false → own_runs other now ≡ own_runs other runs = (λ other apart. killed_others key other told_it runs now f g p q killed apart) in
-    carry key runs now to_begin noted (lent key.instance key.job (Some t)) (outcome_events key told_failed) f g p q h (killed_lost key told_it runs now f g p q killed) (record {
+    let others : (other : RunKey) → is_key other key ≡ false → own_runs other now ≡ own_runs other runs =
+    (λ other apart. killed_others key other told_it runs now f g p q killed apart) in
+    carry key runs now to_begin noted (lent key.instance key.job (Some t)) (outcome_events key told_failed) f g p q h
+    (killed_lost key told_it runs now f g p q killed) (record {
       of_key = again key;
       others = others;
       adds = λ s job linked noted_so.
           (let so : s ≡ at t s.calls = ap (λ (o : Order). record { order = o; calls = s.calls }) job in
-          subst (λ (x : SoFar). Adds1 key x (lent key.instance key.job (Some t)) (outcome_events key told_failed) (own_runs key now) f g p q) (sym so)
+          subst (λ (x : SoFar). Adds1 key x (lent key.instance key.job (Some t)) (outcome_events key told_failed)
+          (own_runs key now) f g p q) (sym so)
           (ended_adds key t s.calls told_it runs now f g p q killed (subst (λ (x : SoFar). IsLinked key x (own_runs key runs)) so linked)));
       notes = λ s job linked noted_so. taken_notes key runs now to_begin noted taken others noted_so;
     }) was
@@ -122,13 +126,16 @@ noted_ended_carries : (key : RunKey) (t : TaskValue) (runs now : List Run) (to_b
     → now ≡ runs → g ≡ f → q ≡ p → has_key key to_begin ≡ true → noted ≡ without_key key to_begin
     → Carry runs to_begin f p h → Carry now noted g q (h ++ lent key.instance key.job (Some t) ∷ outcome_events key told_failed)
 noted_ended_carries key t runs now to_begin noted f g p q h same fs ps there taken was =
-    let others : (other : RunKey) → is_key other key ≡ false → own_runs other now ≡ own_runs other runs = (λ other apart. ap (own_runs other) same) in
-    carry key runs now to_begin noted (lent key.instance key.job (Some t)) (outcome_events key told_failed) f g p q h (same_lost f g p q fs ps) (record {
+    let others : (other : RunKey) → is_key other key ≡ false → own_runs other now ≡ own_runs other runs =
+    (λ other apart. ap (own_runs other) same) in
+    carry key runs now to_begin noted (lent key.instance key.job (Some t)) (outcome_events key told_failed) f g p q h
+    (same_lost f g p q fs ps) (record {
       of_key = again key;
       others = others;
       adds = λ s job linked noted_so.
           (let so : s ≡ at t s.calls = ap (λ (o : Order). record { order = o; calls = s.calls }) job in
-          subst (λ (x : SoFar). Adds1 key x (lent key.instance key.job (Some t)) (outcome_events key told_failed) (own_runs key now) f g p q) (sym so)
+          subst (λ (x : SoFar). Adds1 key x (lent key.instance key.job (Some t)) (outcome_events key told_failed)
+          (own_runs key now) f g p q) (sym so)
           (failed_adds key t s.calls (own_runs key now) f g p q fs ps (ap (own_runs key) same ∙ noted_so key there)));
       notes = λ s job linked noted_so. taken_notes key runs now to_begin noted taken others noted_so;
     }) was

@@ -46,19 +46,22 @@ pub plan_own : (i n : ℕ) (before : List RunEvent) (e : RunEvent) → told_of e
     plan_of i (before ++ e ∷ []) n ≡ order_by (plan_of i before n) e
 plan_own i n before e own =
     plan_more i n before e
-    ∙ cond_true (is_key (key_of i n) (told_of e)) (order_by (plan_of i before n) e) (plan_of i before n) (ap (is_key (key_of i n)) own ∙ key_same (key_of i n))
+    ∙ cond_true (is_key (key_of i n) (told_of e)) (order_by (plan_of i before n) e) (plan_of i before n)
+    (ap (is_key (key_of i n)) own ∙ key_same (key_of i n))
 
 pub plan_beside : (i n m : ℕ) (before : List RunEvent) (e : RunEvent) → told_of e ≡ key_of i n →
     m ≢ n → plan_of i (before ++ e ∷ []) m ≡ plan_of i before m
 plan_beside i n m before e own other =
     plan_more i m before e
-    ∙ cond_false (is_key (key_of i m) (told_of e)) (order_by (plan_of i before m) e) (plan_of i before m) (ap (is_key (key_of i m)) own ∙ other_job i m n other)
+    ∙ cond_false (is_key (key_of i m) (told_of e)) (order_by (plan_of i before m) e) (plan_of i before m)
+    (ap (is_key (key_of i m)) own ∙ other_job i m n other)
 
 pub plan_apart : (i j n m : ℕ) (before : List RunEvent) (e : RunEvent) → told_of e ≡ key_of j n →
     i ≢ j → plan_of i (before ++ e ∷ []) m ≡ plan_of i before m
 plan_apart i j n m before e own other =
     plan_more i m before e
-    ∙ cond_false (is_key (key_of i m) (told_of e)) (order_by (plan_of i before m) e) (plan_of i before m) (ap (is_key (key_of i m)) own ∙ other_instance i j m n other)
+    ∙ cond_false (is_key (key_of i m) (told_of e)) (order_by (plan_of i before m) e) (plan_of i before m)
+    (ap (is_key (key_of i m)) own ∙ other_instance i j m n other)
 
 pub is_over : (i n : ℕ) (before : List RunEvent) (e : RunEvent) → told_of e ≡ key_of i n →
     ((s : Order) → order_by s e ≡ ended s) →
@@ -99,8 +102,11 @@ jobs_append : (before xs ys : List RunEvent) → AreOfJobsBehind before xs →
     AreOfJobsBehind (before ++ xs) ys → AreOfJobsBehind before (xs ++ ys)
 jobs_append before [] ys h k =
     subst (λ (b : List RunEvent). AreOfJobsBehind b ys) (append-nil before) k
-jobs_append before (x ∷ xs) ys h k =
-    (h.0, jobs_append (before ++ x ∷ []) xs ys h.1 (subst (λ (b : List RunEvent). AreOfJobsBehind b ys) (sym (append_assoc before (x ∷ []) xs)) k))
+jobs_append before (x ∷ xs) ys h k = (
+  h.0,
+  jobs_append (before ++ x ∷ []) xs ys h.1
+      (subst (λ (b : List RunEvent). AreOfJobsBehind b ys) (sym (append_assoc before (x ∷ []) xs)) k),
+)
 
 lead_both : (i : ℕ) (before xs ys : List RunEvent) (mid after : Jobs JobValue) →
     Leads i before xs mid → Leads i (before ++ xs) ys after → Leads i before (xs ++ ys) after
@@ -132,7 +138,8 @@ events_by i after steps = map (ordered i) (filter_map (order_of after) steps)
 events_both : (i : ℕ) (after : Jobs JobValue) (xs ys : List StepValue) →
     events_by i after (xs ++ ys) ≡ events_by i after xs ++ events_by i after ys
 events_both i after xs ys =
-    ap (map (ordered i)) (filter_map-append (order_of after) xs ys) ∙ map-append (ordered i) (filter_map (order_of after) xs) (filter_map (order_of after) ys)
+    ap (map (ordered i)) (filter_map-append (order_of after) xs ys)
+    ∙ map-append (ordered i) (filter_map (order_of after) xs) (filter_map (order_of after) ys)
 
 late_lead : (i : ℕ) (after : Jobs JobValue) (steps : List StepValue) (jobs : Jobs JobValue)
     (before : List RunEvent) → AllByRecursion TimesOut steps → Fits (plan_of i before) jobs →
@@ -141,8 +148,10 @@ late_lead i after [] jobs before late h = leads_nothing i before jobs h
 late_lead i after (times_out n operation ∷ steps) jobs before late h =
     let e : RunEvent = ordered i (kill n) in
     let next : Jobs JobValue = jobs_after_end n operation jobs in
-    let fits : Fits (plan_of i (before ++ e ∷ [])) next = fits_end n operation (plan_of i before) (plan_of i (before ++ e ∷ [])) jobs (is_over i n before e refl (λ s. refl)) h in
-    then_lead i before e (events_by i after steps) (jobs_after_steps steps next) (tt, tt) (late_lead i after steps next (before ++ e ∷ []) late.1 fits)
+    let fits : Fits (plan_of i (before ++ e ∷ [])) next =
+    fits_end n operation (plan_of i before) (plan_of i (before ++ e ∷ [])) jobs (is_over i n before e refl (λ s. refl)) h in
+    then_lead i before e (events_by i after steps) (jobs_after_steps steps next) (tt, tt)
+    (late_lead i after steps next (before ++ e ∷ []) late.1 fits)
 late_lead i after (ends n operation ∷ steps) jobs before late h = absurd late.0
 late_lead i after (starts n deadline operation ∷ steps) jobs before late h = absurd late.0
 
@@ -175,9 +184,12 @@ starts_lead i (suc most) moment (w ∷ ws) jobs after before is h =
     let e : RunEvent = ordered i (start n t) in
     let next : Jobs JobValue = with_running jobs (n, record { deadline = deadline; job = w.1 }) in
     let later : List RunEvent = events_by i after (starts_of most moment ws) in
-    let fits : Fits (plan_of i (before ++ e ∷ [])) (waiting_with next ws) = fits_start w ws (plan_of i before) (plan_of i (before ++ e ∷ [])) jobs deadline (is_started i n t before) h in
-    let runs : task_of n after ≡ Some t = ap (task_of n) is ∙ still_runs n t most moment ws next (started_runs w ws (plan_of i before) jobs deadline h) in
-    let more : Leads i (before ++ e ∷ []) later (jobs_after_steps (starts_of most moment ws) (waiting_with next ws)) = starts_lead i most moment ws next after (before ++ e ∷ []) is fits in
+    let fits : Fits (plan_of i (before ++ e ∷ [])) (waiting_with next ws) =
+    fits_start w ws (plan_of i before) (plan_of i (before ++ e ∷ [])) jobs deadline (is_started i n t before) h in
+    let runs : task_of n after ≡ Some t = ap (task_of n) is
+    ∙ still_runs n t most moment ws next (started_runs w ws (plan_of i before) jobs deadline h) in
+    let more : Leads i (before ++ e ∷ []) later (jobs_after_steps (starts_of most moment ws) (waiting_with next ws)) =
+    starts_lead i most moment ws next after (before ++ e ∷ []) is fits in
     rw runs (then_lead i before e later (jobs_after_steps (starts_of most moment ws) (waiting_with next ws)) (h.waiting.0, tt) more)
 
 -- ---- a turn
@@ -202,7 +214,8 @@ turn_leads i slots moment first jobs before late h =
 pub tick_leads : (i slots moment : ℕ) (jobs : Jobs JobValue) (before : List RunEvent) →
     Fits (plan_of i before) jobs →
     Leads i before
-    (map (ordered i) (orders_of (then_starts slots moment (timings_out moment jobs.running) jobs) jobs)) (jobs_after_steps (then_starts slots moment (timings_out moment jobs.running) jobs) jobs)
+    (map (ordered i) (orders_of (then_starts slots moment (timings_out moment jobs.running) jobs) jobs))
+    (jobs_after_steps (then_starts slots moment (timings_out moment jobs.running) jobs) jobs)
 tick_leads i slots moment jobs before h =
     turn_leads i slots moment (timings_out moment jobs.running) jobs before (timings_are moment jobs.running) h
 

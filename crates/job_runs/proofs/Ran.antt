@@ -27,7 +27,8 @@ pub key_same : (k : RunKey) → is_key k k ≡ true
 key_same k = and_both (k.instance == k.instance) (k.job == k.job) (eq-eqb k.instance k.instance refl) (eq-eqb k.job k.job refl)
 
 pub key_made : (a b : RunKey) → a.instance ≡ b.instance → a.job ≡ b.job → a ≡ b
-key_made a b one other = ap (λ (k : ℕ). record { instance = k; job = a.job }) one ∙ ap (λ (k : ℕ). record { instance = b.instance; job = k }) other
+key_made a b one other = ap (λ (k : ℕ). record { instance = k; job = a.job }) one
+    ∙ ap (λ (k : ℕ). record { instance = b.instance; job = k }) other
 
 pub key_equal : (k x : RunKey) → is_key k x ≡ true → x ≡ k
 key_equal k x is =
@@ -63,39 +64,49 @@ pub steps_own : (key : RunKey) (s : SoFar) (xs : List RunStep) → AreOf key xs 
 steps_own key s [] own = refl
 steps_own key s (x ∷ xs) own = ap (λ (q : SoFar). fold (step_on key) q xs) (step_own key s x own.0) ∙ steps_own key (step_by s x) xs own.1
 
-pub steps_other : (key other : RunKey) (s : SoFar) (xs : List RunStep) → is_key other key ≡ false → AreOf key xs → fold (step_on other) s xs ≡ s
+pub steps_other : (key other : RunKey) (s : SoFar) (xs : List RunStep) → is_key other key ≡ false → AreOf key xs →
+    fold (step_on other) s xs ≡ s
 steps_other key other s [] apart own = refl
 steps_other key other s (x ∷ xs) apart own =
-    ap (λ (q : SoFar). fold (step_on other) q xs) (cond_false (is_key other (run_of_step x)) (step_by s x) s (ap (is_key other) own.0 ∙ apart))
+    ap (λ (q : SoFar). fold (step_on other) q xs)
+    (cond_false (is_key other (run_of_step x)) (step_by s x) s (ap (is_key other) own.0 ∙ apart))
     ∙ steps_other key other s xs apart own.1
 
 pub so_far_own : (key : RunKey) (before xs : List RunStep) → AreOf key xs → so_far key (before ++ xs) ≡ fold step_by (so_far key before) xs
 so_far_own key before xs own = fold-append (step_on key) at_first before xs ∙ steps_own key (so_far key before) xs own
 
-pub so_far_other : (key other : RunKey) (before xs : List RunStep) → is_key other key ≡ false → AreOf key xs → so_far other (before ++ xs) ≡ so_far other before
-so_far_other key other before xs apart own = fold-append (step_on other) at_first before xs ∙ steps_other key other (so_far other before) xs apart own
+pub so_far_other : (key other : RunKey) (before xs : List RunStep) → is_key other key ≡ false → AreOf key xs →
+    so_far other (before ++ xs) ≡ so_far other before
+so_far_other key other before xs apart own = fold-append (step_on other) at_first before xs
+    ∙ steps_other key other (so_far other before) xs apart own
 
 -- ---- right steps
 
 pub right_append : (before xs ys : List RunStep) → AreRight before xs → AreRight (before ++ xs) ys → AreRight before (xs ++ ys)
 right_append before [] ys first next = subst (λ (b : List RunStep). AreRight b ys) (append-nil before) next
-right_append before (x ∷ xs) ys first next =
-    (first.0, right_append (before ++ x ∷ []) xs ys first.1 (subst (λ (b : List RunStep). AreRight b ys) (sym (append_assoc before (x ∷ []) xs)) next))
+right_append before (x ∷ xs) ys first next = (
+  first.0,
+  right_append (before ++ x ∷ []) xs ys first.1
+      (subst (λ (b : List RunStep). AreRight b ys) (sym (append_assoc before (x ∷ []) xs)) next),
+)
 
 -- of one key
 abbrev pub AreRightOf : RunKey → SoFar → List RunStep → Type 0
 AreRightOf key s [] = Unit {0}
 AreRightOf key s (x ∷ xs) = IsRight key s x × AreRightOf key (step_by s x) xs
 
-pub right_of_append : (key : RunKey) (s : SoFar) (xs ys : List RunStep) → AreRightOf key s xs → AreRightOf key (fold step_by s xs) ys → AreRightOf key s (xs ++ ys)
+pub right_of_append : (key : RunKey) (s : SoFar) (xs ys : List RunStep) → AreRightOf key s xs → AreRightOf key (fold step_by s xs) ys →
+    AreRightOf key s (xs ++ ys)
 right_of_append key s [] ys first next = next
 right_of_append key s (x ∷ xs) ys first next = (first.0, right_of_append key (step_by s x) xs ys first.1 next)
 
-pub right_behind : (key : RunKey) (before xs : List RunStep) (s : SoFar) → so_far key before ≡ s → AreOf key xs → AreRightOf key s xs → AreRight before xs
+pub right_behind : (key : RunKey) (before xs : List RunStep) (s : SoFar) → so_far key before ≡ s → AreOf key xs → AreRightOf key s xs →
+    AreRight before xs
 right_behind key before [] s is own right = tt
 right_behind key before (x ∷ xs) s is own right = (
   subst (λ (k : RunKey). IsRight k (so_far k before) x) (sym own.0) (subst (λ (q : SoFar). IsRight key q x) (sym is) right.0),
-  right_behind key (before ++ x ∷ []) xs (step_by s x) (so_far_own key before (x ∷ []) (own.0, tt) ∙ ap (λ (q : SoFar). step_by q x) is) own.1 right.1,
+  right_behind key (before ++ x ∷ []) xs (step_by s x)
+      (so_far_own key before (x ∷ []) (own.0, tt) ∙ ap (λ (q : SoFar). step_by q x) is) own.1 right.1,
 )
 
 -- ---- calls
@@ -110,7 +121,8 @@ pub run_front : (key : RunKey) (t : TaskValue) (xs ys : List RunCall) → IsRunO
 run_front key t xs ys is = record { task = is.task; of_task = is.of_task; begun = begun_front _ (place_of key t) is.task xs ys is.begun }
 
 -- for a task that is to run
-pub right_calls : (key : RunKey) (t : TaskValue) (calls cs : List RunCall) → IsRunOf key t (calls ++ cs) → AreRightOf key (record { order = to_run t; calls = calls }) (map asked cs)
+pub right_calls : (key : RunKey) (t : TaskValue) (calls cs : List RunCall) → IsRunOf key t (calls ++ cs) →
+    AreRightOf key (record { order = to_run t; calls = calls }) (map asked cs)
 right_calls key t calls [] is = tt
 right_calls key t calls (c ∷ cs) is =
     let all : IsRunOf key t ((calls ++ c ∷ []) ++ cs) = subst (IsRunOf key t) (sym (append_assoc calls (c ∷ []) cs)) is in
@@ -121,7 +133,8 @@ AreIdle [] = Unit {0}
 AreIdle (c ∷ cs) = DoesNothing c × AreIdle cs
 
 -- where none is
-pub idle_calls : (key : RunKey) (calls cs : List RunCall) → AreIdle cs → AreRightOf key (record { order = no_more; calls = calls }) (map asked cs)
+pub idle_calls : (key : RunKey) (calls cs : List RunCall) → AreIdle cs →
+    AreRightOf key (record { order = no_more; calls = calls }) (map asked cs)
 idle_calls key calls [] idle = tt
 idle_calls key calls (c ∷ cs) idle = (idle.0, idle_calls key (calls ++ c ∷ []) cs idle.1)
 
@@ -150,14 +163,17 @@ calls_asked [] = refl
 calls_asked (c ∷ cs) = ap (λ (zs : List RunCall). c ∷ zs) (calls_asked cs)
 
 -- what is to run follows from what was told alone
-order_follows : (key : RunKey) (s : SoFar) (xs : List RunStep) → (fold (step_on key) s xs).order ≡ fold (order_on key) s.order (events_in xs)
+order_follows : (key : RunKey) (s : SoFar) (xs : List RunStep) →
+    (fold (step_on key) s xs).order ≡ fold (order_on key) s.order (events_in xs)
 order_follows key s [] = refl
-order_follows key s (told e ∷ xs) = order_follows key (step_on key s (told e)) xs ∙ ap (λ (o : Order). fold (order_on key) o (events_in xs)) (go (is_key key (told_of e)))
+order_follows key s (told e ∷ xs) = order_follows key (step_on key s (told e)) xs
+    ∙ ap (λ (o : Order). fold (order_on key) o (events_in xs)) (go (is_key key (told_of e)))
   where
     go : (b : Bool) → (cond b (step_by s (told e)) s).order ≡ cond b (order_by s.order e) s.order
     go true = refl
     go false = refl
-order_follows key s (asked c ∷ xs) = order_follows key (step_on key s (asked c)) xs ∙ ap (λ (o : Order). fold (order_on key) o (events_in xs)) (go (is_key key (asked_for c)))
+order_follows key s (asked c ∷ xs) = order_follows key (step_on key s (asked c)) xs
+    ∙ ap (λ (o : Order). fold (order_on key) o (events_in xs)) (go (is_key key (asked_for c)))
   where
     go : (b : Bool) → (cond b (step_by s (asked c)) s).order ≡ s.order
     go true = refl
@@ -166,7 +182,8 @@ order_follows key s (asked c ∷ xs) = order_follows key (step_on key s (asked c
 pub order_so : (key : RunKey) (steps : List RunStep) (h : List RunEvent) → events_in steps ≡ h → order_in key h ≡ (so_far key steps).order
 order_so key steps h is = ap (order_in key) (sym is) ∙ sym (order_follows key at_first steps)
 
-pub jobs_front : (before xs ys : List RunEvent) → AreOfJobsBehind before (xs ++ ys) → AreOfJobsBehind before xs × AreOfJobsBehind (before ++ xs) ys
+pub jobs_front : (before xs ys : List RunEvent) → AreOfJobsBehind before (xs ++ ys) →
+    AreOfJobsBehind before xs × AreOfJobsBehind (before ++ xs) ys
 jobs_front before [] ys h = (tt, subst (λ (b : List RunEvent). AreOfJobsBehind b ys) (sym (append-nil before)) h)
 jobs_front before (x ∷ xs) ys h =
     let later = jobs_front (before ++ x ∷ []) xs ys h.1 in

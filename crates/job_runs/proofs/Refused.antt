@@ -75,15 +75,18 @@ failed_carries : (key : RunKey) (t : TaskValue) (o : Outcome) (runs now : List R
     → IsAsked (numbered_text t.texts) key (Ok (Some o)) runs now f g p q → noted ≡ without_key key to_begin
     → Carry runs to_begin f p h → Carry now noted g q (h ++ lent key.instance key.job (Some t) ∷ gives key failed)
 failed_carries key t o runs now to_begin noted f g p q h answered taken was =
-    let others : (other : RunKey) → is_key other key ≡ false → own_runs other now ≡ own_runs other runs = (λ other apart. asked_others (numbered_text t.texts) key other (Ok (Some o)) runs now f g p q answered apart) in
-    carry key runs now to_begin noted (lent key.instance key.job (Some t)) (gives key failed) f g p q h (asked_lost (numbered_text t.texts) key (Ok (Some o)) runs now f g p q answered) (record {
+    let others : (other : RunKey) → is_key other key ≡ false → own_runs other now ≡ own_runs other runs =
+    (λ other apart. asked_others (numbered_text t.texts) key other (Ok (Some o)) runs now f g p q answered apart) in
+    carry key runs now to_begin noted (lent key.instance key.job (Some t)) (gives key failed) f g p q h
+    (asked_lost (numbered_text t.texts) key (Ok (Some o)) runs now f g p q answered) (record {
       of_key = again key;
       others = others;
       adds = λ s job linked noted_so.
           (let so : s ≡ at t s.calls = ap (λ (order : Order). record { order = order; calls = s.calls }) job in
           subst (λ (x : SoFar). Adds1 key x (lent key.instance key.job (Some t)) (gives key failed) (own_runs key now) f g p q) (sym so)
           (failed_adds key (at t s.calls) (lent key.instance key.job (Some t)) (outcome_shown o) (own_runs key now) f g p q
-          (asked_adds key t s.calls (Ok (Some o)) runs now f g p q answered (subst (λ (x : SoFar). IsLinked key x (own_runs key runs)) so linked))));
+          (asked_adds key t s.calls (Ok (Some o)) runs now f g p q answered
+          (subst (λ (x : SoFar). IsLinked key x (own_runs key runs)) so linked))));
       notes = λ s job linked noted_so. taken_notes key runs now to_begin noted taken others noted_so;
     }) was
 
@@ -133,9 +136,11 @@ refused_carries : (key : RunKey) (task : Option LentTask) (answer : Result (Opti
 refused_carries key None answer fault runs now to_begin noted f g p q h refusal is taken was = absurd (none-some _ (sym refusal))
 refused_carries key (Some l) (Err e) fault runs now to_begin noted f g p q h refusal is taken was = absurd (none-some _ (sym refusal))
 refused_carries key (Some l) (Ok None) fault runs now to_begin noted f g p q h refusal is taken was = absurd (none-some _ (sym refusal))
-refused_carries key (Some l) (Ok (Some outcomes.Failed)) fault runs now to_begin noted f g p q h refusal is taken was = absurd (none-some _ (sym refusal))
+refused_carries key (Some l) (Ok (Some outcomes.Failed)) fault runs now to_begin noted f g p q h refusal is taken was =
+    absurd (none-some _ (sym refusal))
 refused_carries key (Some l) (Ok (Some (outcomes.Exited x))) fault runs now to_begin noted f g p q h (inl rule) is taken was =
-    given_carries key l (outcomes.Exited x) fault runs now to_begin noted f g p q h (fault_told key (broken_by_run (lent_shown l) (exited_shown x)) fault rule) is taken was
+    given_carries key l (outcomes.Exited x) fault runs now to_begin noted f g p q h
+    (fault_told key (broken_by_run (lent_shown l) (exited_shown x)) fault rule) is taken was
 refused_carries key (Some l) (Ok (Some (outcomes.Exited x))) fault runs now to_begin noted f g p q h (inr memory) is taken was =
     given_carries key l (outcomes.Exited x) fault runs now to_begin noted f g p q h (memory_told key fault memory) is taken was
 
@@ -158,7 +163,8 @@ judged_carries key task answer told_it runs now to_begin noted f g p q h (inr re
 pub judged_asked : (lent_to : Option TaskValue) (key : RunKey) (answer told_it : Result (Option Outcome) RunFault) (old new : RunsThen)
     → IsJudged lent_to answer told_it → IsAskedAsEver lent_to key answer old new → IsAskedOrFailed lent_to key told_it old new
 judged_asked lent_to key answer told_it old new (inl same) is = inl (
-    subst (λ (x : Result (Option Outcome) RunFault). IsAskedAsEver lent_to key x old new × IsRefusal lent_to x None) (sym same.0) (is, same.1)
+    subst (λ (x : Result (Option Outcome) RunFault). IsAskedAsEver lent_to key x old new × IsRefusal lent_to x None) (sym same.0)
+    (is, same.1)
     )
 judged_asked lent_to key answer told_it old new (inr refused) is =
     inr (inl record { answer = answer; fault = refused.0; asked = is; refusal = refused.2; told_so = refused.1 })

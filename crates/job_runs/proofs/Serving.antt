@@ -147,30 +147,40 @@ taken_planned : (parents : List (Option ℕ)) (e : EventValue) (marked : Bool)
     (ls : List LoneInstance) (k : AtWork) (before : List RunEvent) → IsTaken parents e marked ls k →
     AllPlanned before e.lone.moment (with_orders ls []) → AllPlanned (then_told before e) e.lone.moment k
 taken_planned parents e marked ls k before is planned =
-    subst (AllPlanned (then_told before e) e.lone.moment) (sym is.so) (record { right = leads.right; each = λ i l at. go i l at (i == e.instance) refl }) where
+    subst (AllPlanned (then_told before e) e.lone.moment) (sym is.so)
+    (record { right = leads.right; each = λ i l at. go i l at (i == e.instance) refl }) where
       own : IsPlanned e.instance (before ++ []) e.lone.moment is.was
       own = planned.each e.instance is.was is.there
 
       leads : Leads e.instance (then_told before e)
           (map (ordered e.instance) is.orders) is.now.state.jobs
-      leads = step_leads (texts_beside e.instance parents ls) before e marked is.was is.now is.orders own.times is.step (subst (λ (b : List RunEvent). Fits (plan_of e.instance b) is.was.state.jobs) (append-nil before) own.fits)
+      leads = step_leads (texts_beside e.instance parents ls) before e marked is.was is.now is.orders own.times is.step
+          (subst (λ (b : List RunEvent). Fits (plan_of e.instance b) is.was.state.jobs) (append-nil before) own.fits)
 
       go : (i : ℕ) (l : LoneInstance) → slice_get (slice_set ls e.instance is.now) i ≡ Some l →
           (b : Bool) → (i == e.instance) ≡ b →
           IsPlanned i (then_told before e ++ map (ordered e.instance) is.orders) e.lone.moment l
       go i l at true here =
           let same : e.instance ≡ i = sym (eqb-true i e.instance here) in
-          let found : slice_get (slice_set ls e.instance is.now) e.instance ≡ Some l = subst (λ (n : ℕ). slice_get (slice_set ls e.instance is.now) n ≡ Some l) (sym same) at in
+          let found : slice_get (slice_set ls e.instance is.now) e.instance ≡ Some l =
+          subst (λ (n : ℕ). slice_get (slice_set ls e.instance is.now) n ≡ Some l) (sym same) at in
           let now : is.now ≡ l = same_Some is.now l (sym (set_here ls e.instance is.now is.was is.there) ∙ found) in
           let fit : IsPlanned e.instance (then_told before e ++ map (ordered e.instance) is.orders) e.lone.moment is.now =
-          record { fits = leads.fits; times = not_ahead (texts_beside e.instance parents ls) e.lone marked is.was is.now is.orders is.step own.times } in
+          record {
+            fits = leads.fits;
+            times = not_ahead
+                (texts_beside e.instance parents ls) e.lone marked is.was is.now is.orders is.step own.times;
+          } in
           subst (λ (n : ℕ). IsPlanned n (then_told before e ++ map (ordered e.instance) is.orders) e.lone.moment l) same
-          (subst (λ (x : LoneInstance). IsPlanned e.instance (then_told before e ++ map (ordered e.instance) is.orders) e.lone.moment x) now fit)
+          (subst (λ (x : LoneInstance). IsPlanned e.instance (then_told before e ++ map (ordered e.instance) is.orders) e.lone.moment x) now
+          fit)
       go i l at false apart =
           let other : i ≢ e.instance = eqb-false i e.instance apart in
           let was = planned.each i l (sym (set_other ls e.instance i is.now other) ∙ at) in
           record {
-            fits = fits_same (plan_of i (before ++ [])) (plan_of i (then_told before e ++ map (ordered e.instance) is.orders)) l.state.jobs (λ n. plan_ordered i e.instance n is.orders (then_told before e) other ∙ plan_told i e.instance n e.lone.what before other ∙ ap (λ (b : List RunEvent). plan_of i b n) (sym (append-nil before))) was.fits;
+            fits = fits_same (plan_of i (before ++ [])) (plan_of i (then_told before e ++ map (ordered e.instance) is.orders)) l.state.jobs
+                (λ n. plan_ordered i e.instance n is.orders (then_told before e) other ∙ plan_told i e.instance n e.lone.what before other
+                ∙ ap (λ (b : List RunEvent). plan_of i b n) (sym (append-nil before))) was.fits;
             times = was.times;
           }
 
@@ -195,7 +205,10 @@ carried_planned : (before : List RunEvent) (m : ℕ) (e : RunEvent) (k : AtWork)
     AllPlanned before m (with_orders k.instances (e ∷ k.orders)) → AllPlanned (before ++ e ∷ []) m k
 carried_planned before m e k h = record {
   right = h.right.1;
-  each = λ i l at. (let q = h.each i l at in record { fits = subst (λ (es : List RunEvent). Fits (plan_of i es) l.state.jobs) (sym (append_assoc before (e ∷ []) k.orders)) q.fits; times = q.times });
+  each = λ i l at. (let q = h.each i l at in record {
+    fits = subst (λ (es : List RunEvent). Fits (plan_of i es) l.state.jobs) (sym (append_assoc before (e ∷ []) k.orders)) q.fits;
+    times = q.times;
+  });
 }
 
 -- a task is lent, or none
@@ -227,9 +240,11 @@ lent_fits before j n None i l faithful h = go (i == j) refl where
   go : (b : Bool) → (i == j) ≡ b → Fits (plan_of i (before ++ lent j n None ∷ [])) l.state.jobs
   go true here =
       let same : i ≡ j = eqb-true i j here in
-      let over = subst (λ (x : ℕ). IsOver n (plan_of x before) (plan_of x (before ++ lent j n None ∷ []))) (sym same) (is_over j n before (lent j n None) refl (λ s. refl)) in
+      let over = subst (λ (x : ℕ). IsOver n (plan_of x before) (plan_of x (before ++ lent j n None ∷ []))) (sym same)
+      (is_over j n before (lent j n None) refl (λ s. refl)) in
       fits_over n (plan_of i before) (plan_of i (before ++ lent j n None ∷ [])) l.state.jobs over (sym (faithful same)) h
-  go false apart = fits_same (plan_of i before) (plan_of i (before ++ lent j n None ∷ [])) l.state.jobs (λ m. plan_apart i j n m before (lent j n None) refl (eqb-false i j apart)) h
+  go false apart = fits_same (plan_of i before) (plan_of i (before ++ lent j n None ∷ [])) l.state.jobs
+      (λ m. plan_apart i j n m before (lent j n None) refl (eqb-false i j apart)) h
 
 lent_planned : (before : List RunEvent) (m : ℕ) (j n : ℕ) (task : Option TaskValue)
     (ls : List LoneInstance) →
@@ -240,7 +255,8 @@ lent_planned before m j n task ls faithful h = record {
   right = tt;
   each = λ i l at. (let q = h.each i l at in record {
     fits = subst (λ (es : List RunEvent). Fits (plan_of i es) l.state.jobs) (sym (append-nil (before ++ lent j n task ∷ [])))
-        (lent_fits before j n task i l (faithful i l at) (subst (λ (es : List RunEvent). Fits (plan_of i es) l.state.jobs) (append-nil before) q.fits));
+        (lent_fits before j n task i l (faithful i l at)
+        (subst (λ (es : List RunEvent). Fits (plan_of i es) l.state.jobs) (append-nil before) q.fits));
     times = q.times;
   });
 }
@@ -265,15 +281,24 @@ served_of_jobs : (parents : List (Option ℕ)) (sockets : List SocketEvent) (m :
     NeverBack m h → AllPlanned before m w → AreOfJobsBehind before (filter_map run_event h)
 served_of_jobs parents sockets m w v [] before may rises planned = tt
 served_of_jobs parents sockets m w v ((at_runs (ordered j o), b) ∷ h) before may rises planned =
-    let next : AllPlanned before m (with_orders may.0.instances (ordered j o ∷ may.0.orders)) = subst (AllPlanned before m) may.1.1 planned in
-    (next.right.0, served_of_jobs parents sockets m may.0 v h (before ++ ordered j o ∷ []) may.3 rises.1 (carried_planned before m (ordered j o) may.0 next))
+    let next : AllPlanned before m (with_orders may.0.instances (ordered j o ∷ may.0.orders)) =
+    subst (AllPlanned before m) may.1.1 planned in (
+      next.right.0,
+      served_of_jobs parents sockets m may.0 v h (before ++ ordered j o ∷ []) may.3 rises.1
+          (carried_planned before m (ordered j o) may.0 next),
+    )
 served_of_jobs parents sockets m w v ((at_runs (lent j n task), b) ∷ h) before may rises planned =
     let comes = may.1.1 in
     let rest : AllPlanned before m (with_orders w.instances []) = rested before m w comes.0 planned in
     let there = is_there w.instances j may.1.0 in
-    let faithful : (i : ℕ) (l : LoneInstance) → slice_get w.instances i ≡ Some l → i ≡ j → task ≡ task_of n l.state.jobs = λ i l at same. comes.1 i l at (sym same) in
-    let next : AllPlanned (before ++ lent j n task ∷ []) m may.0 = subst (AllPlanned (before ++ lent j n task ∷ []) m) (sym comes.2.1) (lent_planned before m j n task w.instances faithful rest) in
-    ((lent_right before m j n task w.instances there.0 there.1 (faithful j there.0 there.1 refl) rest).0, served_of_jobs parents sockets m may.0 v h (before ++ lent j n task ∷ []) may.3 rises.1 next)
+    let faithful : (i : ℕ) (l : LoneInstance) → slice_get w.instances i ≡ Some l → i ≡ j → task ≡ task_of n l.state.jobs =
+    λ i l at same. comes.1 i l at (sym same) in
+    let next : AllPlanned (before ++ lent j n task ∷ []) m may.0 =
+    subst (AllPlanned (before ++ lent j n task ∷ []) m) (sym comes.2.1) (lent_planned before m j n task w.instances faithful rest) in (
+      (lent_right before m j n task w.instances there.0 there.1 (faithful j there.0 there.1 refl) rest).0,
+      served_of_jobs parents sockets m
+          may.0 v h (before ++ lent j n task ∷ []) may.3 rises.1 next,
+    )
 served_of_jobs parents sockets m w v ((at_runs (gave j n outcome), b) ∷ h) before may rises planned =
     let comes = may.1 in (
       tt,
@@ -282,8 +307,10 @@ served_of_jobs parents sockets m w v ((at_runs (gave j n outcome), b) ∷ h) bef
     )
 served_of_jobs parents sockets m w v ((told j, b) ∷ h) before may rises planned =
     let comes = may.1 in
-    let next : AllPlanned (before ++ []) m may.0 = taken_planned parents (event_told m j tick) b w.instances may.0 before comes.2 (rested before m w comes.0 planned) in
-    served_of_jobs parents sockets m may.0 v h before may.3 rises.1 (subst (λ (es : List RunEvent). AllPlanned es m may.0) (append-nil before) next)
+    let next : AllPlanned (before ++ []) m may.0 =
+    taken_planned parents (event_told m j tick) b w.instances may.0 before comes.2 (rested before m w comes.0 planned) in
+    served_of_jobs parents sockets m may.0 v h before may.3 rises.1
+    (subst (λ (es : List RunEvent). AllPlanned es m may.0) (append-nil before) next)
 served_of_jobs parents sockets m w v ((at_sockets (clock t), b) ∷ h) before may rises planned =
     let comes = may.1 in
     let rest : AllPlanned before m (with_orders w.instances []) = rested before m w comes.0 planned in
@@ -291,9 +318,11 @@ served_of_jobs parents sockets m w v ((at_sockets (clock t), b) ∷ h) before ma
     (later_planned before m t may.0 rises.0 (subst (AllPlanned before m) (sym comes.2.1) rest))
 served_of_jobs parents sockets m w v ((at_sockets (port j p), b) ∷ h) before may rises planned =
     let comes = may.1 in
-    let next : AllPlanned (before ++ outcome_told j (what_of p)) m may.0 = taken_planned parents (event_told m j (what_of p)) b w.instances may.0 before comes.2 (rested before m w comes.0 planned) in
+    let next : AllPlanned (before ++ outcome_told j (what_of p)) m may.0 =
+    taken_planned parents (event_told m j (what_of p)) b w.instances may.0 before comes.2 (rested before m w comes.0 planned) in
     served_of_jobs parents (sockets ++ port j p ∷ []) m may.0 v h before may.3 rises.1
-    (subst (λ (es : List RunEvent). AllPlanned es m may.0) (ap (λ (es : List RunEvent). before ++ es) (nothing_told j p) ∙ append-nil before) next)
+    (subst (λ (es : List RunEvent). AllPlanned es m may.0)
+    (ap (λ (es : List RunEvent). before ++ es) (nothing_told j p) ∙ append-nil before) next)
 served_of_jobs parents sockets m w v ((at_sockets (failed j c), b) ∷ h) before may rises planned =
     let comes = may.1.1 in
     let rest : AllPlanned before m (with_orders w.instances []) = rested before m w comes.0 planned in
@@ -308,12 +337,14 @@ at_first_planned configs =
       go : (i : ℕ) (l : LoneInstance) (o : Option ConfigValue) → option_map begun o ≡ Some l →
           IsPlanned i [] 0 l
       go i l None is = absurd (none-some l is)
-      go i l (Some config) is = subst (IsPlanned i [] 0) (same_Some (begun config) l is) (record { fits = fits_at_first (plan_of i []) (λ n. refl); times = omega arith })
+      go i l (Some config) is = subst (IsPlanned i [] 0) (same_Some (begun config) l is)
+          (record { fits = fits_at_first (plan_of i []) (λ n. refl); times = omega arith })
 
 pub serves_of_jobs : (configs : List ConfigValue) (h : List MarkedHappening) → IsServed configs h →
     NeverBack 0 h → AreOfJobs (filter_map run_event h)
 serves_of_jobs configs h served rises =
-    served_of_jobs (parents_of configs) [] 0 (with_orders (map begun configs) []) (with_orders served.1 []) h [] served.2 rises (at_first_planned configs)
+    served_of_jobs (parents_of configs) [] 0 (with_orders (map begun configs) []) (with_orders served.1 []) h [] served.2 rises
+    (at_first_planned configs)
 
 -- ---- the clock
 
@@ -346,5 +377,6 @@ pub was_of_jobs : (configs : List ConfigValue) (s : List SocketEvent) (r : List 
     (cut : ℕ) → WasServed configs (Some s) (Some r) cut → NeverFalls 0 s → AreOfJobs r
 was_of_jobs configs s r cut was rises =
     let h : List MarkedHappening = was.0 in
-    let timed : NeverEarlier 0 (filter_map timed_event h) = subst (NeverEarlier 0) (sym was.1.at_sockets_so) (timed_rises (length configs) 0 s rises) in
+    let timed : NeverEarlier 0 (filter_map timed_event h) =
+    subst (NeverEarlier 0) (sym was.1.at_sockets_so) (timed_rises (length configs) 0 s rises) in
     subst AreOfJobs was.1.at_runs_so (serves_of_jobs configs h was.2 (back_timed 0 h timed))

@@ -7,7 +7,9 @@ use Rattle.job_runs.specs.Keys.{IsToBegin}
 use Rattle.job_runs.specs.Spans.{IsAmong, IsIn}
 
 -- the next one is given, and the others stay
-pub one_given : (together : Option Span) (span : Span) (rest : Option Span) → together ≡ Some span → ((key : RunKey) → IsIn key span → (key ≡ span.at) ⊎ IsAmong key rest) → (key : RunKey) → IsAmong key together → (Some span.at ≡ Some key) ⊎ IsAmong key rest
+pub one_given : (together : Option Span) (span : Span) (rest : Option Span) → together ≡ Some span →
+    ((key : RunKey) → IsIn key span → (key ≡ span.at) ⊎ IsAmong key rest) → (key : RunKey) → IsAmong key together →
+    (Some span.at ≡ Some key) ⊎ IsAmong key rest
 one_given together span rest is left key among =
     elim (left key (subst (λ (o : Option Span). IsAmong key o) is among)) [
       | inl next ↦ inl (ap Some (sym next))
@@ -15,9 +17,12 @@ one_given together span rest is left key among =
     ]
 
 -- one more is among them
-pub one_more : (together : Option Span) (span wide : Span) → together ≡ Some span → ((key : RunKey) → IsIn key span → IsIn key wide) → (key : RunKey) → IsAmong key together → IsIn key wide
+pub one_more : (together : Option Span) (span wide : Span) → together ≡ Some span → ((key : RunKey) → IsIn key span → IsIn key wide) →
+    (key : RunKey) → IsAmong key together → IsIn key wide
 one_more together span wide is kept key among = kept key (subst (λ (o : Option Span). IsAmong key o) is among)
 
-pub still_to_begin : (to_begin : List RunKey) (together : Option Span) (wide : Span) → ((key : RunKey) → IsAmong key together → IsIn key wide) → (key : RunKey) → IsToBegin key to_begin together → IsToBegin key to_begin (Some wide)
+pub still_to_begin : (to_begin : List RunKey) (together : Option Span) (wide : Span) →
+    ((key : RunKey) → IsAmong key together → IsIn key wide) → (key : RunKey) → IsToBegin key to_begin together →
+    IsToBegin key to_begin (Some wide)
 still_to_begin to_begin together wide kept key (inl noted) = inl noted
 still_to_begin to_begin together wide kept key (inr among) = inr (kept key among)

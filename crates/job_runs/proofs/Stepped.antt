@@ -87,7 +87,8 @@ calls_fit : (plan : ℕ → Order) (c : ℕ) (es : List CallEvent) (l : LoneInst
 calls_fit plan c [] l h = h
 calls_fit plan c (e ∷ es) l h =
     let next : LoneInstance = after_call_event (call_event_on c e) l in
-    calls_fit plan c es next (subst (λ (x : InstanceState). Fits plan x.jobs) (sym (happened_state (call_event_on c e) l)) (event_fits plan c l.state (call_event_on c e) (event_on c e) h))
+    calls_fit plan c es next (subst (λ (x : InstanceState). Fits plan x.jobs) (sym (happened_state (call_event_on c e) l))
+    (event_fits plan c l.state (call_event_on c e) (event_on c e) h))
 
 bytes_fit : (plan : ℕ → Order) (c : ℕ) (bytes : List ℕ) (l : LoneInstance) →
     Fits plan l.state.jobs → Fits plan (after_bytes_on c bytes l).state.jobs
@@ -129,7 +130,8 @@ ended_without : (n : ℕ) (outcome : OutcomeValue) (l m : LoneInstance) → IsEn
     m.state.jobs ≡ jobs_without n l.state.jobs
 ended_without n outcome l m h =
     let all = subst (AllByRecursion IsStored) h.made.front (ending_stored l.state outcome (running_job n l.state.jobs)) in
-    let same : h.left.jobs ≡ l.state.jobs = ap (λ (x : InstanceState). x.jobs) h.made.so_far ∙ stored_same h.made.made h.made.left l.state all in
+    let same : h.left.jobs ≡ l.state.jobs = ap (λ (x : InstanceState). x.jobs) h.made.so_far
+    ∙ stored_same h.made.made h.made.left l.state all in
     ap (λ (k : LoneInstance). k.state.jobs) h.gone ∙ ap (jobs_without n) same
 
 -- ---- what an event tells of the runs
@@ -169,14 +171,18 @@ end_turn i n outcome job before l runs h =
     let xs : List InstanceChange = ending_changes s outcome (running_job n s.jobs) in
     let steps : List StepValue = ending_steps s n outcome (running_job n s.jobs) in
     let settled : (after_call_event (end_job n outcome) l).state.jobs ≡ jobs_after_steps steps s.jobs =
-    ap (λ (x : InstanceState). x.jobs) (happened_state (end_job n outcome) l) ∙ then_settled xs steps s (ending_stored s outcome (running_job n s.jobs)) in
+    ap (λ (x : InstanceState). x.jobs) (happened_state (end_job n outcome) l)
+    ∙ then_settled xs steps s (ending_stored s outcome (running_job n s.jobs)) in
     let fits : (operation : List ℕ) → Fits (plan_of i (before ++ e ∷ [])) (jobs_after_end n operation s.jobs) =
     λ operation. fits_end n operation (plan_of i before) (plan_of i (before ++ e ∷ [])) s.jobs (is_over i n before e refl (λ x. refl)) h in
     let operation : List ℕ = completed_text n job.action (ending_at s outcome job).end_is in
     let own : List StepValue = then_starts s.slots s.moment (ends n operation ∷ []) s.jobs in
-    let so : steps ≡ own = ap (ending_steps s n outcome) runs ∙ ap (λ (o : Option JobValue). then_starts s.slots s.moment (ending_of n (ending_at s outcome job).end_is o) s.jobs) runs in
-    leads_at i (before ++ e ∷ []) (map (ordered i) (orders_at s (end_job n outcome))) (jobs_after_steps steps s.jobs) (after_call_event (end_job n outcome) l).state.jobs settled
-    (subst (λ (xs : List StepValue). Leads i (before ++ e ∷ []) (map (ordered i) (orders_of xs s.jobs)) (jobs_after_steps xs s.jobs)) (sym so)
+    let so : steps ≡ own = ap (ending_steps s n outcome) runs
+    ∙ ap (λ (o : Option JobValue). then_starts s.slots s.moment (ending_of n (ending_at s outcome job).end_is o) s.jobs) runs in
+    leads_at i (before ++ e ∷ []) (map (ordered i) (orders_at s (end_job n outcome))) (jobs_after_steps steps s.jobs)
+    (after_call_event (end_job n outcome) l).state.jobs settled
+    (subst (λ (xs : List StepValue). Leads i (before ++ e ∷ []) (map (ordered i) (orders_of xs s.jobs)) (jobs_after_steps xs s.jobs))
+    (sym so)
     (end_leads i s.slots s.moment n operation s.jobs (before ++ e ∷ []) (fits operation)))
 
 -- no job runs under a number of which an outcome is refused
@@ -196,7 +202,8 @@ effect_leads i before (opened c) l taken h =
 effect_leads i before (received c bytes) l taken h =
     let mid : LoneInstance = after_bytes_on c bytes l in
     let s : InstanceState = mid.state in
-    leads_at i (before ++ []) (map (ordered i) (orders_at s start_jobs)) (state_after s start_jobs).jobs (after_call_event start_jobs mid).state.jobs
+    leads_at i (before ++ []) (map (ordered i) (orders_at s start_jobs)) (state_after s start_jobs).jobs
+    (after_call_event start_jobs mid).state.jobs
     (ap (λ (x : InstanceState). x.jobs) (happened_state start_jobs mid))
     (turn_leads i s.slots s.moment [] s.jobs (before ++ []) tt (more_fits i before s.jobs (bytes_fit (plan_of i before) c bytes l h)))
 effect_leads i before (took c n) l taken h =
@@ -204,12 +211,15 @@ effect_leads i before (took c n) l taken h =
 effect_leads i before (closed c) l taken h =
     let cs : List CallEvent = option_map_or (λ p. cancels p.history) (open_at c l.connections) [] in
     let gone : LoneInstance = record l { connections = with_closed c l.connections } in
-    leads_nothing i (before ++ []) (after_call_events c cs gone).state.jobs (more_fits i before (after_call_events c cs gone).state.jobs (calls_fit (plan_of i before) c cs gone h))
+    leads_nothing i (before ++ []) (after_call_events c cs gone).state.jobs
+    (more_fits i before (after_call_events c cs gone).state.jobs (calls_fit (plan_of i before) c cs gone h))
 effect_leads i before tick l taken h =
     let mid : LoneInstance = after_call_event time_passes l in
     let s : InstanceState = mid.state in
-    let fits : Fits (plan_of i before) s.jobs = subst (λ (x : InstanceState). Fits (plan_of i before) x.jobs) (sym (happened_state time_passes l)) h in
-    leads_at i (before ++ []) (map (ordered i) (orders_at s end_late_jobs)) (state_after s end_late_jobs).jobs (after_call_event end_late_jobs mid).state.jobs
+    let fits : Fits (plan_of i before) s.jobs = subst (λ (x : InstanceState). Fits (plan_of i before) x.jobs)
+    (sym (happened_state time_passes l)) h in
+    leads_at i (before ++ []) (map (ordered i) (orders_at s end_late_jobs)) (state_after s end_late_jobs).jobs
+    (after_call_event end_late_jobs mid).state.jobs
     (ap (λ (x : InstanceState). x.jobs) (happened_state end_late_jobs mid))
     (tick_leads i s.slots s.moment s.jobs (before ++ []) (more_fits i before s.jobs fits))
 effect_leads i before (ended n outcome) l taken h =
@@ -221,15 +231,18 @@ effect_leads i before (ended n outcome) l taken h =
 same_leads : (i : ℕ) (before : List RunEvent) (l m : LoneInstance) → m.state.jobs ≡ l.state.jobs →
     Fits (plan_of i before) l.state.jobs → Leads i (before ++ []) [] m.state.jobs
 same_leads i before l m is h =
-    leads_at i (before ++ []) [] l.state.jobs m.state.jobs is (leads_nothing i (before ++ []) l.state.jobs (more_fits i before l.state.jobs h))
+    leads_at i (before ++ []) [] l.state.jobs m.state.jobs is
+    (leads_nothing i (before ++ []) l.state.jobs (more_fits i before l.state.jobs h))
 
 short_leads : (i : ℕ) (before : List RunEvent) (what : WhatValue) (l m : LoneInstance) →
     IsCutEffect what l m → Fits (plan_of i before) l.state.jobs → LeadsBy i before what [] m
 short_leads i before (opened c) l m is h =
     same_leads i before l m (ap (λ (k : LoneInstance). k.state.jobs) is) h
 short_leads i before (received c bytes) l m b h =
-    let fits : Fits (plan_of i before) b.left.jobs = cut_fits (plan_of i before) c (bytes_events c bytes l) l.state b.left (bytes_on c bytes l) b.cut h in
-    leads_at i (before ++ []) [] b.left.jobs m.state.jobs (ap (λ (k : LoneInstance). k.state.jobs) b.gone) (leads_nothing i (before ++ []) b.left.jobs (more_fits i before b.left.jobs fits))
+    let fits : Fits (plan_of i before) b.left.jobs =
+    cut_fits (plan_of i before) c (bytes_events c bytes l) l.state b.left (bytes_on c bytes l) b.cut h in
+    leads_at i (before ++ []) [] b.left.jobs m.state.jobs (ap (λ (k : LoneInstance). k.state.jobs) b.gone)
+    (leads_nothing i (before ++ []) b.left.jobs (more_fits i before b.left.jobs fits))
 short_leads i before (took c n) l m is h = absurd is
 short_leads i before (closed c) l m is h = absurd is
 short_leads i before tick l m is h =
@@ -238,7 +251,8 @@ short_leads i before (ended n outcome) l m b h =
     let e : RunEvent = gave i n outcome in
     let gone : Jobs JobValue = jobs_without n l.state.jobs in
     leads_at i (before ++ e ∷ []) [] gone m.state.jobs (ended_without n outcome l m b)
-    (leads_nothing i (before ++ e ∷ []) gone (fits_without n (plan_of i before) (plan_of i (before ++ e ∷ [])) l.state.jobs (is_over i n before e refl (λ x. refl)) h))
+    (leads_nothing i (before ++ e ∷ []) gone (fits_without n (plan_of i before) (plan_of i (before ++ e ∷ [])) l.state.jobs
+    (is_over i n before e refl (λ x. refl)) h))
 
 -- ---- an event that is refused
 
@@ -271,7 +285,8 @@ refused_leads i before (closed c) l refusal is h = same_leads i before l l refl 
 refused_leads i before tick l refusal is h = same_leads i before l l refl h
 refused_leads i before (ended n outcome) l refusal is h =
     let e : RunEvent = gave i n outcome in
-    leads_nothing i (before ++ e ∷ []) l.state.jobs (fits_over n (plan_of i before) (plan_of i (before ++ e ∷ [])) l.state.jobs (is_over i n before e refl (λ x. refl)) none h) where
+    leads_nothing i (before ++ e ∷ []) l.state.jobs
+    (fits_over n (plan_of i before) (plan_of i (before ++ e ∷ [])) l.state.jobs (is_over i n before e refl (λ x. refl)) none h) where
       none : task_of n l.state.jobs ≡ None
       none = go (running_job n l.state.jobs) refl where
         go : (o : Option JobValue) → running_job n l.state.jobs ≡ o → task_of n l.state.jobs ≡ None
@@ -290,9 +305,11 @@ step_leads parent before e true l k orders times may h =
     (short_leads e.instance before e.lone.what (lone_at_moment e.lone.moment parent l) k may.1 h)
 step_leads parent before e false l k orders times may h =
     subst (λ (m : LoneInstance). LeadsBy e.instance before e.lone.what orders m) (sym may.0)
-    (subst (λ (os : List OrderValue). LeadsBy e.instance before e.lone.what os (after_event_unless parent e.lone l (refusal_of e.lone l))) (sym may.1) (go (refusal_of e.lone l) refl)) where
+    (subst (λ (os : List OrderValue). LeadsBy e.instance before e.lone.what os (after_event_unless parent e.lone l (refusal_of e.lone l)))
+    (sym may.1) (go (refusal_of e.lone l) refl)) where
       go : (o : Option EventRefusal) → refusal_of e.lone l ≡ o →
           LeadsBy e.instance before e.lone.what (orders_unless parent e.lone l o)
           (after_event_unless parent e.lone l o)
-      go None is = effect_leads e.instance before e.lone.what (lone_at_moment e.lone.moment parent l) (same_refusal e.lone.what e.lone.moment parent l ∙ sym (by_what e.lone l times) ∙ is) h
+      go None is = effect_leads e.instance before e.lone.what (lone_at_moment e.lone.moment parent l)
+          (same_refusal e.lone.what e.lone.moment parent l ∙ sym (by_what e.lone l times) ∙ is) h
       go (Some refusal) is = refused_leads e.instance before e.lone.what l refusal (sym (by_what e.lone l times) ∙ is) h

@@ -1,29 +1,16 @@
 //! What has to be there before instances are served, and what an operator is told of it.
 
 use crate::process::is_ignored;
-use crate::serve_ports::{is_memory, told};
 use host_folders::{Complaint, HostFolder, Work, WorkFault, begin_work};
-use host_programs::{has_leases, has_sessions, sees_ends};
-use host_sockets::LINGERING_LIMIT;
-use instance_words::Instances;
+use host_system::{HostSystem, has_leases, sees_ends};
+use operator_lines::{
+    Instances, are_enough_files, can_see_ends, folder_of, is_memory, tell_file_limit, tell_leases,
+    tell_no_folder, tell_no_sessions, told,
+};
+use run_programs::has_sessions;
 use std::alloc::{AllocError, Global};
 use std::fs;
 use std::io::{self, ErrorKind, Write};
-
-/// How many connections an instance has at most.
-const MOST_CONNECTIONS: u64 = 64;
-
-/// How many files are open for each action that runs, at most: what it writes goes to two, and what
-/// its launcher says to one.
-const FILES_OF_RUN: u64 = 3;
-
-/// How many are open for an instance that runs actions: the pipes of what removes their folders.
-const FILES_OF_REMOVAL: u64 = 2;
-
-/// How many more a server has open beside these and connections, at most and at least.
-const OTHER_FILES: u64 = 64;
-
-const FEWEST_OTHER_FILES: u64 = 32;
 
 /// The limit of the size of a file, as getrlimit(2) numbers it.
 const RLIMIT_FSIZE: i32 = 1;
@@ -47,27 +34,6 @@ pub fn keep_freed_memory(alloc: Global) {
     drop(block);
 }
 
-/// How many actions are run at a time, at most.
-pub fn slots_of(instances: &Instances) -> usize {
-    let mut slots: usize = 0;
-    for config in instances.configs.instances() {
-        slots = slots.saturating_add(config.slots as usize);
-    }
-    slots
-}
-
-/// How many files may be open for what runs, at most.
-fn most_of_runs(instances: &Instances) -> u64 {
-    let runs = FILES_OF_RUN.saturating_mul(slots_of(instances) as u64);
-    let mut removals: u64 = 0;
-    for config in instances.configs.instances() {
-        if config.slots > 0 {
-            removals = removals.saturating_add(FILES_OF_REMOVAL);
-        }
-    }
-    runs.saturating_add(removals)
-}
-
 /// The most that this process may have of something.
 fn limit_of(resource: i32) -> io::Result<u64> {
     let mut limit = libc::types::rlimit {
@@ -87,39 +53,14 @@ pub fn can_write<E: Write>(rt: &HostRuntime, errors: &mut E) -> io::Result<bool>
     if most == UNLIMITED || is_ignored(rt, SIGXFSZ) {
         return Ok(true);
     }
-    writeln!(
-        errors,
-        "remoted: files may have {most} bytes, and writing more would end the server by SIGXFSZ: \
-         raise the limit (ulimit -f unlimited, or LimitFSIZE=infinity), or start it by \
-         env --ignore-signal=XFSZ remoted"
-    )?;
+    tell_file_limit(most, errors)?;
     Ok(false)
 }
 
 /// Whether so many files may be open that the instances can be served at all; where these are fewer
 /// than may be needed, that is told.
 pub fn can_open<E: Write>(instances: &Instances, errors: &mut E) -> io::Result<bool> {
-    let most = limit_of(libc::RLIMIT_NOFILE)?;
-    let count = instances.ports.len() as u64;
-    let needed = count
-        .saturating_mul(1 + MOST_CONNECTIONS + LINGERING_LIMIT as u64)
-        .saturating_add(most_of_runs(instances))
-        .saturating_add(OTHER_FILES);
-    let fewest = count.saturating_mul(2).saturating_add(FEWEST_OTHER_FILES);
-    if most < fewest {
-        told(writeln!(
-            errors,
-            "remoted: {most} files may be open, and at least {fewest} are needed to begin: raise \
-             the limit (ulimit -n {needed}, or LimitNOFILE={needed})"
-        ))?;
-    } else if most < needed {
-        told(writeln!(
-            errors,
-            "remoted: {most} files may be open, and up to {needed} are needed: raise the limit \
-             (ulimit -n {needed}, or LimitNOFILE={needed})"
-        ))?;
-    }
-    Ok(most >= fewest)
+    are_enough_files(limit_of(libc::RLIMIT_NOFILE)?, instances, errors)
 }
 
 /// Whether this is a folder, in which a file can be looked for.
@@ -145,56 +86,22 @@ pub fn has_folder<E: Write>(
         return Ok(true);
     };
     let folder = folder_of(path);
-    match may_look_for(rt, folder, path) {
+    let error = match may_look_for(rt, folder, path) {
         Ok(true) => return Ok(true),
+        Ok(false) => None,
         Err(error) if is_memory(&error) => return Err(error),
-        Err(error) if error.kind() != ErrorKind::NotFound => {
-            writeln!(
-                errors,
-                "remoted: {option} is looked for in {folder}: {error}"
-            )?;
-        }
-        _ => writeln!(
-            errors,
-            "remoted: {option} is looked for in {folder}: there is no such folder"
-        )?,
-    }
+        Err(error) => Some(error),
+    };
+    tell_no_folder(option, folder, error, errors)?;
     Ok(false)
-}
-
-/// The folder in which a file is.
-pub fn folder_of(path: &str) -> &str {
-    match path.rsplit_once('/') {
-        None => ".",
-        Some(("", _)) => "/",
-        Some((folder, _)) => folder,
-    }
 }
 
 /// Whether programs can be run on this host; what it lacks for that is told.
 pub fn can_run<E: Write>(rt: &HostRuntime, errors: &mut E) -> io::Result<bool> {
-    if !has_sessions(rt) {
-        told(writeln!(
-            errors,
-            "remoted: there is no /usr/bin/setsid, so what a program starts is not ended with it"
-        ))?;
+    if !has_sessions(&HostSystem::new(rt)) {
+        tell_no_sessions(errors)?;
     }
-    match sees_ends(rt) {
-        Ok(true) => Ok(true),
-        Ok(false) => {
-            writeln!(
-                errors,
-                "remoted: SIGCHLD is ignored, so how a program ends is not seen: start it by \
-                 env --default-signal=CHLD remoted"
-            )?;
-            Ok(false)
-        }
-        Err(error) if is_memory(&error) => Err(error),
-        Err(error) => {
-            writeln!(errors, "remoted: cannot start /bin/sh: {error}")?;
-            Ok(false)
-        }
-    }
+    can_see_ends(sees_ends(rt), errors)
 }
 
 /// Sees to it that no lease of a program of an action keeps the server waiting. Where that is not
@@ -207,16 +114,7 @@ pub fn guard_against_leases<E: Write>(
     if !has_leases(rt)? {
         return Ok(());
     }
-    match folder.guard_against_leases() {
-        Ok(true) => Ok(()),
-        Err(error) if is_memory(&error) => Err(error),
-        _ => told(writeln!(
-            errors,
-            "remoted: an action can stop the server for 45 seconds (fs.lease-break-time) by a \
-             lease on each of its outputs: end that by sysctl fs.leases-enable=0, or by a sandbox \
-             (--launcher)"
-        )),
-    }
+    tell_leases(folder.guard_against_leases(), errors)
 }
 
 /// A place for the runs of this start; where there is none, that is told, and there is no answer.

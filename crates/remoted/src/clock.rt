@@ -2,15 +2,12 @@
 
 use std::time::{Instant, SystemTime};
 
-/// The milliseconds from one moment to a later one; 0 where it is no later.
-pub fn milliseconds_between(earlier: Instant, later: Instant) -> u64 {
-    let passed = later.saturating_duration_since(earlier).as_millis();
-    u64::try_from(passed).unwrap_or(u64::MAX)
-}
-
-/// The same in nanoseconds.
-pub fn nanoseconds_between(earlier: Instant, later: Instant) -> u64 {
-    let passed = later.saturating_duration_since(earlier).as_nanos();
+/// The milliseconds since a moment; 0 where the clock cannot be read.
+pub fn milliseconds_since(rt: &HostRuntime, moment: Option<Instant>) -> u64 {
+    let (Some(moment), Ok(now)) = (moment, Instant::now(rt)) else {
+        return 0;
+    };
+    let passed = now.saturating_duration_since(moment).as_millis();
     u64::try_from(passed).unwrap_or(u64::MAX)
 }
 

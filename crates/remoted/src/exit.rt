@@ -19,6 +19,11 @@ pub const DONE: Exit = Exit::With(Status::Done);
 pub const FAILED: Exit = Exit::With(Status::Failed);
 
 impl Exit {
+    /// How the question ends whether a server answers as it should.
+    pub fn of_answer(is_right: bool) -> Exit {
+        if is_right { DONE } else { Exit::NoAnswer }
+    }
+
     /// The number with which the program ends.
     pub fn code(self) -> u8 {
         match self {

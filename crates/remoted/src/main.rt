@@ -1,52 +1,43 @@
 //! The program `remoted`.
 #![tactic(auto)]
 
-mod bad_lines;
 mod beginning;
 mod checking;
 mod clock;
 mod ending;
 mod exit;
-mod figures;
-mod instance_figures;
 mod needs;
-mod notices;
 mod operator;
-mod options;
-mod pieces;
 mod process;
 mod reading;
-mod refusals;
 mod serve_ports;
 mod standard_error;
 mod telling;
 mod watching;
 
-use crate::bad_lines::{Script, fault_of_line};
 use crate::checking::check_port;
 use crate::exit::{DONE, Exit, FAILED};
 use crate::process::{open_streams, reads_terminal, words_of};
 use crate::reading::read_told;
 use crate::serve_ports::serve_ports;
-use crate::telling::tell_figures;
+use crate::telling::tell_file;
 use command_line::{CommandLineError, Invocation, parse};
+use operator_lines::tell_usage;
 use probe::{Request, probe};
 use program_status::{Fault, Status, read_all, told};
 use replay::replay;
+use script::{ScriptKind, fault_of_line};
 use server_events::Limits;
 use std::io::{self, BufWriter, ErrorKind, Write};
 use std::net::{Ipv4Addr, SocketAddr, TcpStream};
 use std::process::ExitCode;
 use unary::unary;
 
-/// How the tip begins that says how a word with a `-` before it could be taken as no option.
-const WORD_TIP: &str = "\n\n  tip: to pass '-";
-
 /// Carries out the script of a text by instances with these numbers, and says how the program ends.
 /// Of a bad line it is told what is wrong with it, on a line behind the one that names it.
 fn carry_out<O: Write, E: Write>(
     rt: &HostRuntime,
-    script: Script,
+    script: ScriptKind,
     limits: Limits,
     text: &[u8],
     output: &mut O,
@@ -54,8 +45,8 @@ fn carry_out<O: Write, E: Write>(
 ) -> io::Result<Exit> {
     let mut input = text;
     let status = match script {
-        Script::Calls => unary(rt.alloc(), limits, &mut input, output, errors),
-        Script::Events => replay(rt.alloc(), limits, &mut input, output, errors),
+        ScriptKind::Calls => unary(rt.alloc(), limits, &mut input, output, errors),
+        ScriptKind::Events => replay(rt.alloc(), limits, &mut input, output, errors),
     };
     if let Status::BadLine(number) = status {
         if let Some(fault) = fault_of_line(script, text, number) {
@@ -81,7 +72,7 @@ fn carry_out_input<O: Write, E: Write>(
         )?;
     }
     match read_all(rt.alloc(), &mut rt.stdin()) {
-        Ok(text) => carry_out(rt, Script::Calls, limits, &text, output, errors),
+        Ok(text) => carry_out(rt, ScriptKind::Calls, limits, &text, output, errors),
         Err(fault) => Ok(Exit::With(told(Err(fault.status()), errors))),
     }
 }
@@ -89,7 +80,7 @@ fn carry_out_input<O: Write, E: Write>(
 /// Carries out the script of a file by instances with these numbers, and says how the program ends.
 fn carry_out_file<O: Write, E: Write>(
     rt: &HostRuntime,
-    script: Script,
+    script: ScriptKind,
     limits: Limits,
     file: &str,
     output: &mut O,
@@ -165,10 +156,10 @@ fn perform<O: Write, E: Write>(
         Invocation::Unary {
             file: Some(file),
             limits,
-        } => carry_out_file(rt, Script::Calls, *limits, file, output, errors),
+        } => carry_out_file(rt, ScriptKind::Calls, *limits, file, output, errors),
         Invocation::Unary { file: None, limits } => carry_out_input(rt, *limits, output, errors),
         Invocation::Replay { file, limits } => {
-            carry_out_file(rt, Script::Events, *limits, file, output, errors)
+            carry_out_file(rt, ScriptKind::Events, *limits, file, output, errors)
         }
         Invocation::Probe {
             port,
@@ -178,21 +169,9 @@ fn perform<O: Write, E: Write>(
         } => probe_with_file(rt, *port, send, (*want, *turns), output, errors),
         Invocation::Check(question) => check_port(rt, *question, output, errors),
         Invocation::Figures { metrics, instance } => {
-            tell_figures(rt, metrics, *instance, output, errors)
+            tell_file(rt, metrics, *instance, output, errors)
         }
         Invocation::Serve(service) => serve_ports(rt, service, output, errors),
-    }
-}
-
-/// A text of the command line's faults in two parts, without its tip on a word that begins with `-`,
-/// if it has that: whoever wrote one meant an option, or a number.
-fn without_tip(text: &str) -> (&str, &str) {
-    let Some((head, behind)) = text.split_once(WORD_TIP) else {
-        return (text, "");
-    };
-    match behind.split_once('\n') {
-        Some((_, rest)) => (head, rest),
-        None => (text, ""),
     }
 }
 
@@ -208,10 +187,7 @@ fn answer_words<E: Write>(
         return Ok(DONE);
     }
     let text = format!(in rt.alloc(); "{error}")?;
-    match without_tip(text.as_str()) {
-        (text, "") => write!(errors, "{text}")?,
-        (head, rest) => write!(errors, "{head}\n{rest}")?,
-    }
+    tell_usage(text.as_str(), errors)?;
     Ok(Exit::BadWords)
 }
 

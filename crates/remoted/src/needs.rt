@@ -1,16 +1,11 @@
 //! What a launcher says that it needs.
 
-use crate::beginning::folder_of;
+use operator_lines::{folder_of, need_of};
 use std::fs::{self, File};
 use std::io::{self, ErrorKind, Read, Write};
-use std::str;
 
 /// How many bytes of a launcher are looked at.
 const MOST_BYTES: u64 = 4096;
-
-/// How a line of it begins that names the files that it needs beside it, and behind ` - ` where
-/// they come from.
-const NEEDS: &str = "# needs: ";
 
 /// The beginning of a file.
 fn beginning_of(rt: &HostRuntime, path: &str) -> io::Result<Vec<u8>> {
@@ -18,12 +13,6 @@ fn beginning_of(rt: &HostRuntime, path: &str) -> io::Result<Vec<u8>> {
     let file: File = File::open(rt, path)?;
     file.take(MOST_BYTES).read_to_end(&mut bytes)?;
     Ok(bytes)
-}
-
-/// What a line says that is needed, and where it comes from; none where it says nothing of that.
-fn need_of(line: &[u8]) -> Option<(&str, &str)> {
-    let need = str::from_utf8(line).ok()?.strip_prefix(NEEDS)?;
-    Some(need.split_once(" - ").unwrap_or((need, "it needs that")))
 }
 
 /// Whether there is no file of this name in a folder.

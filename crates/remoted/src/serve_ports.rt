@@ -3,38 +3,38 @@
 ghost use Rattle.std.specs.Prelude.{◌≡◌, map, is_some, IfOk, IfSome, string_bytes};
 ghost use Rattle.std.specs.Net.Socket.{socket_port};
 ghost use Rattle.server_events.specs.LimitsShown.{limits_value};
-ghost use Rattle.instance_words.specs.Words.{AreWordsOf};
+ghost use Rattle.operator_lines.specs.Words.{AreWordsOf};
 ghost use Rattle.host_sockets.specs.Ports.{ListensAt, addresses};
 ghost use Rattle.remoted.specs.Launching.{KnowsInstances};
 
 use crate::beginning::{
     begin, can_open, can_run, can_write, guard_against_leases, has_folder, keep_freed_memory,
-    slots_of,
 };
-use crate::clock::milliseconds_between;
+use crate::clock::milliseconds_since;
 use crate::ending::EndFile;
 use crate::exit::{DONE, Exit, FAILED};
 use crate::needs::tell_lacking;
 use crate::operator::{Counters, Operator};
-use crate::options::{Options, options_of};
 use crate::standard_error::StandardError;
 use crate::watching::{MetricsFile, StopFile};
 use command_line::Service;
 use host_folders::{FolderCounts, HostFolder, Links, Work};
-use host_programs::{HostPrograms, HostSpawner, Launcher, launcher_path};
 use host_shells::Sessions;
 use host_sockets::{HostSockets, ListenError, SocketCounts};
+use host_system::{HostSpawner, HostSystem};
 use host_wires::{ThisHost, TurnClock};
-use instance_words::{
-    Instances, InstancesFault, Mistake, WordFault, instances_of, mistake_of, parent_mistake_of,
-};
 use job_runs::{JobRunner, OperatedRuns, Oversight};
 use keyed_maps::MapKey;
-use serve::{ErrorLines, Sockets, Tally, serve};
+use operator_lines::{
+    Instances, Options, instances_of, is_memory, options_of, slots_of, tell_end, tell_no_launcher,
+    tell_refused_words, tell_taken, told,
+};
+use run_programs::{Launcher, RunPrograms, launcher_path};
+use serve::{ErrorLines, Sockets, serve};
 use server_events::Configs;
-use std::alloc::{AllocError, Global};
-use std::io::{self, ErrorKind, Write};
-use std::net::{IpAddr, Ipv4Addr, SocketAddr};
+use std::alloc::AllocError;
+use std::io::{self, Write};
+use std::net::IpAddr;
 use std::random::RandomSource;
 use std::rc::Rc;
 use std::time::{Duration, Instant};
@@ -45,45 +45,10 @@ use std::{fs, thread};
 const MOST_ENDING: u64 = 15_000;
 
 /// What runs actions on this host.
-type Runner<'a> = OperatedRuns<'a, HostFolder<'a>, HostPrograms<'a, HostRuntime, HostSpawner<'a>>>;
+type Runner<'a> = OperatedRuns<'a, HostFolder<'a>, HostPrograms<'a>>;
 
-pub fn is_memory(error: &io::Error) -> bool {
-    error.kind() == ErrorKind::OutOfMemory
-}
-
-/// Tells which part of a word is wrong, and of a parent why it is none.
-fn tell_mistake<E: Write>(
-    words: &[&str],
-    word: &str,
-    reason: WordFault,
-    mistake: Mistake<'_>,
-    errors: &mut E,
-) -> io::Result<()> {
-    match parent_mistake_of(words, word) {
-        Some(why) if reason == WordFault::Parent => {
-            writeln!(errors, "remoted: {mistake}: {why}")
-        }
-        _ => writeln!(errors, "remoted: {mistake}"),
-    }
-}
-
-/// Tells why the words are refused.
-fn tell_fault<E: Write>(words: &[&str], fault: InstancesFault, errors: &mut E) -> io::Result<Exit> {
-    match fault {
-        InstancesFault::Bad(place, reason) => {
-            let word = words.get(place).copied().unwrap_or("");
-            writeln!(errors, "remoted: bad instance {word}: {reason}")?;
-            if let Some(mistake) = mistake_of(word, reason) {
-                tell_mistake(words, word, reason, mistake, errors)?;
-            }
-        }
-        InstancesFault::TooMany => {
-            writeln!(errors, "remoted: {fault}")?;
-        }
-        InstancesFault::NoMemory(refused) => return Err(io::Error::from(refused)),
-    }
-    Ok(Exit::BadWords)
-}
+/// The programs of this host.
+type HostPrograms<'a> = RunPrograms<'a, HostSystem<'a>, HostSpawner<'a>, Sessions<'a>>;
 
 /// Sockets that listen on these ports of an address, for the instances in order. Where there is no
 /// listening on one, that is told, and there are none.
@@ -103,27 +68,6 @@ fn listen<'a, E: Write>(
             Ok(None)
         }
         Err(ListenError::Host(error) | ListenError::Port(_, error)) => Err(error),
-    }
-}
-
-/// Tells that there is no listening at an address, which is named where it is not the usual one,
-/// and why, on a line of its own.
-fn tell_taken<E: Write>(address: SocketAddr, error: &io::Error, errors: &mut E) -> io::Result<()> {
-    let port = address.port();
-    if address.ip() == IpAddr::V4(Ipv4Addr::LOCALHOST) {
-        writeln!(errors, "remoted: cannot listen on {port}")?;
-    } else {
-        writeln!(errors, "remoted: cannot listen on {address}")?;
-    }
-    writeln!(errors, "remoted: port {port}: {error}")
-}
-
-/// What came of telling something after which the server goes on: it does so where the line could
-/// not be written too.
-pub fn told(outcome: io::Result<()>) -> io::Result<()> {
-    match outcome {
-        Err(error) if is_memory(&error) => Err(error),
-        _ => Ok(()),
     }
 }
 
@@ -158,26 +102,16 @@ fn launcher_of<E: Write>(
     let Some(program) = service.launcher else {
         return Ok(Some(None));
     };
-    match launcher_path(rt, program) {
+    match launcher_path(&HostSystem::new(rt), program) {
         Ok(path) => {
             told(tell_lacking(rt, path.as_str(), errors))?;
             Ok(Some(Some(Launcher::new(path, names_of(rt, &instances.configs)?))))
         }
         Err(error) if is_memory(&error) => Err(error),
         Err(error) => {
-            let why = why_no_launcher(error.kind());
-            writeln!(errors, "remoted: cannot run {program}: {why}")?;
+            tell_no_launcher(program, error.kind(), errors)?;
             Ok(None)
         }
-    }
-}
-
-/// Why a file is no launcher.
-fn why_no_launcher(kind: ErrorKind) -> &'static str {
-    match kind {
-        ErrorKind::NotFound => "there is no such file",
-        ErrorKind::PermissionDenied => "it is no file that the server may execute",
-        _ => "its path leads to no file",
     }
 }
 
@@ -210,6 +144,15 @@ fn place_of<'a, E: Write>(
     begin(rt, service.work, errors)
 }
 
+/// What becomes of symbolic links in output directories.
+fn links_of(options: Options) -> Links {
+    if options.links_fail {
+        Links::Fail
+    } else {
+        Links::LeftOut
+    }
+}
+
 /// Runs in this place, of the jobs of these instances.
 fn job_runner<'a, E: Write>(
     rt: &'a HostRuntime,
@@ -230,18 +173,10 @@ fn job_runner<'a, E: Write>(
     if slots_of(instances) > 0 {
         guard_against_leases(rt, &mut folder, errors)?;
     }
-    let (sessions, spawner) = (Sessions::new(rt), HostSpawner::new(rt));
-    let programs = HostPrograms::new(rt, sessions, spawner, path, launcher, failure);
+    let (host, sessions, spawner) = (HostSystem::new(rt), Sessions::new(rt), HostSpawner::new(rt));
+    let programs = RunPrograms::new(host, sessions, spawner, path, launcher, failure);
     let runs = JobRunner::new(rt.alloc(), folder, programs, slots_of(instances))?;
     Ok(OperatedRuns::new(rt.alloc(), runs, oversight))
-}
-
-/// The milliseconds since a moment; 0 where the clock cannot be read.
-fn passed_since(rt: &HostRuntime, moment: Option<Instant>) -> u64 {
-    match (moment, Instant::now(rt)) {
-        (Some(moment), Ok(now)) => milliseconds_between(moment, now),
-        _ => 0,
-    }
 }
 
 /// Closes all ports and connections. Then ends what runs, and removes its folders. One that is left
@@ -257,7 +192,7 @@ fn end_runs(
     drop(sockets);
     let last = end.saturating_add(MOST_ENDING);
     for _ in 0..MOST_ENDING {
-        let now = end.saturating_add(passed_since(rt, began));
+        let now = end.saturating_add(milliseconds_since(rt, began));
         if runs.end_all(configs, now, lines) == 0 || now >= last {
             return;
         }
@@ -338,22 +273,6 @@ fn serve_turns(
     told
 }
 
-/// Tells how many events were cut short, and how many lines were dropped, if any were.
-fn tell_end(
-    alloc: Global,
-    served: Result<Tally, AllocError>,
-    lines: &mut ErrorLines<StandardError>,
-) -> Result<(), AllocError> {
-    let cut = served?.cut;
-    if cut > 0 {
-        let line = format!(in alloc; "remoted: cut short for want of memory: {cut}\n")?;
-        lines.write_line(line.as_str());
-    } else if lines.dropped() > 0 {
-        lines.write_line("");
-    }
-    Ok(())
-}
-
 /// Whether the file that ends the server is there before it begins, which is told.
 fn is_stopped<E: Write>(
     rt: &HostRuntime,
@@ -409,7 +328,8 @@ fn serve_instances<'a, O: Write, E: Write>(
     let folders = FolderCounts::new(rt.alloc(), instances.ports.len())?;
     let oversight = Oversight::new(rt.alloc(), &instances.configs)?;
     let shared = (&folders, &oversight);
-    let mut runs = job_runner(rt, work, options.links, shared, launcher, instances, errors)?;
+    let links = links_of(options);
+    let mut runs = job_runner(rt, work, links, shared, launcher, instances, errors)?;
     told(announce(&instances.configs, &sockets, output))?;
     let counters = Counters {
         folders: &folders,
@@ -440,6 +360,9 @@ pub fn serve_ports<O: Write, E: Write>(
         Ok(instances) => serve_instances(
             rt, service, options, &instances, &refusals, output, errors,
         ),
-        Err(fault) => tell_fault(&service.instances, fault, errors),
+        Err(fault) => {
+            tell_refused_words(&service.instances, fault, errors)?;
+            Ok(Exit::BadWords)
+        }
     }
 }

@@ -1,6 +1,6 @@
 //! What an operator watches a server by: the file of its figures, and the file that ends it.
 
-use crate::serve_ports::is_memory;
+use operator_lines::{Due, is_memory};
 use std::alloc::AllocError;
 use std::fs::{self, File, OpenOptions};
 use std::io::{self, ErrorKind, Write};
@@ -13,32 +13,6 @@ const TELLING: u64 = 60_000;
 
 /// How often the file that ends the server is looked for.
 const LOOKING: u64 = 1_000;
-
-/// Says when something is due that is done once in so many milliseconds.
-#[derive(Clone, Copy)]
-pub struct Due {
-    every: u64,
-    /// When it was done last, if it was.
-    last: Option<u64>,
-}
-
-impl Due {
-    pub fn every(every: u64) -> Due {
-        Due { every, last: None }
-    }
-
-    /// Whether it is due at a moment; if so, it is taken to be done then.
-    pub fn take(&mut self, moment: u64) -> bool {
-        let is_due = match self.last {
-            None => true,
-            Some(last) => moment.saturating_sub(last) >= self.every,
-        };
-        if is_due {
-            self.last = Some(moment);
-        }
-        is_due
-    }
-}
 
 /// The file to which the figures of a server are written.
 #[derive(Drop)]

@@ -22,21 +22,25 @@ head_to : (id : CallId) (method : Method) (o : Option CallValue) → AreTo id (h
 head_to id method (Some call) = tt
 head_to id method None = tt
 
-first_to : (id : CallId) (method : Method) (changes : List InstanceChange) (r : Result WrittenValue Refusal) → AreTo id (first_write_answer id method changes r).replies
+first_to : (id : CallId) (method : Method) (changes : List InstanceChange) (r : Result WrittenValue Refusal) →
+    AreTo id (first_write_answer id method changes r).replies
 first_to id method changes (Ok (Writing.Goes write)) = tt
 first_to id method changes (Ok (Writing.Answered reply)) = (refl, tt)
 first_to id method changes (Err refusal) = (refl, tt)
 
-next_to : (id : CallId) (changes : List InstanceChange) (r : Result (Option (List ℕ)) Refusal) → AreTo id (next_write_answer id changes r).replies
+next_to : (id : CallId) (changes : List InstanceChange) (r : Result (Option (List ℕ)) Refusal) →
+    AreTo id (next_write_answer id changes r).replies
 next_to id changes (Ok None) = tt
 next_to id changes (Ok (Some reply)) = (refl, tt)
 next_to id changes (Err refusal) = (refl, tt)
 
-with_first_to : (s : InstanceState) (id : CallId) (method : Method) (bytes : List ℕ) → AreTo id (first_message_answer s id method bytes).replies
+with_first_to : (s : InstanceState) (id : CallId) (method : Method) (bytes : List ℕ) →
+    AreTo id (first_message_answer s id method bytes).replies
 with_first_to s id Write bytes = first_to id Write (first_changes s bytes) (first_outcome s bytes)
 with_first_to s id method bytes = tt
 
-with_to : (s : InstanceState) (id : CallId) (method : Method) (bytes : List ℕ) (p : ProgressValue) → AreTo id (answer_by_progress s id method bytes p).replies
+with_to : (s : InstanceState) (id : CallId) (method : Method) (bytes : List ℕ) (p : ProgressValue) →
+    AreTo id (answer_by_progress s id method bytes p).replies
 with_to s id method bytes waits = with_first_to s id method bytes
 with_to s id method bytes (has first) = (refl, tt)
 with_to s id method bytes (writes write) = next_to id (next_changes s write bytes) (next_outcome s write bytes)

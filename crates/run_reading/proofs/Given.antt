@@ -28,20 +28,23 @@ AreGiven configs = All IsConfig configs × All (λ config. IsLimits config.limit
 limited : (config : ConfigValue) → IsConfig config → IsLimits config.limits → IsLimited config
 limited config good chosen = record { quota = good.quota; slots = good.slots; limits = chosen }
 
-limited_at : (configs : List ConfigValue) (i : ℕ) (config : ConfigValue) → AreGiven configs → slice_get configs i ≡ Some config → IsLimited config
+limited_at : (configs : List ConfigValue) (i : ℕ) (config : ConfigValue) → AreGiven configs → slice_get configs i ≡ Some config →
+    IsLimited config
 limited_at configs i config each is =
     let lt = slice_get_within configs i config is in
     let same = get_or_from_slice_get configs i config config is in
     limited config (subst IsConfig same (each.0 i config lt)) (subst (λ (c : ConfigValue). IsLimits c.limits) same (each.1 i config lt))
 
-some_limited : (configs : List ConfigValue) (parent : Option ℕ) → AreGiven configs → IfSome (option_and_then (slice_get configs) parent) IsLimited
+some_limited : (configs : List ConfigValue) (parent : Option ℕ) → AreGiven configs →
+    IfSome (option_and_then (slice_get configs) parent) IsLimited
 some_limited configs None each = tt
 some_limited configs (Some p) each = go (slice_get configs p) refl where
   go : (o : Option ConfigValue) → slice_get configs p ≡ o → IfSome o IsLimited
   go None is = tt
   go (Some config) is = limited_at configs p config each is
 
-pub family_limited : (configs : List ConfigValue) (i : ℕ) (config : ConfigValue) → config_fault configs ≡ None → All (λ (c : ConfigValue). IsLimits c.limits) configs → slice_get configs i ≡ Some config → AreLimited (family_in configs config)
+pub family_limited : (configs : List ConfigValue) (i : ℕ) (config : ConfigValue) → config_fault configs ≡ None →
+    All (λ (c : ConfigValue). IsLimits c.limits) configs → slice_get configs i ≡ Some config → AreLimited (family_in configs config)
 family_limited configs i config none chosen is =
     let each : AreGiven configs = (((none_is_good configs).0 none).good.each, chosen) in
     record { own = limited_at configs i config each is; parent = some_limited configs (parent_of configs config) each }
@@ -52,17 +55,20 @@ abbrev AreNarrow : List FamilyEvent → Type 0
 AreNarrow es = AllByRecursion IsNarrow (map event_in es)
 
 event_narrow : (i : ℕ) (parent : Option ℕ) (e : EventValue) → IsNarrow e.lone → AreNarrow (family_event i parent e)
-event_narrow i parent e narrow = choose AreNarrow (e.instance == i) (own_event e.lone ∷ []) (cond theirs (parent_event e.lone ∷ []) []) (λ _. (narrow, tt)) (λ _. choose AreNarrow theirs (parent_event e.lone ∷ []) [] (λ _. (narrow, tt)) (λ _. tt)) where
-  theirs : Bool
-  theirs = option_map_or (λ p. e.instance == p) parent false
+event_narrow i parent e narrow = choose AreNarrow (e.instance == i) (own_event e.lone ∷ []) (cond theirs (parent_event e.lone ∷ []) [])
+    (λ _. (narrow, tt)) (λ _. choose AreNarrow theirs (parent_event e.lone ∷ []) [] (λ _. (narrow, tt)) (λ _. tt)) where
+      theirs : Bool
+      theirs = option_map_or (λ p. e.instance == p) parent false
 
 both_narrow : (these those : List FamilyEvent) → AreNarrow these → AreNarrow those → AreNarrow (these ++ those)
 both_narrow [] those h g = g
 both_narrow (e ∷ these) those h g = (h.0, both_narrow these those h.1 g)
 
-pub events_narrow : (i : ℕ) (parent : Option ℕ) (es : List EventValue) → AllByRecursion (λ (e : EventValue). IsNarrow e.lone) es → AreNarrow (family_events i parent es)
+pub events_narrow : (i : ℕ) (parent : Option ℕ) (es : List EventValue) → AllByRecursion (λ (e : EventValue). IsNarrow e.lone) es →
+    AreNarrow (family_events i parent es)
 events_narrow i parent [] h = tt
-events_narrow i parent (e ∷ es) h = both_narrow (family_event i parent e) (family_events i parent es) (event_narrow i parent e h.0) (events_narrow i parent es h.1)
+events_narrow i parent (e ∷ es) h = both_narrow (family_event i parent e) (family_events i parent es) (event_narrow i parent e h.0)
+    (events_narrow i parent es h.1)
 
 -- ---- what is given
 
@@ -79,7 +85,10 @@ gives_well family events limits narrow = record {
   within = run_within family events limits narrow;
 }
 
-pub all_give_well : (configs : List ConfigValue) (events : List EventValue) (i : ℕ) (config : ConfigValue) → config_fault configs ≡ None → All (λ (c : ConfigValue). IsLimits c.limits) configs → AllByRecursion (λ (e : EventValue). IsNarrow e.lone) events → slice_get configs i ≡ Some config
+pub all_give_well : (configs : List ConfigValue) (events : List EventValue) (i : ℕ) (config : ConfigValue) → config_fault configs ≡ None →
+    All (λ (c : ConfigValue). IsLimits c.limits) configs → AllByRecursion (λ (e : EventValue). IsNarrow e.lone) events →
+    slice_get configs i ≡ Some config
     → GivesWell (family_in configs config) (family_events i (parent_of configs config) events)
 all_give_well configs events i config none chosen narrow is =
-    gives_well (family_in configs config) (family_events i (parent_of configs config) events) (family_limited configs i config none chosen is) (events_narrow i (parent_of configs config) events narrow)
+    gives_well (family_in configs config) (family_events i (parent_of configs config) events)
+    (family_limited configs i config none chosen is) (events_narrow i (parent_of configs config) events narrow)

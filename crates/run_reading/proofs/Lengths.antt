@@ -28,7 +28,8 @@ longest_fits = omega arith
 
 length_short : (n : ℕ) → length (length_text n) ≤ 3
 length_short n = go (nat_lt n 128) (nat_lt n 16384) where
-  go : (a b : Bool) → length (cond a (n ∷ []) (cond b ((n % 128 + 128) ∷ (n / 128) ∷ []) ((n % 128 + 128) ∷ ((n / 128) % 128 + 128) ∷ (n / 16384) ∷ []))) ≤ 3
+  go : (a b : Bool) → length (cond a (n ∷ []) (cond b ((n % 128 + 128) ∷ (n / 128) ∷ [])
+      ((n % 128 + 128) ∷ ((n / 128) % 128 + 128) ∷ (n / 16384) ∷ []))) ≤ 3
   go true b = omega arith
   go false true = omega arith
   go false false = omega arith
@@ -36,7 +37,8 @@ length_short n = go (nat_lt n 128) (nat_lt n 16384) where
 message_within : (bytes : List ℕ) → length bytes ≤ most_read → length (read_message bytes) ≤ longest_message
 message_within bytes few =
     let head : length (length_text (length bytes)) ≤ 3 = length_short (length bytes) in
-    let both : length (length_text (length bytes) ++ bytes) ≡ length (length_text (length bytes)) + length bytes = length-append (length_text (length bytes)) bytes in
+    let both : length (length_text (length bytes) ++ bytes) ≡ length (length_text (length bytes)) + length bytes =
+    length-append (length_text (length bytes)) bytes in
     omega (arith, few, head, both)
 
 cut_within : (k : ℕ) (bytes : List ℕ) → AllByRecursion (IsPartWithin longest_message) (map WholeMessage (messages_cut most_read k bytes))
@@ -73,7 +75,8 @@ reply_item_within (gives given) h = range_within (take (given.until - given.from
 reply_item_within ends h = (tt, tt)
 reply_item_within (refuses refusal) h = (tt, tt)
 
-reply_items_within : (items : List ReplyItemValue) → AllByRecursion IsShortReplyItem items → AllByRecursion (IsItemWithin longest_message) (owed_items items)
+reply_items_within : (items : List ReplyItemValue) → AllByRecursion IsShortReplyItem items →
+    AllByRecursion (IsItemWithin longest_message) (owed_items items)
 reply_items_within [] h = tt
 reply_items_within (item ∷ items) h = (reply_item_within item h.0, reply_items_within items h.1)
 
@@ -81,14 +84,17 @@ replies_within : (rs : List ReplyValue) → AllByRecursion IsShortReply rs → A
 replies_within [] h = tt
 replies_within (r ∷ rs) h = (reply_items_within r.items h.0, replies_within rs h.1)
 
-pub given_within : (s : InstanceState) (hs : List Happening) → AllByRecursion IsShortHappening hs → IsInstanceWithin s → AreWithin (given_items_from s hs)
-given_within s hs short w = all_given (IsItemWithin longest_message) item_within (λ t event e v. replies_within (answer t event).replies (answers_short t event e v)) s hs short w
+pub given_within : (s : InstanceState) (hs : List Happening) → AllByRecursion IsShortHappening hs → IsInstanceWithin s →
+    AreWithin (given_items_from s hs)
+given_within s hs short w = all_given (IsItemWithin longest_message) item_within
+    (λ t event e v. replies_within (answer t event).replies (answers_short t event e v)) s hs short w
 
 pub items_within : (place s : ℕ) (gs : List GivenItems) → AreWithin gs → AllByRecursion (IsItemWithin longest_message) (items_on place s gs)
 items_within place s [] h = tt
 items_within place s (g ∷ gs) h =
     all_append (IsItemWithin longest_message) (items_given place s g) (items_on place s gs)
-    (choose (AllByRecursion (IsItemWithin longest_message)) (g.place == place && g.stream == s) g.items [] (λ _. h.0) (λ _. tt)) (items_within place s gs h.1)
+    (choose (AllByRecursion (IsItemWithin longest_message)) (g.place == place && g.stream == s) g.items [] (λ _. h.0) (λ _. tt))
+    (items_within place s gs h.1)
 
 -- ---- what is owed
 
@@ -97,8 +103,14 @@ later_ones P [] ys h = h
 later_ones P (x ∷ xs) ys h = later_ones P xs ys h.1
 
 first_one : (P : Item → Type 0) (o : OwedItem) (os : List OwedItem) → AllByRecursion P (items_owed_on o.stream (o ∷ os)) → P o.item
-first_one P o os h = let here = same_number o.stream in let h' : AllByRecursion P (o.item ∷ items_owed_on o.stream os) = rw here at h in h'.0
+first_one P o os h = let here = same_number o.stream in let h' : AllByRecursion P (o.item ∷ items_owed_on o.stream os) = rw here at h in
+    h'.0
 
-pub all_takable : (os : List OwedItem) → ((s : ℕ) → AllByRecursion (IsItemWithin longest_message) (items_owed_on s os)) → IsTakable longest_message os
+pub all_takable : (os : List OwedItem) → ((s : ℕ) → AllByRecursion (IsItemWithin longest_message) (items_owed_on s os)) →
+    IsTakable longest_message os
 all_takable [] h = tt
-all_takable (o ∷ os) h = (first_one (IsItemWithin longest_message) o os (h o.stream), all_takable os (λ s. later_ones (IsItemWithin longest_message) (item_on s o) (items_owed_on s os) (h s)))
+all_takable (o ∷ os) h = (
+  first_one (IsItemWithin longest_message) o os (h o.stream),
+  all_takable os
+      (λ s. later_ones (IsItemWithin longest_message) (item_on s o) (items_owed_on s os) (h s)),
+)

@@ -67,7 +67,8 @@ cancels_bring s [] = record { heads = refl; messages = refl }
 cancels_bring s (t ∷ ts) = let more = cancels_bring s ts in record { heads = more.heads; messages = more.messages }
 
 pub all_cancels_bring : (s : ℕ) (d : List Entry) → BringsNone s (cancels d)
-all_cancels_bring s d = choose (BringsNone s) (has_failed d) [] (map Seen.Cancel (filter (is_call d) (live_streams d))) (λ _. record { heads = refl; messages = refl }) (λ _. cancels_bring s (filter (is_call d) (live_streams d)))
+all_cancels_bring s d = choose (BringsNone s) (has_failed d) [] (map Seen.Cancel (filter (is_call d) (live_streams d)))
+    (λ _. record { heads = refl; messages = refl }) (λ _. cancels_bring s (filter (is_call d) (live_streams d)))
 
 end_brings : (s t : ℕ) (rest : List ℕ) → BringsNone s (events_at_end t rest)
 end_brings s t [] = record { heads = refl; messages = refl }
@@ -81,11 +82,13 @@ behind_brings s t e (Err fault) = record { heads = refl; messages = refl }
 -- messages on a stream
 messages_on : (s : ℕ) (ms : List (List ℕ)) → messages_in s (map (Seen.Message s) ms) ≡ ms
 messages_on s [] = refl
-messages_on s (m ∷ ms) = ap (λ b. cond b (m ∷ []) [] ++ messages_in s (map (Seen.Message s) ms)) (same_number s) ∙ ap (λ xs. m ∷ xs) (messages_on s ms)
+messages_on s (m ∷ ms) = ap (λ b. cond b (m ∷ []) [] ++ messages_in s (map (Seen.Message s) ms)) (same_number s)
+    ∙ ap (λ xs. m ∷ xs) (messages_on s ms)
 
 messages_elsewhere : (s t : ℕ) (ms : List (List ℕ)) → (t == s) ≡ false → messages_in s (map (Seen.Message t) ms) ≡ []
 messages_elsewhere s t [] other = refl
-messages_elsewhere s t (m ∷ ms) other = ap (λ b. cond b (m ∷ []) [] ++ messages_in s (map (Seen.Message t) ms)) other ∙ messages_elsewhere s t ms other
+messages_elsewhere s t (m ∷ ms) other = ap (λ b. cond b (m ∷ []) [] ++ messages_in s (map (Seen.Message t) ms)) other
+    ∙ messages_elsewhere s t ms other
 
 no_heads : (s t : ℕ) (ms : List (List ℕ)) → heads_in s (map (Seen.Message t) ms) ≡ []
 no_heads s t [] = refl
@@ -102,10 +105,13 @@ pub record AddsMessages (s : ℕ) (before after : List ℕ) (es : List CallEvent
   pub heads : heads_in s es ≡ []
   pub items : (messages_of after).items ≡ (messages_of before).items ++ messages_in s es
 
-front_brings : (s t : ℕ) (ms : List (List ℕ)) (tail : List CallEvent) → BringsNone s tail → heads_in s (map (Seen.Message t) ms ++ tail) ≡ []
-front_brings s t ms tail none = heads_append s (map (Seen.Message t) ms) tail ∙ ap (λ xs. xs ++ heads_in s tail) (no_heads s t ms) ∙ none.heads
+front_brings : (s t : ℕ) (ms : List (List ℕ)) (tail : List CallEvent) → BringsNone s tail →
+    heads_in s (map (Seen.Message t) ms ++ tail) ≡ []
+front_brings s t ms tail none = heads_append s (map (Seen.Message t) ms) tail ∙ ap (λ xs. xs ++ heads_in s tail) (no_heads s t ms)
+    ∙ none.heads
 
-pub text_brings : (s : ℕ) (before content : List ℕ) (e : Bool) → AddsMessages s before (before ++ content) (events_of_content s before content e)
+pub text_brings : (s : ℕ) (before content : List ℕ) (e : Bool) →
+    AddsMessages s before (before ++ content) (events_of_content s before content e)
 text_brings s before content e = go (messages_of before).end refl where
   whole : Split
   whole = messages_of (before ++ content)
@@ -113,7 +119,8 @@ text_brings s before content e = go (messages_of before).end refl where
   more : List (List ℕ)
   more = drop (length (messages_of before).items) whole.items
 
-  go : (r : Result (List ℕ) MessagesError) → (messages_of before).end ≡ r → AddsMessages s before (before ++ content) (events_by_end r (map (Seen.Message s) more ++ events_behind_messages s e whole.end))
+  go : (r : Result (List ℕ) MessagesError) → (messages_of before).end ≡ r →
+      AddsMessages s before (before ++ content) (events_by_end r (map (Seen.Message s) more ++ events_behind_messages s e whole.end))
   go (Ok rest) is =
       let none = behind_brings s s e whole.end in
       let g = (grows (message_format message_limit) (steady message_limit) before content).more in
@@ -139,7 +146,8 @@ text_elsewhere s t before content e other = go (messages_of before).end where
   more : List (List ℕ)
   more = drop (length (messages_of before).items) whole.items
 
-  go : (r : Result (List ℕ) MessagesError) → BringsNone s (events_by_end r (map (Seen.Message t) more ++ events_behind_messages t e whole.end))
+  go : (r : Result (List ℕ) MessagesError) → BringsNone s
+      (events_by_end r (map (Seen.Message t) more ++ events_behind_messages t e whole.end))
   go (Ok rest) =
       let none = behind_brings s t e whole.end in
       record {
@@ -157,7 +165,8 @@ none_read = refl
 -- ---- the methods of a stream
 
 pub methods_frame : (d e : List Entry) (event : Event) (s : ℕ) → Brings d e event → methods_on e s ≡ methods_on d s ++ method_on s event
-methods_frame d e event s h = ap (flat_map (method_on s)) h ∙ flat_map-append (method_on s) (events d) (event ∷ []) ∙ ap (λ (xs : List Method). methods_on d s ++ xs) (append-nil (method_on s event))
+methods_frame d e event s h = ap (flat_map (method_on s)) h ∙ flat_map-append (method_on s) (events d) (event ∷ [])
+    ∙ ap (λ (xs : List Method). methods_on d s ++ xs) (append-nil (method_on s event))
 
 or_parts : (a b : Bool) → (a || b) ≡ false → (a ≡ false) × (b ≡ false)
 or_parts true b h = cc

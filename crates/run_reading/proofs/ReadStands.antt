@@ -68,10 +68,12 @@ same_tracks name c s l m off h =
     subst (λ (o : Option Look). TracksLook name s (kept c s m) o) (sym off.look)
     (subst (λ (vs : List CallValue). TracksLook name s vs (look_at c s l.connections)) (sym off.calls) h)
 
-pub tracks_by : (name : List ℕ) (c s : ℕ) (l : LoneInstance) (o : Option Look) → look_at c s l.connections ≡ o → TracksLook name s (kept c s l) o → Tracks name c s l
+pub tracks_by : (name : List ℕ) (c s : ℕ) (l : LoneInstance) (o : Option Look) → look_at c s l.connections ≡ o →
+    TracksLook name s (kept c s l) o → Tracks name c s l
 tracks_by name c s l o is h = subst (λ (x : Option Look). TracksLook name s (kept c s l) x) (sym is) h
 
-pub by_tracks : (name : List ℕ) (c s : ℕ) (l : LoneInstance) (o : Option Look) → look_at c s l.connections ≡ o → Tracks name c s l → TracksLook name s (kept c s l) o
+pub by_tracks : (name : List ℕ) (c s : ℕ) (l : LoneInstance) (o : Option Look) → look_at c s l.connections ≡ o → Tracks name c s l →
+    TracksLook name s (kept c s l) o
 by_tracks name c s l o is h = subst (λ (x : Option Look). TracksLook name s (kept c s l) x) is h
 
 -- the cases of a connection
@@ -82,7 +84,8 @@ pub data IsSeen (c s : ℕ) (l : LoneInstance) : Type 0 where
 
 pub seen : (c s : ℕ) (l : LoneInstance) → IsSeen c s l
 seen c s l = go (look_at c s l.connections) refl where
-  by : (b : Bool) (d : List Entry) (items : List Item) → look_at c s l.connections ≡ Some (record { lives = b; history = d; items = items }) → IsSeen c s l
+  by : (b : Bool) (d : List Entry) (items : List Item) →
+      look_at c s l.connections ≡ Some (record { lives = b; history = d; items = items }) → IsSeen c s l
   by true d items is = Alive d items is
   by false d items is = Shut d items is
 
@@ -102,17 +105,21 @@ text_same d e s same = ap (λ (es : List Event). (messages_of (flat_map (content
 pub methods_same : (d e : List Entry) (s : ℕ) → HearsSame d e → methods_on e s ≡ methods_on d s
 methods_same d e s same = ap (flat_map (method_on s)) same.events
 
-pub live_same : (name : List ℕ) (s : ℕ) (vs : List CallValue) (d e : List Entry) (items : List Item) → HearsSame d e → Live name s vs d items → Live name s vs e items
+pub live_same : (name : List ℕ) (s : ℕ) (vs : List CallValue) (d e : List Entry) (items : List Item) → HearsSame d e →
+    Live name s vs d items → Live name s vs e items
 live_same name s vs d e items same h = record {
   idle = λ none. h.idle (λ o. none (same.opened s o));
-  read = λ is. subst (λ (ms : List (List ℕ)). Stands name vs ms items) (sym (text_same d e s same)) (h.read (sym (methods_same d e s same) ∙ is));
+  read = λ is. subst (λ (ms : List (List ℕ)). Stands name vs ms items) (sym (text_same d e s same))
+      (h.read (sym (methods_same d e s same) ∙ is));
 }
 
 pub took_same : (d : List Entry) (n : ℕ) → HearsSame d (d ++ Took n ∷ [])
 took_same d n = record { events = events_took d n; opened = λ s o. opened_still d (Took n ∷ []) s o }
 
 pub pump_same : (d : List Entry) (os : List OwedItem) → HearsSame d (history_after_pump d os)
-pump_same d os = pump_keeps (HearsSame d) os (λ e fs next same. record { events = events_out e fs ∙ same.events; opened = λ s o. opened_still e (map Out fs) s (same.opened s o) }) d (record { events = refl; opened = λ s o. o })
+pump_same d os = pump_keeps (HearsSame d) os (λ e fs next same. record
+    { events = events_out e fs ∙ same.events; opened = λ s o. opened_still e (map Out fs) s (same.opened s o) }) d
+    (record { events = refl; opened = λ s o. o })
 
 pub fault_same : (d : List Entry) (e : FrameError) (fs : List Frame) → HearsSame d (d ++ Unreadable e ∷ map Out fs)
 fault_same d e fs = record {
@@ -133,25 +140,34 @@ watches_none name vs ms items (Over is so) = subst AllWatchNone (sym is) tt
 abbrev pub IsTurn : CallEventValue → Type 0
 IsTurn event = (l : LoneInstance) (c s : ℕ) → AllWatchNone (kept c s l) → IsAside c s l (after_call_event event l)
 
-turn_aside : (event : CallEventValue) (l : LoneInstance) (c s : ℕ) → kept_at (call_id c s) (state_after l.state event).calls ≡ kept_at (call_id c s) l.state.calls → AreNotTo (call_id c s) (answer l.state event).replies → IsAside c s l (after_call_event event l)
+turn_aside : (event : CallEventValue) (l : LoneInstance) (c s : ℕ) →
+    kept_at (call_id c s) (state_after l.state event).calls ≡ kept_at (call_id c s) l.state.calls →
+    AreNotTo (call_id c s) (answer l.state event).replies → IsAside c s l (after_call_event event l)
 turn_aside event l c s same off = record {
   calls = ap (λ (t : InstanceState). kept_at (call_id c s) t.calls) (happened_state event l) ∙ same;
   look = replies_aside c s (answer l.state event).replies (record l { state = state_after l.state event }) off;
 }
 
 pub start_turn : IsTurn start_jobs
-start_turn l c s h = turn_aside start_jobs l c s (steps_kept (steps_at l.state start_jobs) (call_id c s) l.state.calls h) (turns_to (steps_at l.state start_jobs) (call_id c s) l.state.calls h)
+start_turn l c s h = turn_aside start_jobs l c s (steps_kept (steps_at l.state start_jobs) (call_id c s) l.state.calls h)
+    (turns_to (steps_at l.state start_jobs) (call_id c s) l.state.calls h)
 
 pub late_turn : IsTurn end_late_jobs
-late_turn l c s h = turn_aside end_late_jobs l c s (steps_kept (steps_at l.state end_late_jobs) (call_id c s) l.state.calls h) (turns_to (steps_at l.state end_late_jobs) (call_id c s) l.state.calls h)
+late_turn l c s h = turn_aside end_late_jobs l c s (steps_kept (steps_at l.state end_late_jobs) (call_id c s) l.state.calls h)
+    (turns_to (steps_at l.state end_late_jobs) (call_id c s) l.state.calls h)
 
-settle : (id : CallId) (steps : List StepValue) (results : List Blob) (cs : List Texts.TextChange) (s : InstanceState) → AllWatchNone (kept_at id s.calls) → kept_at id (state_after_changes ((map Text cs ++ KeepsResults results ∷ []) ++ Settles steps ∷ []) s).calls ≡ kept_at id s.calls
+settle : (id : CallId) (steps : List StepValue) (results : List Blob) (cs : List Texts.TextChange) (s : InstanceState) →
+    AllWatchNone (kept_at id s.calls) → kept_at id
+    (state_after_changes ((map Text cs ++ KeepsResults results ∷ []) ++ Settles steps ∷ []) s).calls ≡ kept_at id s.calls
 settle id steps results [] s h = steps_kept steps id s.calls h
 settle id steps results (c ∷ cs) s h = settle id steps results cs (state_after_change (Text c) s) h
 
-ending_kept : (id : CallId) (outcome : OutcomeValue) (steps : List StepValue) (o : Option JobValue) (s : InstanceState) → AllWatchNone (kept_at id s.calls) → kept_at id (state_after_changes (ending_changes s outcome o ++ Settles steps ∷ []) s).calls ≡ kept_at id s.calls
+ending_kept : (id : CallId) (outcome : OutcomeValue) (steps : List StepValue) (o : Option JobValue) (s : InstanceState) →
+    AllWatchNone (kept_at id s.calls) → kept_at id (state_after_changes (ending_changes s outcome o ++ Settles steps ∷ []) s).calls
+    ≡ kept_at id s.calls
 ending_kept id outcome steps None s h = steps_kept steps id s.calls h
-ending_kept id outcome steps (Some job) s h = settle id steps (results_with s.limits job.action (ending_at s outcome job).stored s.results) (admissions (ending_at s outcome job).blobs) s h
+ending_kept id outcome steps (Some job) s h = settle id steps (results_with s.limits job.action (ending_at s outcome job).stored s.results)
+    (admissions (ending_at s outcome job).blobs) s h
 
 pub end_turn : (n : ℕ) (outcome : OutcomeValue) → IsTurn (end_job n outcome)
 end_turn n outcome l c s h = turn_aside (end_job n outcome) l c s
@@ -159,12 +175,14 @@ end_turn n outcome l c s h = turn_aside (end_job n outcome) l c s
     (turns_to (steps_at l.state (end_job n outcome)) (call_id c s) l.state.calls h)
 
 -- of a connection that is open, what is owed to it at first and in the end
-same_items : (c s : ℕ) (l : LoneInstance) (d : List Entry) (a b : List Item) → look_at c s l.connections ≡ Some (opened d a) → look_at c s l.connections ≡ Some (opened d b) → a ≡ b
+same_items : (c s : ℕ) (l : LoneInstance) (d : List Entry) (a b : List Item) → look_at c s l.connections ≡ Some (opened d a) →
+    look_at c s l.connections ≡ Some (opened d b) → a ≡ b
 same_items c s l d a b first last =
     let same : opened d a ≡ opened d b = cc in
     ap (λ (x : Look). x.items) same
 
-pub turn_tracks : (name : List ℕ) (c s : ℕ) (event : CallEventValue) (l : LoneInstance) → IsTurn event → Tracks name c s l → Tracks name c s (after_call_event event l)
+pub turn_tracks : (name : List ℕ) (c s : ℕ) (event : CallEventValue) (l : LoneInstance) → IsTurn event → Tracks name c s l →
+    Tracks name c s (after_call_event event l)
 turn_tracks name c s event l turn h = go (seen c s l) where
   m : LoneInstance
   m = after_call_event event l
@@ -182,7 +200,8 @@ turn_tracks name c s event l turn h = go (seen c s l) where
   go (Unknown is) =
       let none : kept c s l ≡ [] = by_tracks name c s l None is h in
       same_tracks name c s l m (off [] none tt) h
-  go (Shut d items is) = tracks_by name c s m (Some (closed d items)) (replies_closed c s rs k (closed d items) refl is) (by_tracks name c s l (Some (closed d items)) is h)
+  go (Shut d items is) = tracks_by name c s m (Some (closed d items)) (replies_closed c s rs k (closed d items) refl is)
+      (by_tracks name c s l (Some (closed d items)) is h)
   go (Alive d items is) =
       let live : Live name s (kept c s l) d items = by_tracks name c s l (Some (opened d items)) is h in
       let o : IsOpen c s m d = replies_open c s rs k d (record { items = items; look = is }) in
@@ -195,7 +214,8 @@ turn_tracks name c s event l turn h = go (seen c s l) where
             let st = live.read read in
             let a = off (kept c s l) refl (watches_none name (kept c s l) (messages_to d s) items st) in
             subst (λ (vs : List CallValue). Stands name vs (messages_to d s) o.items) (sym a.calls)
-            (subst (λ (is : List Item). Stands name (kept c s l) (messages_to d s) is) (same_items c s m d items o.items (a.look ∙ is) o.look) st);
+            (subst (λ (is : List Item). Stands name (kept c s l) (messages_to d s) is)
+            (same_items c s m d items o.items (a.look ∙ is) o.look) st);
       })
 
 -- ---- events of calls on the connection
@@ -206,7 +226,8 @@ pub record Brought (name : List ℕ) (c s : ℕ) (l : LoneInstance) (d : List En
   pub idle : (IsOpened d s → ⊥) → (kept c s l ≡ []) × (lives.items ≡ []) × (heads_in s es ≡ [])
   pub read : methods_on d s ≡ Read ∷ [] → Reads name c s (after_call_events c es l) d (messages_to d s)
 
-pub brought_tracks : (name : List ℕ) (c s : ℕ) (es : List CallEvent) (l : LoneInstance) (d : List Entry) → Brought name c s l d es → Tracks name c s (after_call_events c es l)
+pub brought_tracks : (name : List ℕ) (c s : ℕ) (es : List CallEvent) (l : LoneInstance) (d : List Entry) → Brought name c s l d es →
+    Tracks name c s (after_call_events c es l)
 brought_tracks name c s es l d b =
     let m : LoneInstance = after_call_events c es l in
     let o : IsOpen c s m d = calls_open c s c es l d b.lives in
@@ -217,17 +238,21 @@ brought_tracks name c s es l d b =
           (a.calls ∙ i.0, same_items c s m d o.items b.lives.items o.look (a.look ∙ b.lives.look) ∙ i.1);
       read = λ read.
           let r = b.read read in
-          subst (λ (is : List Item). Stands name (kept c s m) (messages_to d s) is) (same_items c s m d r.items o.items r.look o.look) r.stands;
+          subst (λ (is : List Item). Stands name (kept c s m) (messages_to d s) is)
+          (same_items c s m d r.items o.items r.look o.look) r.stands;
     })
 
 -- events that bring neither a head nor a message
-pub quiet_brought : (name : List ℕ) (c s : ℕ) (es : List CallEvent) (l : LoneInstance) (d : List Entry) (items : List Item) → IsFine name l → AllByRecursion IsShortCall es → BringsNone s es → look_at c s l.connections ≡ Some (opened d items) → Live name s (kept c s l) d items → Brought name c s l d es
+pub quiet_brought : (name : List ℕ) (c s : ℕ) (es : List CallEvent) (l : LoneInstance) (d : List Entry) (items : List Item) →
+    IsFine name l → AllByRecursion IsShortCall es → BringsNone s es → look_at c s l.connections ≡ Some (opened d items) →
+    Live name s (kept c s l) d items → Brought name c s l d es
 quiet_brought name c s es l d items fine short none is live = record {
   lives = record { items = items; look = is };
   idle = λ un. let i = live.idle un in (i.0, i.1, none.heads);
   read = λ read.
       let one : Reads name c s l d (messages_to d s) = record { items = items; look = is; stands = live.read read } in
-      subst (Reads name c s (after_call_events c es l) d) (ap (λ (xs : List (List ℕ)). messages_to d s ++ xs) none.messages ∙ append-nil (messages_to d s))
+      subst (Reads name c s (after_call_events c es l) d)
+      (ap (λ (xs : List (List ℕ)). messages_to d s ++ xs) none.messages ∙ append-nil (messages_to d s))
       (read_events name c s es l d (messages_to d s) fine short none.heads one);
 }
 

@@ -48,13 +48,15 @@ number_off s t off = elim (cases_Bool (t == s)) [
   | inr other ↦ other
 ]
 
-pub item_aside : (d : List Entry) (os : List OwedItem) (s t : ℕ) (item : Item) → (t == s) ≡ false → items_owed_on s (owed_with_item d os t item) ≡ items_owed_on s os
+pub item_aside : (d : List Entry) (os : List OwedItem) (s t : ℕ) (item : Item) → (t == s) ≡ false →
+    items_owed_on s (owed_with_item d os t item) ≡ items_owed_on s os
 item_aside d os s t item other = go (has_failed d) (list_any (λ u. u == t) (live_streams d)) where
   more : (os : List OwedItem) → items_owed_on s (os ++ record { stream = t; item = item } ∷ []) ≡ items_owed_on s os
   more [] = ap (λ b. cond b (item ∷ []) [] ++ []) other
   more (o ∷ os) = ap (λ (is : List Item). cond (o.stream == s) (o.item ∷ []) [] ++ is) (more os)
 
-  go : (failed live : Bool) → items_owed_on s (cond failed os (cond live (os ++ record { stream = t; item = item } ∷ []) os)) ≡ items_owed_on s os
+  go : (failed live : Bool) → items_owed_on s (cond failed os (cond live (os ++ record { stream = t; item = item } ∷ []) os))
+      ≡ items_owed_on s os
   go true live = refl
   go false true = more os
   go false false = refl
@@ -71,18 +73,25 @@ here c s l = look_at c s l.connections
 abbrev pub kept : ℕ → ℕ → LoneInstance → List CallValue
 kept c s l = kept_at (call_id c s) l.state.calls
 
-reply_aside : (c s : ℕ) (r : ReplyValue) (l : LoneInstance) → same_call (call_id c s) r.call ≡ false → look_at c s (at_open r.call.connection (with_items r.call.stream (owed_items r.items)) l.connections) ≡ here c s l
+reply_aside : (c s : ℕ) (r : ReplyValue) (l : LoneInstance) → same_call (call_id c s) r.call ≡ false →
+    look_at c s (at_open r.call.connection (with_items r.call.stream (owed_items r.items)) l.connections) ≡ here c s l
 reply_aside c s r l off = elim (cases_Bool (c == r.call.connection)) [
   | inl at ↦
       let other : (s == r.call.stream) ≡ false = sym (ap (λ b. b && s == r.call.stream) at) ∙ off in
-      quiet_look c r.call.connection s (with_items r.call.stream (owed_items r.items)) l.connections (items_aside s r.call.stream (owed_items r.items) (number_off s r.call.stream other))
-  | inr other ↦ other_look c r.call.connection s (with_items r.call.stream (owed_items r.items)) l.connections (number_off c r.call.connection other)
+      quiet_look c r.call.connection s (with_items r.call.stream (owed_items r.items)) l.connections
+      (items_aside s r.call.stream (owed_items r.items) (number_off s r.call.stream other))
+  | inr other ↦ other_look c r.call.connection s (with_items r.call.stream (owed_items r.items)) l.connections
+      (number_off c r.call.connection other)
 ]
 
-pub replies_aside : (c s : ℕ) (rs : List ReplyValue) (l : LoneInstance) → AreNotTo (call_id c s) rs → here c s (after_replies rs l) ≡ here c s l
+pub replies_aside : (c s : ℕ) (rs : List ReplyValue) (l : LoneInstance) → AreNotTo (call_id c s) rs →
+    here c s (after_replies rs l) ≡ here c s l
 replies_aside c s [] l off = refl
 replies_aside c s (r ∷ rs) l off =
-    replies_aside c s rs (record l { connections = at_open r.call.connection (with_items r.call.stream (owed_items r.items)) l.connections }) off.1
+    replies_aside c s rs (record l {
+      connections =
+          at_open r.call.connection (with_items r.call.stream (owed_items r.items)) l.connections;
+    }) off.1
     ∙ reply_aside c s r l off.0
 
 not_to : (id x : CallId) (rs : List ReplyValue) → AreTo x rs → same_call id x ≡ false → AreNotTo id rs
@@ -96,7 +105,8 @@ pub record IsOpen (c s : ℕ) (l : LoneInstance) (d : List Entry) : Type 0 where
   pub items : List Item
   pub look : here c s l ≡ Some (opened d items)
 
-step_open : (c s n t : ℕ) (items : List Item) (ks : List LoneConnection) (d : List Entry) (owed : List Item) → look_at c s ks ≡ Some (opened d owed) → (more : List Item) × (look_at c s (at_open n (with_items t items) ks) ≡ Some (opened d more))
+step_open : (c s n t : ℕ) (items : List Item) (ks : List LoneConnection) (d : List Entry) (owed : List Item) →
+    look_at c s ks ≡ Some (opened d owed) → (more : List Item) × (look_at c s (at_open n (with_items t items) ks) ≡ Some (opened d more))
 step_open c s n t items ks d owed h = elim (cases_Bool (n == c)) [
   | inl at ↦
       let same : n ≡ c = eqb-true n c at in
@@ -113,31 +123,45 @@ step_open c s n t items ks d owed h = elim (cases_Bool (n == c)) [
 pub replies_open : (c s : ℕ) (rs : List ReplyValue) (l : LoneInstance) (d : List Entry) → IsOpen c s l d → IsOpen c s (after_replies rs l) d
 replies_open c s [] l d h = h
 replies_open c s (r ∷ rs) l d h =
-    let m : LoneInstance = record l { connections = at_open r.call.connection (with_items r.call.stream (owed_items r.items)) l.connections } in
+    let m : LoneInstance = record l {
+      connections =
+          at_open r.call.connection (with_items r.call.stream (owed_items r.items)) l.connections;
+    } in
     let one = step_open c s r.call.connection r.call.stream (owed_items r.items) l.connections d h.items h.look in
     replies_open c s rs m d (record { items = one.0; look = one.1 })
 
-pub calls_open : (c s n : ℕ) (es : List CallEvent) (l : LoneInstance) (d : List Entry) → IsOpen c s l d → IsOpen c s (after_call_events n es l) d
+pub calls_open : (c s n : ℕ) (es : List CallEvent) (l : LoneInstance) (d : List Entry) → IsOpen c s l d →
+    IsOpen c s (after_call_events n es l) d
 calls_open c s n [] l d h = h
 calls_open c s n (e ∷ es) l d h =
     calls_open c s n es (after_call_event (call_event_on n e) l) d
-    (replies_open c s (answer l.state (call_event_on n e)).replies (record l { state = state_after l.state (call_event_on n e) }) d (record { items = h.items; look = h.look }))
+    (replies_open c s (answer l.state (call_event_on n e)).replies (record l { state = state_after l.state (call_event_on n e) }) d
+    (record { items = h.items; look = h.look }))
 
-pub replies_closed : (c s : ℕ) (rs : List ReplyValue) (l : LoneInstance) (x : Look) → x.lives ≡ false → here c s l ≡ Some x → here c s (after_replies rs l) ≡ Some x
+pub replies_closed : (c s : ℕ) (rs : List ReplyValue) (l : LoneInstance) (x : Look) → x.lives ≡ false → here c s l ≡ Some x →
+    here c s (after_replies rs l) ≡ Some x
 replies_closed c s [] l x shut h = h
 replies_closed c s (r ∷ rs) l x shut h =
-    replies_closed c s rs (record l { connections = at_open r.call.connection (with_items r.call.stream (owed_items r.items)) l.connections }) x shut (one (cases_Bool (r.call.connection == c))) where
-      one : ((r.call.connection == c) ≡ true) ⊎ ((r.call.connection == c) ≡ false) → look_at c s (at_open r.call.connection (with_items r.call.stream (owed_items r.items)) l.connections) ≡ Some x
+    replies_closed c s rs (record l {
+      connections =
+          at_open r.call.connection (with_items r.call.stream (owed_items r.items)) l.connections;
+    }) x shut
+    (one (cases_Bool (r.call.connection == c))) where
+      one : ((r.call.connection == c) ≡ true) ⊎ ((r.call.connection == c) ≡ false) →
+          look_at c s (at_open r.call.connection (with_items r.call.stream (owed_items r.items)) l.connections) ≡ Some x
       one (inl at) =
-          subst (λ (m : ℕ). look_at c s (at_open m (with_items r.call.stream (owed_items r.items)) l.connections) ≡ Some x) (sym (eqb-true r.call.connection c at))
+          subst (λ (m : ℕ). look_at c s (at_open m (with_items r.call.stream (owed_items r.items)) l.connections) ≡ Some x)
+          (sym (eqb-true r.call.connection c at))
           (closed_look c s (with_items r.call.stream (owed_items r.items)) l.connections x shut h)
       one (inr other) = other_look c r.call.connection s (with_items r.call.stream (owed_items r.items)) l.connections other ∙ h
 
-pub calls_closed : (c s n : ℕ) (es : List CallEvent) (l : LoneInstance) (x : Look) → x.lives ≡ false → here c s l ≡ Some x → here c s (after_call_events n es l) ≡ Some x
+pub calls_closed : (c s n : ℕ) (es : List CallEvent) (l : LoneInstance) (x : Look) → x.lives ≡ false → here c s l ≡ Some x →
+    here c s (after_call_events n es l) ≡ Some x
 calls_closed c s n [] l x shut h = h
 calls_closed c s n (e ∷ es) l x shut h =
     calls_closed c s n es (after_call_event (call_event_on n e) l) x shut
-    (replies_closed c s (answer l.state (call_event_on n e)).replies (record l { state = state_after l.state (call_event_on n e) }) x shut h)
+    (replies_closed c s (answer l.state (call_event_on n e)).replies
+    (record l { state = state_after l.state (call_event_on n e) }) x shut h)
 
 -- ---- an event of another call
 
@@ -145,11 +169,14 @@ pub record IsAside (c s : ℕ) (l m : LoneInstance) : Type 0 where
   pub calls : kept c s m ≡ kept c s l
   pub look : here c s m ≡ here c s l
 
-event_aside : (c s : ℕ) (event : CallEventValue) (l : LoneInstance) (x : CallId) → AreTo x (answer l.state event).replies → same_call (call_id c s) x ≡ false
-    → kept_at (call_id c s) (state_after l.state event).calls ≡ kept_at (call_id c s) l.state.calls → IsAside c s l (after_call_event event l)
+event_aside : (c s : ℕ) (event : CallEventValue) (l : LoneInstance) (x : CallId) → AreTo x (answer l.state event).replies →
+    same_call (call_id c s) x ≡ false
+    → kept_at (call_id c s) (state_after l.state event).calls ≡ kept_at (call_id c s) l.state.calls →
+    IsAside c s l (after_call_event event l)
 event_aside c s event l x to off same = record {
   calls = ap (λ (t : InstanceState). kept_at (call_id c s) t.calls) (happened_state event l) ∙ same;
-  look = replies_aside c s (answer l.state event).replies (record l { state = state_after l.state event }) (not_to (call_id c s) x (answer l.state event).replies to off);
+  look = replies_aside c s (answer l.state event).replies (record l { state = state_after l.state event })
+      (not_to (call_id c s) x (answer l.state event).replies to off);
 }
 
 -- the stream that it is of
@@ -160,12 +187,20 @@ stream_of (Seen.Fault t refusal) = t
 stream_of (Seen.End t) = t
 stream_of (Seen.Cancel t) = t
 
-pub call_aside : (c s n : ℕ) (e : CallEvent) (l : LoneInstance) → same_call (call_id c s) (call_id n (stream_of e)) ≡ false → IsAside c s l (after_call_event (call_event_on n e) l)
-call_aside c s n (Seen.Head t method) l off = event_aside c s (call_event_on n (Seen.Head t method)) l (call_id n t) (head_replies l.state (call_id n t) method) off (head_apart (call_id c s) (call_id n t) method l.state off)
-call_aside c s n (Seen.Message t bytes) l off = event_aside c s (call_event_on n (Seen.Message t bytes)) l (call_id n t) (message_replies l.state (call_id n t) bytes) off (message_apart (call_id c s) (call_id n t) bytes l.state off)
-call_aside c s n (Seen.Fault t refusal) l off = event_aside c s (call_event_on n (Seen.Fault t refusal)) l (call_id n t) (fault_replies l.state (call_id n t) refusal) off (fault_apart (call_id c s) (call_id n t) refusal l.state off)
-call_aside c s n (Seen.End t) l off = event_aside c s (call_event_on n (Seen.End t)) l (call_id n t) (end_replies l.state (call_id n t)) off (end_apart (call_id c s) (call_id n t) l.state off)
-call_aside c s n (Seen.Cancel t) l off = event_aside c s (call_event_on n (Seen.Cancel t)) l (call_id n t) tt off (cancel_apart (call_id c s) (call_id n t) l.state off)
+pub call_aside : (c s n : ℕ) (e : CallEvent) (l : LoneInstance) → same_call (call_id c s) (call_id n (stream_of e)) ≡ false →
+    IsAside c s l (after_call_event (call_event_on n e) l)
+call_aside c s n (Seen.Head t method) l off = event_aside c s (call_event_on n (Seen.Head t method)) l (call_id n t)
+    (head_replies l.state (call_id n t) method) off (head_apart (call_id c s) (call_id n t) method l.state off)
+call_aside c s n (Seen.Message t bytes) l off =
+    event_aside c s (call_event_on n (Seen.Message t bytes)) l (call_id n t) (message_replies l.state (call_id n t) bytes) off
+    (message_apart (call_id c s) (call_id n t) bytes l.state off)
+call_aside c s n (Seen.Fault t refusal) l off =
+    event_aside c s (call_event_on n (Seen.Fault t refusal)) l (call_id n t) (fault_replies l.state (call_id n t) refusal) off
+    (fault_apart (call_id c s) (call_id n t) refusal l.state off)
+call_aside c s n (Seen.End t) l off = event_aside c s (call_event_on n (Seen.End t)) l (call_id n t) (end_replies l.state (call_id n t)) off
+    (end_apart (call_id c s) (call_id n t) l.state off)
+call_aside c s n (Seen.Cancel t) l off = event_aside c s (call_event_on n (Seen.Cancel t)) l (call_id n t) tt off
+    (cancel_apart (call_id c s) (call_id n t) l.state off)
 
 elsewhere : (c s n t : ℕ) → (n == c) ≡ false → same_call (call_id c s) (call_id n t) ≡ false
 elsewhere c s n t other = ap (λ b. b && s == t) (number_off n c other)
@@ -188,7 +223,8 @@ no_head s e es h = go (head_in s e) h where
   go [] h = (refl, h)
   go (m ∷ ms) h = absurd (let z : ⊥ = cc in z)
 
-none_here : (c s : ℕ) (event : CallEventValue) (l : LoneInstance) → kept c s l ≡ [] → StaysNone (call_id c s) l.state event → IsAside c s l (after_call_event event l)
+none_here : (c s : ℕ) (event : CallEventValue) (l : LoneInstance) → kept c s l ≡ [] → StaysNone (call_id c s) l.state event →
+    IsAside c s l (after_call_event event l)
 none_here c s event l is stays =
     let m : LoneInstance = record l { state = state_after l.state event } in
     record {
@@ -205,17 +241,28 @@ head_not s t m h = go (t == s) h where
   go true h = absurd (let z : ⊥ = cc in z)
   go false h = refl
 
-none_event : (c s : ℕ) (e : CallEvent) (l : LoneInstance) → kept c s l ≡ [] → head_in s e ≡ [] → IsAside c s l (after_call_event (call_event_on c e) l)
+none_event : (c s : ℕ) (e : CallEvent) (l : LoneInstance) → kept c s l ≡ [] → head_in s e ≡ [] →
+    IsAside c s l (after_call_event (call_event_on c e) l)
 none_event c s e l is none = go e none (cases_Bool (stream_of e == s)) where
-  go : (e : CallEvent) → head_in s e ≡ [] → ((stream_of e == s) ≡ true) ⊎ ((stream_of e == s) ≡ false) → IsAside c s l (after_call_event (call_event_on c e) l)
+  go : (e : CallEvent) → head_in s e ≡ [] → ((stream_of e == s) ≡ true) ⊎ ((stream_of e == s) ≡ false) →
+      IsAside c s l (after_call_event (call_event_on c e) l)
   go e none (inr other) = call_aside c s c e l (off_stream c s (stream_of e) other)
   go (Seen.Head t m) none (inl at) = absurd (let no : true ≡ false = sym at ∙ head_not s t m none in let z : ⊥ = cc in z)
-  go (Seen.Message t bytes) none (inl at) = none_here c s (call_event_on c (Seen.Message t bytes)) l is (subst (λ (x : CallId). StaysNone (call_id c s) l.state (call_event_on c (Seen.Message x.stream bytes))) (sym (on_it c s t at)) (none_message (call_id c s) l.state bytes is))
-  go (Seen.Fault t refusal) none (inl at) = none_here c s (call_event_on c (Seen.Fault t refusal)) l is (subst (λ (x : CallId). StaysNone (call_id c s) l.state (call_event_on c (Seen.Fault x.stream refusal))) (sym (on_it c s t at)) (none_fault (call_id c s) l.state refusal is))
-  go (Seen.End t) none (inl at) = none_here c s (call_event_on c (Seen.End t)) l is (subst (λ (x : CallId). StaysNone (call_id c s) l.state (call_event_on c (Seen.End x.stream))) (sym (on_it c s t at)) (none_end (call_id c s) l.state is))
-  go (Seen.Cancel t) none (inl at) = none_here c s (call_event_on c (Seen.Cancel t)) l is (subst (λ (x : CallId). StaysNone (call_id c s) l.state (call_event_on c (Seen.Cancel x.stream))) (sym (on_it c s t at)) (none_cancel (call_id c s) l.state is))
+  go (Seen.Message t bytes) none (inl at) = none_here c s (call_event_on c (Seen.Message t bytes)) l is
+      (subst (λ (x : CallId). StaysNone (call_id c s) l.state (call_event_on c (Seen.Message x.stream bytes))) (sym (on_it c s t at))
+      (none_message (call_id c s) l.state bytes is))
+  go (Seen.Fault t refusal) none (inl at) = none_here c s (call_event_on c (Seen.Fault t refusal)) l is
+      (subst (λ (x : CallId). StaysNone (call_id c s) l.state (call_event_on c (Seen.Fault x.stream refusal))) (sym (on_it c s t at))
+      (none_fault (call_id c s) l.state refusal is))
+  go (Seen.End t) none (inl at) = none_here c s (call_event_on c (Seen.End t)) l is
+      (subst (λ (x : CallId). StaysNone (call_id c s) l.state (call_event_on c (Seen.End x.stream))) (sym (on_it c s t at))
+      (none_end (call_id c s) l.state is))
+  go (Seen.Cancel t) none (inl at) = none_here c s (call_event_on c (Seen.Cancel t)) l is
+      (subst (λ (x : CallId). StaysNone (call_id c s) l.state (call_event_on c (Seen.Cancel x.stream))) (sym (on_it c s t at))
+      (none_cancel (call_id c s) l.state is))
 
-pub none_events : (c s : ℕ) (es : List CallEvent) (l : LoneInstance) → kept c s l ≡ [] → heads_in s es ≡ [] → IsAside c s l (after_call_events c es l)
+pub none_events : (c s : ℕ) (es : List CallEvent) (l : LoneInstance) → kept c s l ≡ [] → heads_in s es ≡ [] →
+    IsAside c s l (after_call_events c es l)
 none_events c s [] l is none = record { calls = refl; look = refl }
 none_events c s (e ∷ es) l is none =
     let parts = no_head s e es none in
@@ -235,57 +282,74 @@ pub record IsFine (name : List ℕ) (l : LoneInstance) : Type 0 where
   pub limits : KeepsLimits l
   pub own : l.state.name ≡ name
 
-pub event_fine : (name : List ℕ) (n : ℕ) (e : CallEvent) (l : LoneInstance) → IsShortCall e → IsFine name l → IsFine name (after_call_event (call_event_on n e) l)
+pub event_fine : (name : List ℕ) (n : ℕ) (e : CallEvent) (l : LoneInstance) → IsShortCall e → IsFine name l →
+    IsFine name (after_call_event (call_event_on n e) l)
 event_fine name n e l short h = record {
   limits = happened_keeps (call_event_on n e) l (short_on n e short) h.limits;
   own = ap (λ (t : InstanceState). t.name) (happened_state (call_event_on n e) l) ∙ same_name l.state (call_event_on n e) ∙ h.own;
 }
 
 -- what was said to it is owed to its stream, or to none
-said_look : (c s : ℕ) (its : List ReplyItemValue) (l : LoneInstance) (d : List Entry) (items : List Item) → here c s l ≡ Some (opened d items)
-    → (more : List Item) × (here c s (after_replies (said (call_id c s) its) l) ≡ Some (opened d more)) × ((more ≡ items) ⊎ (more ≡ items ++ owed_items its))
+said_look : (c s : ℕ) (its : List ReplyItemValue) (l : LoneInstance) (d : List Entry) (items : List Item) →
+    here c s l ≡ Some (opened d items)
+    → (more : List Item) × (here c s (after_replies (said (call_id c s) its) l) ≡ Some (opened d more))
+    × ((more ≡ items) ⊎ (more ≡ items ++ owed_items its))
 said_look c s [] l d items h = (items, h, inl refl)
 said_look c s (it ∷ its) l d items h =
     let p = past_of c s l.connections (opened d items) refl h in
     let ys : List Item = owed_items (it ∷ its) in
     let q : Past = with_items s ys p.past in
-    let past : q.history ≡ d = items_history s ys p.past ∙ p.history in
-    (items_owed_on s q.owed, p.step (with_items s ys) ∙ ap (λ (e : List Entry). Some (opened e (items_owed_on s q.owed))) past, owed p (cases_Bool (is_stream_open s p.past)))
+    let past : q.history ≡ d = items_history s ys p.past ∙ p.history in (
+      items_owed_on s q.owed,
+      p.step (with_items s ys)
+          ∙ ap (λ (e : List Entry). Some (opened e (items_owed_on s q.owed))) past,
+      owed p (cases_Bool (is_stream_open s p.past)),
+    )
   where
     owed : (p : IsPastOf c s l.connections (opened d items)) → (is_stream_open s p.past ≡ true) ⊎ (is_stream_open s p.past ≡ false)
-        → (items_owed_on s (with_items s (owed_items (it ∷ its)) p.past).owed ≡ items) ⊎ (items_owed_on s (with_items s (owed_items (it ∷ its)) p.past).owed ≡ items ++ owed_items (it ∷ its))
+        → (items_owed_on s (with_items s (owed_items (it ∷ its)) p.past).owed ≡ items)
+        ⊎ (items_owed_on s (with_items s (owed_items (it ∷ its)) p.past).owed ≡ items ++ owed_items (it ∷ its))
     owed p (inl lives) =
         inr (items_owed s s (owed_items (it ∷ its)) p.past (answerable s p.past lives)
         ∙ ap (λ (is : List Item). is ++ cond (s == s) (owed_items (it ∷ its)) []) p.items
         ∙ ap (λ b. items ++ cond b (owed_items (it ∷ its)) []) (same_number s))
     owed p (inr shut) = inl (ap (items_owed_on s) (closed_keeps s (owed_items (it ∷ its)) p.past shut) ∙ p.items)
 
-by_next : (name : List ℕ) (c s : ℕ) (event : CallEventValue) (l : LoneInstance) (d : List Entry) (ms : List (List ℕ)) (items : List Item) → here c s l ≡ Some (opened d items)
+by_next : (name : List ℕ) (c s : ℕ) (event : CallEventValue) (l : LoneInstance) (d : List Entry) (ms : List (List ℕ)) (items : List Item) →
+    here c s l ≡ Some (opened d items)
     → Next name (call_id c s) l.state event ms items → Reads name c s (after_call_event event l) d ms
 by_next name c s event l d ms items h next =
     let m : LoneInstance = record l { state = state_after l.state event } in
     let x = said_look c s next.its m d items h in
-    let calls : kept c s (after_call_event event l) ≡ kept_at (call_id c s) (state_after l.state event).calls = ap (λ (t : InstanceState). kept_at (call_id c s) t.calls) (happened_state event l) in
+    let calls : kept c s (after_call_event event l) ≡ kept_at (call_id c s) (state_after l.state event).calls =
+    ap (λ (t : InstanceState). kept_at (call_id c s) t.calls) (happened_state event l) in
     record {
       items = x.0;
       look = ap (λ (rs : List ReplyValue). here c s (after_replies rs m)) next.replies ∙ x.1;
       stands = subst (λ (vs : List CallValue). Stands name vs ms x.0) (sym calls) (chosen x.0 x.2);
     } where
-      chosen : (more : List Item) → (more ≡ items) ⊎ (more ≡ items ++ owed_items next.its) → Stands name (kept_at (call_id c s) (state_after l.state event).calls) ms more
-      chosen more (inl is) = subst (λ (ys : List Item). Stands name (kept_at (call_id c s) (state_after l.state event).calls) ms ys) (sym is) next.lost
-      chosen more (inr is) = subst (λ (ys : List Item). Stands name (kept_at (call_id c s) (state_after l.state event).calls) ms ys) (sym is) next.owed
+      chosen : (more : List Item) → (more ≡ items) ⊎ (more ≡ items ++ owed_items next.its) →
+          Stands name (kept_at (call_id c s) (state_after l.state event).calls) ms more
+      chosen more (inl is) = subst (λ (ys : List Item). Stands name (kept_at (call_id c s) (state_after l.state event).calls) ms ys)
+          (sym is) next.lost
+      chosen more (inr is) = subst (λ (ys : List Item). Stands name (kept_at (call_id c s) (state_after l.state event).calls) ms ys)
+          (sym is) next.owed
 
-reads_aside : (name : List ℕ) (c s : ℕ) (l m : LoneInstance) (d : List Entry) (ms : List (List ℕ)) → IsAside c s l m → Reads name c s l d ms → Reads name c s m d ms
+reads_aside : (name : List ℕ) (c s : ℕ) (l m : LoneInstance) (d : List Entry) (ms : List (List ℕ)) → IsAside c s l m →
+    Reads name c s l d ms → Reads name c s m d ms
 reads_aside name c s l m d ms off h = record {
   items = h.items;
   look = off.look ∙ h.look;
   stands = subst (λ (vs : List CallValue). Stands name vs ms h.items) (sym off.calls) h.stands;
 }
 
-read_event : (name : List ℕ) (c s : ℕ) (e : CallEvent) (l : LoneInstance) (d : List Entry) (ms : List (List ℕ)) → IsFine name l → head_in s e ≡ [] → Reads name c s l d ms → Reads name c s (after_call_event (call_event_on c e) l) d (ms ++ message_in s e)
+read_event : (name : List ℕ) (c s : ℕ) (e : CallEvent) (l : LoneInstance) (d : List Entry) (ms : List (List ℕ)) → IsFine name l →
+    head_in s e ≡ [] → Reads name c s l d ms → Reads name c s (after_call_event (call_event_on c e) l) d (ms ++ message_in s e)
 read_event name c s e l d ms fine none h = go e none (cases_Bool (stream_of e == s)) where
-  same : (e : CallEvent) → message_in s e ≡ [] → Reads name c s (after_call_event (call_event_on c e) l) d ms → Reads name c s (after_call_event (call_event_on c e) l) d (ms ++ message_in s e)
-  same e quiet r = subst (Reads name c s (after_call_event (call_event_on c e) l) d) (sym (append-nil ms) ∙ ap (λ (xs : List (List ℕ)). ms ++ xs) (sym quiet)) r
+  same : (e : CallEvent) → message_in s e ≡ [] → Reads name c s (after_call_event (call_event_on c e) l) d ms →
+      Reads name c s (after_call_event (call_event_on c e) l) d (ms ++ message_in s e)
+  same e quiet r = subst (Reads name c s (after_call_event (call_event_on c e) l) d)
+      (sym (append-nil ms) ∙ ap (λ (xs : List (List ℕ)). ms ++ xs) (sym quiet)) r
 
   quiet_off : (e : CallEvent) → (stream_of e == s) ≡ false → message_in s e ≡ []
   quiet_off (Seen.Head t m) other = refl
@@ -294,21 +358,32 @@ read_event name c s e l d ms fine none h = go e none (cases_Bool (stream_of e ==
   quiet_off (Seen.End t) other = refl
   quiet_off (Seen.Cancel t) other = refl
 
-  moved : (t : ℕ) (event : ℕ → CallEventValue) (ms : List (List ℕ)) → (t == s) ≡ true → Next name (call_id c s) l.state (event s) ms h.items → Reads name c s (after_call_event (event t) l) d ms
-  moved t event ms at next = subst (λ (n : ℕ). Reads name c s (after_call_event (event n) l) d ms) (sym (eqb-true t s at)) (by_next name c s (event s) l d ms h.items h.look next)
+  moved : (t : ℕ) (event : ℕ → CallEventValue) (ms : List (List ℕ)) → (t == s) ≡ true →
+      Next name (call_id c s) l.state (event s) ms h.items → Reads name c s (after_call_event (event t) l) d ms
+  moved t event ms at next = subst (λ (n : ℕ). Reads name c s (after_call_event (event n) l) d ms) (sym (eqb-true t s at))
+      (by_next name c s (event s) l d ms h.items h.look next)
 
-  go : (e : CallEvent) → head_in s e ≡ [] → ((stream_of e == s) ≡ true) ⊎ ((stream_of e == s) ≡ false) → Reads name c s (after_call_event (call_event_on c e) l) d (ms ++ message_in s e)
-  go e none (inr other) = same e (quiet_off e other) (reads_aside name c s l (after_call_event (call_event_on c e) l) d ms (call_aside c s c e l (off_stream c s (stream_of e) other)) h)
+  go : (e : CallEvent) → head_in s e ≡ [] → ((stream_of e == s) ≡ true) ⊎ ((stream_of e == s) ≡ false) →
+      Reads name c s (after_call_event (call_event_on c e) l) d (ms ++ message_in s e)
+  go e none (inr other) = same e (quiet_off e other)
+      (reads_aside name c s l (after_call_event (call_event_on c e) l) d ms (call_aside c s c e l (off_stream c s (stream_of e) other)) h)
   go (Seen.Head t m) none (inl at) = absurd (let no : true ≡ false = sym at ∙ head_not s t m none in let z : ⊥ = cc in z)
   go (Seen.Message t bytes) none (inl at) =
       let one : bytes ∷ [] ≡ message_in s (Seen.Message t bytes) = sym (ap (λ b. cond b (bytes ∷ []) []) at) in
       subst (λ (xs : List (List ℕ)). Reads name c s (after_call_event (call_event_on c (Seen.Message t bytes)) l) d (ms ++ xs)) one
-      (moved t (λ n. call_event_on c (Seen.Message n bytes)) (ms ++ bytes ∷ []) at (next_message name (call_id c s) l.state bytes ms h.items h.stands))
-  go (Seen.Fault t refusal) none (inl at) = same (Seen.Fault t refusal) refl (moved t (λ n. call_event_on c (Seen.Fault n refusal)) ms at (next_fault name (call_id c s) l.state refusal ms h.items h.stands))
-  go (Seen.End t) none (inl at) = same (Seen.End t) refl (moved t (λ n. call_event_on c (Seen.End n)) ms at (next_end name (call_id c s) l.state ms h.items fine.limits.within fine.own h.stands))
-  go (Seen.Cancel t) none (inl at) = same (Seen.Cancel t) refl (moved t (λ n. call_event_on c (Seen.Cancel n)) ms at (next_cancel name (call_id c s) l.state ms h.items h.stands))
+      (moved t (λ n. call_event_on c (Seen.Message n bytes)) (ms ++ bytes ∷ []) at
+      (next_message name (call_id c s) l.state bytes ms h.items h.stands))
+  go (Seen.Fault t refusal) none (inl at) = same (Seen.Fault t refusal) refl
+      (moved t (λ n. call_event_on c (Seen.Fault n refusal)) ms at (next_fault name (call_id c s) l.state refusal ms h.items h.stands))
+  go (Seen.End t) none (inl at) = same (Seen.End t) refl
+      (moved t (λ n. call_event_on c (Seen.End n)) ms at
+      (next_end name (call_id c s) l.state ms h.items fine.limits.within fine.own h.stands))
+  go (Seen.Cancel t) none (inl at) = same (Seen.Cancel t) refl
+      (moved t (λ n. call_event_on c (Seen.Cancel n)) ms at (next_cancel name (call_id c s) l.state ms h.items h.stands))
 
-pub read_events : (name : List ℕ) (c s : ℕ) (es : List CallEvent) (l : LoneInstance) (d : List Entry) (ms : List (List ℕ)) → IsFine name l → AllByRecursion IsShortCall es → heads_in s es ≡ [] → Reads name c s l d ms → Reads name c s (after_call_events c es l) d (ms ++ messages_in s es)
+pub read_events : (name : List ℕ) (c s : ℕ) (es : List CallEvent) (l : LoneInstance) (d : List Entry) (ms : List (List ℕ)) → IsFine name l →
+    AllByRecursion IsShortCall es → heads_in s es ≡ [] → Reads name c s l d ms →
+    Reads name c s (after_call_events c es l) d (ms ++ messages_in s es)
 read_events name c s [] l d ms fine short none h = subst (Reads name c s l d) (sym (append-nil ms)) h
 read_events name c s (e ∷ es) l d ms fine short none h =
     let m : LoneInstance = after_call_event (call_event_on c e) l in
@@ -317,5 +392,7 @@ read_events name c s (e ∷ es) l d ms fine short none h =
     let later = read_events name c s es m d (ms ++ message_in s e) (event_fine name c e l short.0 fine) short.1 parts.1 first in
     subst (Reads name c s (after_call_events c es m) d) (append_assoc ms (message_in s e) (messages_in s es)) later
 
-pub begun : (name : List ℕ) (c s : ℕ) (l : LoneInstance) (d : List Entry) (items : List Item) → here c s l ≡ Some (opened d items) → kept c s l ≡ [] → items ≡ [] → Reads name c s (after_call_event (call_event_on c (Seen.Head s Read)) l) d []
-begun name c s l d items h is none = by_next name c s (call_event_on c (Seen.Head s Read)) l d [] items h (next_head name (call_id c s) l.state items is none)
+pub begun : (name : List ℕ) (c s : ℕ) (l : LoneInstance) (d : List Entry) (items : List Item) → here c s l ≡ Some (opened d items) →
+    kept c s l ≡ [] → items ≡ [] → Reads name c s (after_call_event (call_event_on c (Seen.Head s Read)) l) d []
+begun name c s l d items h is none = by_next name c s (call_event_on c (Seen.Head s Read)) l d [] items h
+    (next_head name (call_id c s) l.state items is none)

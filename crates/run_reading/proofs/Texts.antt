@@ -67,10 +67,12 @@ items_text s r p = with_all (owed_items r.items) p where
 
 quiet_read : (c : ℕ) (step : Past → Past) (ks : List LoneConnection) → KeepsKey step → AllRead ks → AllRead (at_open c step ks)
 quiet_read c step [] keeps h = tt
-quiet_read c step (k ∷ ks) keeps h = choose AllRead (is_open_at c k) (record k { past = step k.past } ∷ ks) (k ∷ at_open c step ks) (λ _. (subst ReadsKey (sym (keeps k.past)) h.0, h.1)) (λ _. (h.0, quiet_read c step ks keeps h.1))
+quiet_read c step (k ∷ ks) keeps h = choose AllRead (is_open_at c k) (record k { past = step k.past } ∷ ks) (k ∷ at_open c step ks)
+    (λ _. (subst ReadsKey (sym (keeps k.past)) h.0, h.1)) (λ _. (h.0, quiet_read c step ks keeps h.1))
 
 -- a step of the open connection that makes a past of which this is so
-step_read : (c : ℕ) (step : Past → Past) (ks : List LoneConnection) → ((p : Past) → open_at c ks ≡ Some p → ReadsText p → ReadsText (step p)) → AllRead ks → AllRead (at_open c step ks)
+step_read : (c : ℕ) (step : Past → Past) (ks : List LoneConnection) →
+    ((p : Past) → open_at c ks ≡ Some p → ReadsText p → ReadsText (step p)) → AllRead ks → AllRead (at_open c step ks)
 step_read c step [] makes h = tt
 step_read c step (k ∷ ks) makes h = elim (cases_Bool (is_open_at c k)) [
   | inl here ↦ rw here (makes k.past (rw here refl) h.0, h.1)
@@ -79,13 +81,16 @@ step_read c step (k ∷ ks) makes h = elim (cases_Bool (is_open_at c k)) [
 
 closed_read : (c : ℕ) (ks : List LoneConnection) → AllRead ks → AllRead (with_closed c ks)
 closed_read c [] h = tt
-closed_read c (k ∷ ks) h = choose AllRead (is_open_at c k) (record k { is_open = false } ∷ ks) (k ∷ with_closed c ks) (λ _. h) (λ _. (h.0, closed_read c ks h.1))
+closed_read c (k ∷ ks) h = choose AllRead (is_open_at c k) (record k { is_open = false } ∷ ks) (k ∷ with_closed c ks) (λ _. h)
+    (λ _. (h.0, closed_read c ks h.1))
 
 -- ---- calls
 
 replied_read : (rs : List ReplyValue) (l : LoneInstance) → AllRead l.connections → AllRead (after_replies rs l).connections
 replied_read [] l h = h
-replied_read (r ∷ rs) l h = replied_read rs (record l { connections = at_open r.call.connection (with_items r.call.stream (owed_items r.items)) l.connections }) (quiet_read r.call.connection (with_items r.call.stream (owed_items r.items)) l.connections (items_text r.call.stream r) h)
+replied_read (r ∷ rs) l h = replied_read rs (record l
+    { connections = at_open r.call.connection (with_items r.call.stream (owed_items r.items)) l.connections })
+    (quiet_read r.call.connection (with_items r.call.stream (owed_items r.items)) l.connections (items_text r.call.stream r) h)
 
 happened_read : (event : CallEventValue) (l : LoneInstance) → AllRead l.connections → AllRead (after_call_event event l).connections
 happened_read event l h = replied_read (answer l.state event).replies (record l { state = state_after l.state event }) h
@@ -95,7 +100,8 @@ calls_read c [] l h = h
 calls_read c (e ∷ es) l h = calls_read c es (after_call_event (call_event_on c e) l) (happened_read (call_event_on c e) l h)
 
 due_read : (c : ℕ) (l : LoneInstance) → AllRead l.connections → AllRead (after_due_on c l).connections
-due_read c l h = calls_read c (due_at c l) (record l { connections = at_open c without_due l.connections }) (quiet_read c without_due l.connections (λ p. refl) h)
+due_read c l h = calls_read c (due_at c l) (record l { connections = at_open c without_due l.connections })
+    (quiet_read c without_due l.connections (λ p. refl) h)
 
 -- ---- the open connection
 
@@ -112,7 +118,8 @@ same_key c d step (k ∷ ks) keeps = elim (cases_Bool (is_open_at d k)) [
   head_key true = ap Some (keeps k.past)
   head_key false = refl
 
-  tail_key : (b : Bool) → open_key c (at_open d step ks) ≡ open_key c ks → option_map key (cond b (Some k.past) (open_at c (at_open d step ks))) ≡ option_map key (cond b (Some k.past) (open_at c ks))
+  tail_key : (b : Bool) → open_key c (at_open d step ks) ≡ open_key c ks →
+      option_map key (cond b (Some k.past) (open_at c (at_open d step ks))) ≡ option_map key (cond b (Some k.past) (open_at c ks))
   tail_key true ih = refl
   tail_key false ih = ih
 
@@ -129,7 +136,8 @@ calls_key c (e ∷ es) l =
     ∙ replied_key c (answer l.state (call_event_on c e)).replies (record l { state = state_after l.state (call_event_on c e) })
 
 due_key : (c : ℕ) (l : LoneInstance) → open_key c (after_due_on c l).connections ≡ open_key c l.connections
-due_key c l = calls_key c (due_at c l) (record l { connections = at_open c without_due l.connections }) ∙ same_key c c without_due l.connections (λ p. refl)
+due_key c l = calls_key c (due_at c l) (record l { connections = at_open c without_due l.connections })
+    ∙ same_key c c without_due l.connections (λ p. refl)
 
 -- these frames are still to be read on the open connection
 abbrev LeftAt : List RawFrame → Option Key → Type 0
@@ -142,7 +150,8 @@ Left c fs l = LeftAt fs (open_key c l.connections)
 -- ---- frames
 
 frame_left : (f : RawFrame) (fs : List RawFrame) (p : Past) → LeftAt (f ∷ fs) (Some (key p)) → LeftAt fs (Some (key (with_frame p f)))
-frame_left f fs p h = h ∙ sym (append_assoc (received_raw_frames p.history) (f ∷ []) fs) ∙ ap (λ (rs : List RawFrame). rs ++ fs) (sym (raw_after p.history f (outcome p.history f).put))
+frame_left f fs p h = h ∙ sym (append_assoc (received_raw_frames p.history) (f ∷ []) fs)
+    ∙ ap (λ (rs : List RawFrame). rs ++ fs) (sym (raw_after p.history f (outcome p.history f).put))
 
 left_after : (c : ℕ) (f : RawFrame) (fs : List RawFrame) (l : LoneInstance) → Left c (f ∷ fs) l → Left c fs (after_frame_on c f l)
 left_after c f fs l h = subst (LeftAt fs) (sym (due_key c m)) (found (open_at c l.connections) refl) where
@@ -153,14 +162,18 @@ left_after c f fs l h = subst (LeftAt fs) (sym (due_key c m)) (found (open_at c 
   found None is = subst (λ (o : Option Past). LeftAt fs (option_map key o)) (sym (none_open c (λ p. with_frame p f) l.connections is)) tt
   found (Some p) is =
       let left : LeftAt (f ∷ fs) (Some (key p)) = subst (λ (o : Option Past). LeftAt (f ∷ fs) (option_map key o)) is h in
-      subst (λ (o : Option Past). LeftAt fs (option_map key o)) (sym (open_step c (λ p. with_frame p f) l.connections p is)) (frame_left f fs p left)
+      subst (λ (o : Option Past). LeftAt fs (option_map key o)) (sym (open_step c (λ p. with_frame p f) l.connections p is))
+      (frame_left f fs p left)
 
-frame_reads : (c : ℕ) (f : RawFrame) (fs : List RawFrame) (l : LoneInstance) → Left c (f ∷ fs) l → AllRead l.connections → AllRead (after_frame_on c f l).connections
+frame_reads : (c : ℕ) (f : RawFrame) (fs : List RawFrame) (l : LoneInstance) → Left c (f ∷ fs) l → AllRead l.connections →
+    AllRead (after_frame_on c f l).connections
 frame_reads c f fs l left h =
     due_read c (record l { connections = at_open c (λ p. with_frame p f) l.connections })
-    (step_read c (λ p. with_frame p f) l.connections (λ p is _. (fs, frame_left f fs p (subst (λ (o : Option Past). LeftAt (f ∷ fs) (option_map key o)) is left))) h)
+    (step_read c (λ p. with_frame p f) l.connections
+    (λ p is _. (fs, frame_left f fs p (subst (λ (o : Option Past). LeftAt (f ∷ fs) (option_map key o)) is left))) h)
 
-frames_read_on : (c : ℕ) (fs : List RawFrame) (l : LoneInstance) → Left c fs l → AllRead l.connections → AllRead (after_frames_on c fs l).connections
+frames_read_on : (c : ℕ) (fs : List RawFrame) (l : LoneInstance) → Left c fs l → AllRead l.connections →
+    AllRead (after_frames_on c fs l).connections
 frames_read_on c [] l left h = h
 frames_read_on c (f ∷ fs) l left h = elim (cases_Bool (is_over c l)) [
   | inl over ↦ rw over h
@@ -172,20 +185,25 @@ frames_read_on c (f ∷ fs) l left h = elim (cases_Bool (is_over c l)) [
 same_frames : (d e : List Entry) (text : List ℕ) → received_raw_frames e ≡ received_raw_frames d → ReadsKey (text, d) → ReadsKey (text, e)
 same_frames d e text same h = (h.0, h.1 ∙ ap (λ (rs : List RawFrame). rs ++ h.0) (sym same))
 
-raw_fault : (d : List Entry) (e : FrameError) (fs : List Frame) → received_raw_frames (d ++ Unreadable e ∷ map Out fs) ≡ received_raw_frames d
+raw_fault : (d : List Entry) (e : FrameError) (fs : List Frame) →
+    received_raw_frames (d ++ Unreadable e ∷ map Out fs) ≡ received_raw_frames d
 raw_fault d e fs =
     ap received_raw_frames (sym (append_assoc d (Unreadable e ∷ []) (map Out fs))) ∙ raw_out (d ++ Unreadable e ∷ []) fs
     ∙ (filter_map-append raw_in d (Unreadable e ∷ []) ∙ append-nil (received_raw_frames d))
 
-fault_reads : (c : ℕ) (e : FrameError) (l : LoneInstance) (o : Option ErrorCode) → AllRead l.connections → AllRead (after_fault_on c e l o).connections
+fault_reads : (c : ℕ) (e : FrameError) (l : LoneInstance) (o : Option ErrorCode) → AllRead l.connections →
+    AllRead (after_fault_on c e l o).connections
 fault_reads c e l None h = h
 fault_reads c e l (Some code) h =
     due_read c (record l { connections = at_open c (λ p. with_fault p e code) l.connections })
-    (step_read c (λ p. with_fault p e code) l.connections (λ p is reads. same_frames p.history (with_fault p e code).history p.text (raw_fault p.history e (fault_frames (has_failed p.history) (highest_stream p.history) code)) reads) h)
+    (step_read c (λ p. with_fault p e code) l.connections
+    (λ p is reads. same_frames p.history (with_fault p e code).history p.text
+    (raw_fault p.history e (fault_frames (has_failed p.history) (highest_stream p.history) code)) reads) h)
 
 end_reads : (c : ℕ) (r : Result (List ℕ) FrameError) (l : LoneInstance) → AllRead l.connections → AllRead (after_end_on c r l).connections
 end_reads c (Ok rest) l h = h
-end_reads c (Err e) l h = choose (λ (m : LoneInstance). AllRead m.connections) (is_over c l) l (after_fault_on c e l (reading_fault e)) (λ _. h) (λ _. fault_reads c e l (reading_fault e) h)
+end_reads c (Err e) l h = choose (λ (m : LoneInstance). AllRead m.connections) (is_over c l) l (after_fault_on c e l (reading_fault e))
+    (λ _. h) (λ _. fault_reads c e l (reading_fault e) h)
 
 drop_front : {A : Type 0} (xs ys : List A) → drop (length xs) (xs ++ ys) ≡ ys
 drop_front [] ys = refl
@@ -193,16 +211,19 @@ drop_front (x ∷ xs) ys = drop_front xs ys
 
 all_left : (p : Past) → ReadsText p → LeftAt (unread_frames p) (Some (key p))
 all_left p h =
-    let rest : unread_frames p ≡ h.0 = ap (drop (length (received_raw_frames p.history))) h.1 ∙ drop_front (received_raw_frames p.history) h.0 in
+    let rest : unread_frames p ≡ h.0 = ap (drop (length (received_raw_frames p.history))) h.1
+    ∙ drop_front (received_raw_frames p.history) h.0 in
     h.1 ∙ ap (λ (fs : List RawFrame). received_raw_frames p.history ++ fs) (sym rest)
 
 open_reads : (c : ℕ) (ks : List LoneConnection) (p : Past) → open_at c ks ≡ Some p → AllRead ks → ReadsText p
 open_reads c ks p is h = open_has ReadsText c ks p is h
 
-all_reads : (c : ℕ) (l : LoneInstance) (o : Option Past) → open_at c l.connections ≡ o → AllRead l.connections → AllRead (after_reading_on c l o).connections
+all_reads : (c : ℕ) (l : LoneInstance) (o : Option Past) → open_at c l.connections ≡ o → AllRead l.connections →
+    AllRead (after_reading_on c l o).connections
 all_reads c l None is h = h
 all_reads c l (Some p) is h =
-    let left : Left c (unread_frames p) l = subst (λ (o : Option Past). LeftAt (unread_frames p) (option_map key o)) (sym is) (all_left p (open_reads c l.connections p is h)) in
+    let left : Left c (unread_frames p) l = subst (λ (o : Option Past). LeftAt (unread_frames p) (option_map key o)) (sym is)
+    (all_left p (open_reads c l.connections p is h)) in
     end_reads c (split CLIENT_PREFACE.now p.text).end (after_frames_on c (unread_frames p) l) (frames_read_on c (unread_frames p) l left h)
 
 more_read : (bytes : List ℕ) (p : Past) → ReadsText p → ReadsText (with_bytes bytes p)
@@ -218,28 +239,45 @@ came_reads c bytes l h =
 -- ---- the other events
 
 first_read : (window : ℕ) → ReadsText (new_past window)
-first_read window = ((split CLIENT_PREFACE.now []).items, ap (λ (fs : List RawFrame). fs ++ (split CLIENT_PREFACE.now []).items) (sym (nothing_received window)))
+first_read window = (
+  (split CLIENT_PREFACE.now []).items,
+  ap (λ (fs : List RawFrame). fs ++ (split CLIENT_PREFACE.now []).items)
+      (sym (nothing_received window)),
+)
 
 acted_reads : (w : WhatValue) (l : LoneInstance) → AllRead l.connections → AllRead (effect_of w l).connections
-acted_reads (opened c) l h = all_append (λ (k : LoneConnection). ReadsText k.past) l.connections (record { number = c; past = new_past l.state.limits.window; is_open = true } ∷ []) h (first_read l.state.limits.window, tt)
+acted_reads (opened c) l h = all_append (λ (k : LoneConnection). ReadsText k.past) l.connections
+    (record { number = c; past = new_past l.state.limits.window; is_open = true } ∷ []) h (first_read l.state.limits.window, tt)
 acted_reads (received c bytes) l h = happened_read start_jobs (after_bytes_on c bytes l) (came_reads c bytes l h)
-acted_reads (took c n) l h = step_read c (λ p. with_taken p n) l.connections (λ p is reads. same_frames p.history (with_taken p n).history p.text (raw_took p.history n) reads) h
-acted_reads (closed c) l h = calls_read c (option_map_or (λ (p : Past). cancels p.history) (open_at c l.connections) []) (record l { connections = with_closed c l.connections }) (closed_read c l.connections h)
+acted_reads (took c n) l h = step_read c (λ p. with_taken p n) l.connections
+    (λ p is reads. same_frames p.history (with_taken p n).history p.text (raw_took p.history n) reads) h
+acted_reads (closed c) l h = calls_read c (option_map_or (λ (p : Past). cancels p.history) (open_at c l.connections) [])
+    (record l { connections = with_closed c l.connections }) (closed_read c l.connections h)
 acted_reads tick l h = happened_read end_late_jobs (after_call_event time_passes l) h
 acted_reads (ended job outcome) l h = happened_read (end_job job outcome) l h
 
 pumped_raw : (d : List Entry) (os : List OwedItem) → received_raw_frames (history_after_pump d os) ≡ received_raw_frames d
-pumped_raw d os = pump_keeps (λ (e : List Entry). received_raw_frames e ≡ received_raw_frames d) os (λ e fs next same. raw_out e fs ∙ same) d refl
+pumped_raw d os = pump_keeps (λ (e : List Entry). received_raw_frames e ≡ received_raw_frames d) os
+    (λ e fs next same. raw_out e fs ∙ same) d refl
 
 pumped_reads : (ks : List LoneConnection) → AllRead ks → AllRead (at_all_open with_pumped ks)
 pumped_reads [] h = tt
-pumped_reads (k ∷ ks) h = (choose (λ (j : LoneConnection). ReadsText j.past) k.is_open (record k { past = with_pumped k.past }) k (λ _. same_frames k.past.history (with_pumped k.past).history k.past.text (pumped_raw k.past.history k.past.owed) h.0) (λ _. h.0), pumped_reads ks h.1)
+pumped_reads (k ∷ ks) h = (
+  choose (λ (j : LoneConnection). ReadsText j.past) k.is_open (record k { past = with_pumped k.past }) k
+      (λ _. same_frames k.past.history (with_pumped k.past).history k.past.text (pumped_raw k.past.history k.past.owed) h.0)
+      (λ _. h.0),
+  pumped_reads ks h.1,
+)
 
-step_reads : (parent : List Blob) (e : LoneEvent) (l : LoneInstance) (o : Option EventRefusal) → AllRead l.connections → AllRead (after_event_unless parent e l o).connections
-step_reads parent e l None h = pumped_reads (effect_of e.what (lone_at_moment e.moment parent l)).connections (acted_reads e.what (lone_at_moment e.moment parent l) h)
+step_reads : (parent : List Blob) (e : LoneEvent) (l : LoneInstance) (o : Option EventRefusal) → AllRead l.connections →
+    AllRead (after_event_unless parent e l o).connections
+step_reads parent e l None h = pumped_reads (effect_of e.what (lone_at_moment e.moment parent l)).connections
+    (acted_reads e.what (lone_at_moment e.moment parent l) h)
 step_reads parent e l (Some refusal) h = h
 
-pub run_reads : (f : FamilyRun) (es : List FamilyEvent) → AllRead f.own.lone.connections → AllByRecursion (λ (k : LoneConnection). ReadsText k.past) (fold family_step f es).own.lone.connections
+pub run_reads : (f : FamilyRun) (es : List FamilyEvent) → AllRead f.own.lone.connections →
+    AllByRecursion (λ (k : LoneConnection). ReadsText k.past) (fold family_step f es).own.lone.connections
 run_reads f [] h = h
-run_reads f (own_event e ∷ es) h = run_reads (family_step f (own_event e)) es (step_reads (texts_of_parent f.parent) e f.own.lone (refusal_of e f.own.lone) h)
+run_reads f (own_event e ∷ es) h = run_reads (family_step f (own_event e)) es
+    (step_reads (texts_of_parent f.parent) e f.own.lone (refusal_of e f.own.lone) h)
 run_reads f (parent_event e ∷ es) h = run_reads (family_step f (parent_event e)) es h

@@ -1,6 +1,6 @@
 -- What has to be known of the lines of a script so far to tell whether the next is good, namely its
--- instances, what was chosen for them, whether there was an event, and the instances of all lines. For the code alone: no
--- public contract speaks of it.
+-- instances, what was chosen for them, whether there was an event, and the instances of all lines.
+-- For the code alone: no public contract speaks of it.
 use Rattle.std.specs.Prelude.{ℕ, Bool, true, not, ◌==◌, if◌then◌else◌, List, [], ◌∷◌, ◌++◌, length, codes, Option, Some, None, option_map, option_and_then}
 use Rattle.std.specs.Str.{bytes_eq}
 use Rattle.server_events.specs.Configs.{ConfigValue}

@@ -35,7 +35,7 @@ fn digits_bytes(alloc: Global, digits: &[u8]) -> Result<Option<Vec<u8>>, NoMemor
     }
 }
 
-fn are_lower_digits(digits: &[u8]) -> bool
+pub(crate) fn are_lower_digits(digits: &[u8]) -> bool
     ensures { result ≡ list_all is_lower_hex_digit digits.now }
 {
     digits

@@ -7,6 +7,7 @@
 #![tactic(auto)]
 
 mod arguments;
+mod bad_lines;
 mod fault;
 mod hexadecimal;
 pub mod laws;
@@ -16,6 +17,7 @@ pub mod replay;
 pub mod replay_lines;
 pub mod unary;
 
+pub use crate::bad_lines::{ScriptKind, fault_of_line};
 pub use crate::fault::ScriptFault;
 pub use crate::hexadecimal::{hex_bytes, write_hex};
 pub use crate::parts::{Parts, lines, words};

@@ -14,7 +14,8 @@ use Rattle.serve.specs.Served.{begun}
 use Rattle.serve.specs.KeepsServing.{StandsServing, AllServing}
 
 abbrev Starts : List ConfigValue → List ServedState → Type 0
-Starts configs vs = (i : ℕ) (config : ConfigValue) → config_at i configs ≡ Some config → StandsAt i vs (new_lone config.name config.quota config.slots config.limits)
+Starts configs vs = (i : ℕ) (config : ConfigValue) → config_at i configs ≡ Some config →
+    StandsAt i vs (new_lone config.name config.quota config.slots config.limits)
 
 pub at_first : (configs : List ConfigValue) (vs : List ServedState) → Starts configs vs → AllServing configs [] vs
 at_first configs vs starts = record {
@@ -24,7 +25,8 @@ at_first configs vs starts = record {
   each = λ i l at. go i l (slice_get configs i) refl (sym (slice_get-map begun configs i) ∙ at);
 }
   where
-    go : (i : ℕ) (l : LoneInstance) (o : Option ConfigValue) → slice_get configs i ≡ o → option_map begun (slice_get configs i) ≡ Some l → StandsServing 0 i vs l
+    go : (i : ℕ) (l : LoneInstance) (o : Option ConfigValue) → slice_get configs i ≡ o → option_map begun (slice_get configs i) ≡ Some l →
+        StandsServing 0 i vs l
     go i l None is at = absurd (none-some l (ap (option_map begun) (sym is) ∙ at))
     go i l (Some config) is at =
         subst (StandsServing 0 i vs) (same_Some (begun config) l (ap (option_map begun) (sym is) ∙ at))

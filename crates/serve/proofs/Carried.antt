@@ -67,7 +67,8 @@ module _ {E : Type 0} (old new : List E → Type 0) where
     ]
   ]
     where
-      both : (o : Option (List E)) → option_map (λ (l : List E). l ++ two) (option_map (λ (l : List E). l ++ one) o) ≡ option_map (λ (l : List E). l ++ more) o
+      both : (o : Option (List E)) → option_map (λ (l : List E). l ++ two) (option_map (λ (l : List E). l ++ one) o)
+          ≡ option_map (λ (l : List E). l ++ more) o
       both None = refl
       both (Some l) = ap Some (append_assoc l one two ∙ ap (λ (m : List E). l ++ m) same)
 

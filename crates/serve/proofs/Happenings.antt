@@ -64,7 +64,8 @@ timed_moment ((at_sockets s, b) ∷ h) m = timed_moment h (moment_then m (at_soc
 timed_moment ((told i, b) ∷ h) m = timed_moment h m
 timed_moment ((at_runs r, b) ∷ h) m = timed_moment h m
 
-sockets_moment : (count : ℕ) (sockets : List SocketEvent) (m : ℕ) → fold moment_then m (all_timed count sockets) ≡ fold moment_after m sockets
+sockets_moment : (count : ℕ) (sockets : List SocketEvent) (m : ℕ) →
+    fold moment_then m (all_timed count sockets) ≡ fold moment_after m sockets
 sockets_moment count [] m = refl
 sockets_moment count (clock n ∷ sockets) m =
     fold-append moment_then n (all_told count) (all_timed count sockets)
@@ -72,7 +73,8 @@ sockets_moment count (clock n ∷ sockets) m =
 sockets_moment count (port j p ∷ sockets) m = sockets_moment count sockets m
 sockets_moment count (failed j c ∷ sockets) m = sockets_moment count sockets m
 
-pub moment_together : (count : ℕ) (sockets : List SocketEvent) (runs : List RunEvent) (h : List MarkedHappening) → HappenedTogether count sockets runs h → moment_behind h ≡ moment_of sockets
+pub moment_together : (count : ℕ) (sockets : List SocketEvent) (runs : List RunEvent) (h : List MarkedHappening) →
+    HappenedTogether count sockets runs h → moment_behind h ≡ moment_of sockets
 moment_together count sockets runs h t = timed_moment h 0 ∙ ap (fold moment_then 0) t.at_sockets_so ∙ sockets_moment count sockets 0
 
 -- ---- what happened at the sockets
@@ -85,7 +87,8 @@ told_sockets : (is : List ℕ) (before : List SocketEvent) → fold sockets_then
 told_sockets [] before = refl
 told_sockets (i ∷ is) before = told_sockets is before
 
-timed_sockets : (h : List MarkedHappening) (before : List SocketEvent) → fold sockets_on before h ≡ fold sockets_then before (timed_events h)
+timed_sockets : (h : List MarkedHappening) (before : List SocketEvent) →
+    fold sockets_on before h ≡ fold sockets_then before (timed_events h)
 timed_sockets [] before = refl
 timed_sockets ((at_sockets s, b) ∷ h) before = timed_sockets h (before ++ s ∷ [])
 timed_sockets ((told i, b) ∷ h) before = timed_sockets h before
@@ -95,12 +98,16 @@ all_sockets : (count : ℕ) (sockets before : List SocketEvent) → fold sockets
 all_sockets count [] before = sym (append-nil before)
 all_sockets count (clock n ∷ sockets) before =
     fold-append sockets_then (before ++ clock n ∷ []) (all_told count) (all_timed count sockets)
-    ∙ ap (λ (g : List SocketEvent). fold sockets_then g (all_timed count sockets)) (told_sockets (range_with_len 0 count) (before ++ clock n ∷ []))
+    ∙ ap (λ (g : List SocketEvent). fold sockets_then g (all_timed count sockets))
+    (told_sockets (range_with_len 0 count) (before ++ clock n ∷ []))
     ∙ all_sockets count sockets (before ++ clock n ∷ []) ∙ append_assoc before (clock n ∷ []) sockets
-all_sockets count (port j p ∷ sockets) before = all_sockets count sockets (before ++ port j p ∷ []) ∙ append_assoc before (port j p ∷ []) sockets
-all_sockets count (failed j c ∷ sockets) before = all_sockets count sockets (before ++ failed j c ∷ []) ∙ append_assoc before (failed j c ∷ []) sockets
+all_sockets count (port j p ∷ sockets) before =
+    all_sockets count sockets (before ++ port j p ∷ []) ∙ append_assoc before (port j p ∷ []) sockets
+all_sockets count (failed j c ∷ sockets) before =
+    all_sockets count sockets (before ++ failed j c ∷ []) ∙ append_assoc before (failed j c ∷ []) sockets
 
-pub sockets_together : (count : ℕ) (sockets : List SocketEvent) (runs : List RunEvent) (h : List MarkedHappening) → HappenedTogether count sockets runs h → sockets_in h ≡ sockets
+pub sockets_together : (count : ℕ) (sockets : List SocketEvent) (runs : List RunEvent) (h : List MarkedHappening) →
+    HappenedTogether count sockets runs h → sockets_in h ≡ sockets
 sockets_together count sockets runs h t = timed_sockets h [] ∙ ap (fold sockets_then []) t.at_sockets_so ∙ all_sockets count sockets []
 
 -- ---- what happened, by its two parts
@@ -109,23 +116,29 @@ pub record AreOf (timed : List Happening) (runs : List RunEvent) (h : List Marke
   pub timed_so : timed_events h ≡ timed
   pub runs_so : run_events h ≡ runs
 
-pub parts_of : (count : ℕ) (sockets : List SocketEvent) (runs : List RunEvent) (h : List MarkedHappening) → HappenedTogether count sockets runs h → AreOf (all_timed count sockets) runs h
+pub parts_of : (count : ℕ) (sockets : List SocketEvent) (runs : List RunEvent) (h : List MarkedHappening) →
+    HappenedTogether count sockets runs h → AreOf (all_timed count sockets) runs h
 parts_of count sockets runs h t = record { timed_so = t.at_sockets_so; runs_so = t.at_runs_so }
 
-pub parts_on : (timed more_timed : List Happening) (runs more_runs : List RunEvent) (h g : List MarkedHappening) → AreOf timed runs h → AreOf more_timed more_runs g → AreOf (timed ++ more_timed) (runs ++ more_runs) (h ++ g)
+pub parts_on : (timed more_timed : List Happening) (runs more_runs : List RunEvent) (h g : List MarkedHappening) → AreOf timed runs h →
+    AreOf more_timed more_runs g → AreOf (timed ++ more_timed) (runs ++ more_runs) (h ++ g)
 parts_on timed more_timed runs more_runs h g t u = record {
-  timed_so = filter_map-append timed_event h g ∙ ap (λ (xs : List Happening). xs ++ timed_events g) t.timed_so ∙ ap (λ (ys : List Happening). timed ++ ys) u.timed_so;
-  runs_so = filter_map-append run_event h g ∙ ap (λ (xs : List RunEvent). xs ++ run_events g) t.runs_so ∙ ap (λ (ys : List RunEvent). runs ++ ys) u.runs_so;
+  timed_so = filter_map-append timed_event h g ∙ ap (λ (xs : List Happening). xs ++ timed_events g) t.timed_so
+      ∙ ap (λ (ys : List Happening). timed ++ ys) u.timed_so;
+  runs_so = filter_map-append run_event h g ∙ ap (λ (xs : List RunEvent). xs ++ run_events g) t.runs_so
+      ∙ ap (λ (ys : List RunEvent). runs ++ ys) u.runs_so;
 }
 
 -- .. behind which orders are carried out
-pub parts_ordered : (j : ℕ) (timed : List Happening) (runs : List RunEvent) (orders : List OrderValue) (x : MarkedHappening) → AreOf timed runs (x ∷ []) → AreOf timed (runs ++ map (ordered j) orders) (x ∷ map ran (map (ordered j) orders))
+pub parts_ordered : (j : ℕ) (timed : List Happening) (runs : List RunEvent) (orders : List OrderValue) (x : MarkedHappening) →
+    AreOf timed runs (x ∷ []) → AreOf timed (runs ++ map (ordered j) orders) (x ∷ map ran (map (ordered j) orders))
 parts_ordered j timed runs orders x t =
     let more : List RunEvent = map (ordered j) orders in
     subst (λ (ts : List Happening). AreOf ts (runs ++ more) (x ∷ map ran more)) (append-nil timed)
     (parts_on timed [] runs more (x ∷ []) (map ran more) t (record { timed_so = no_times more; runs_so = all_runs more }))
 
-pub moment_more : (h : List MarkedHappening) (x : MarkedHappening) (more : List RunEvent) → moment_behind (h ++ x ∷ map ran more) ≡ moment_on (moment_behind h) x
+pub moment_more : (h : List MarkedHappening) (x : MarkedHappening) (more : List RunEvent) →
+    moment_behind (h ++ x ∷ map ran more) ≡ moment_on (moment_behind h) x
 moment_more h x more = fold-append moment_on 0 h (x ∷ map ran more) ∙ runs_moment more (moment_on (moment_behind h) x)
 
 cuts_both : (h g : List MarkedHappening) → cuts (h ++ g) ≡ cuts h + cuts g
@@ -141,15 +154,23 @@ none_cut h x more = cuts_both h ((x, false) ∷ map ran more) ∙ omega (arith, 
 
 -- ---- one part behind the other
 
-pub may_serve_on : (parents : List (Option ℕ)) (h g : List MarkedHappening) (before : List SocketEvent) (m : ℕ) (w k v : AtWork) → MayServe parents before m w h k → MayServe parents (fold sockets_on before h) (fold moment_on m h) k g v → MayServe parents before m w (h ++ g) v
+pub may_serve_on : (parents : List (Option ℕ)) (h g : List MarkedHappening) (before : List SocketEvent) (m : ℕ) (w k v : AtWork) →
+    MayServe parents before m w h k → MayServe parents (fold sockets_on before h) (fold moment_on m h) k g v →
+    MayServe parents before m w (h ++ g) v
 may_serve_on parents [] g before m w k v s t = subst (λ (x : AtWork). MayServe parents before m x g v) s t
-may_serve_on parents (x ∷ h) g before m w k v s t = (s.0, s.1, s.2, may_serve_on parents h g (sockets_then before x.0) (moment_then m x.0) s.0 k v s.3 t)
+may_serve_on parents (x ∷ h) g before m w k v s t =
+    (s.0, s.1, s.2, may_serve_on parents h g (sockets_then before x.0) (moment_then m x.0) s.0 k v s.3 t)
 
 -- orders are carried out, one after another
 pub carried : (parents : List (Option ℕ)) (before : List SocketEvent) (m j : ℕ) (ls : List LoneInstance) (orders : List OrderValue)
     → MayServe parents before m (with_orders ls (map (ordered j) orders)) (map ran (map (ordered j) orders)) (with_orders ls [])
 carried parents before m j ls [] = refl
-carried parents before m j ls (o ∷ orders) = (with_orders ls (map (ordered j) orders), (refl, refl), (λ i l at. tt), carried parents before m j ls orders)
+carried parents before m j ls (o ∷ orders) = (
+  with_orders ls (map (ordered j) orders),
+  (refl, refl),
+  (λ i l at. tt),
+  carried parents before m j ls orders,
+)
 
 -- ---- moments
 
@@ -187,6 +208,9 @@ cut_effect_moment (ended job outcome) l m h =
     ap (λ (x : LoneInstance). x.state.moment) h.gone ∙ made_moment _ l.state h.left h.made
 
 -- after an event an instance is not later than the event and than it was
-pub may_within : (parent : List Blob) (e : LoneEvent) (marked : Bool) (l k : LoneInstance) (orders : List OrderValue) (m : ℕ) → MayStep parent e marked l k orders → e.moment ≤ m → l.state.moment ≤ m → k.state.moment ≤ m
-may_within parent e false l k orders m alone le late = subst (λ (x : LoneInstance). x.state.moment ≤ m) (sym alone.0) (step_within parent e l m le late)
-may_within parent e true l k orders m short le late = subst (λ (n : ℕ). n ≤ m) (sym (cut_effect_moment e.what (lone_at_moment e.moment parent l) k short.1)) le
+pub may_within : (parent : List Blob) (e : LoneEvent) (marked : Bool) (l k : LoneInstance) (orders : List OrderValue) (m : ℕ) →
+    MayStep parent e marked l k orders → e.moment ≤ m → l.state.moment ≤ m → k.state.moment ≤ m
+may_within parent e false l k orders m alone le late =
+    subst (λ (x : LoneInstance). x.state.moment ≤ m) (sym alone.0) (step_within parent e l m le late)
+may_within parent e true l k orders m short le late =
+    subst (λ (n : ℕ). n ≤ m) (sym (cut_effect_moment e.what (lone_at_moment e.moment parent l) k short.1)) le

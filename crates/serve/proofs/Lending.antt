@@ -30,7 +30,8 @@ use Rattle.serve.proofs.Keeps.{IsOneOf, Premise, counted_more, after_outcome, af
 -- what happens is an event of no instance, of so many
 pub record IsForNobody (count : ℕ) (x : Happening) : Type 0 where
   pub event : (m : ℕ) → event_then m x ≡ None
-  pub comes : (parents : List (Option ℕ)) (m : ℕ) (w v : AtWork) → length w.instances ≡ count → Comes parents m w (unmarked x) v → Happens parents m w (unmarked x) v
+  pub comes : (parents : List (Option ℕ)) (m : ℕ) (w v : AtWork) → length w.instances ≡ count → Comes parents m w (unmarked x) v →
+      Happens parents m w (unmarked x) v
 
 pub clock_for : (count n : ℕ) → IsForNobody count (at_sockets (clock n))
 clock_for count n = record { event = λ m. refl; comes = λ parents m w v is so. so }
@@ -42,7 +43,9 @@ failed_for : (count j c : ℕ) → j < count → IsForNobody count (at_sockets (
 failed_for count j c lt = record { event = λ m. refl; comes = λ parents m w v is so. (omega (arith, lt, is), so) }
 
 -- all instances stay as they are
-pub nobody_more : (configs : List ConfigValue) (h : List MarkedHappening) (vs : List ServedState) (x : Happening) → IsForNobody (length configs) x → moment_behind h ≤ moment_then (moment_behind h) x → Premise (sockets_in h) vs x → AllServing configs h vs → AllServing configs (h ++ unmarked x ∷ []) vs
+pub nobody_more : (configs : List ConfigValue) (h : List MarkedHappening) (vs : List ServedState) (x : Happening) →
+    IsForNobody (length configs) x → moment_behind h ≤ moment_then (moment_behind h) x → Premise (sockets_in h) vs x →
+    AllServing configs h vs → AllServing configs (h ++ unmarked x ∷ []) vs
 nobody_more configs h vs x nobody rises premise a =
     let m : ℕ = moment_behind h in
     let parents : List (Option ℕ) = parents_of configs in
@@ -54,8 +57,13 @@ nobody_more configs h vs x nobody rises premise a =
     ) in
     record {
       ls = a.ls;
-      serves = may_serve_on parents h (unmarked x ∷ []) [] 0 (with_orders (map begun configs) []) (with_orders a.ls []) (with_orders a.ls []) a.serves
-          (with_orders a.ls [], nobody.comes parents m (with_orders a.ls []) (with_orders a.ls []) a.count comes, (λ i l at. (premise m i l (a.each i l at).stands (a.each i l at).times).1), refl);
+      serves = may_serve_on parents h (unmarked x ∷ []) [] 0 (with_orders (map begun configs) []) (with_orders a.ls [])
+          (with_orders a.ls []) a.serves (
+            with_orders a.ls [],
+            nobody.comes parents m (with_orders a.ls []) (with_orders a.ls []) a.count comes,
+            (λ i l at. (premise m i l (a.each i l at).stands (a.each i l at).times).1),
+            refl,
+          );
       count = a.count;
       each = λ i l at.
           (let it : StandsServing m i vs l = a.each i l at in
@@ -65,32 +73,43 @@ nobody_more configs h vs x nobody rises premise a =
 
 -- ---- a call on a connection failed
 
-failed_known : (configs : List ConfigValue) (s : List SocketEvent) (r : List RunEvent) (server : Counting) (m j c : ℕ) → j < length configs → IsServing configs (Some s) (Some r) server m → IsServing configs (Some (s ++ failed j c ∷ [])) (Some r) server m
+failed_known : (configs : List ConfigValue) (s : List SocketEvent) (r : List RunEvent) (server : Counting) (m j c : ℕ) →
+    j < length configs → IsServing configs (Some s) (Some r) server m → IsServing configs (Some (s ++ failed j c ∷ [])) (Some r) server m
 failed_known configs s r server m j c lt at =
     let x : Happening = at_sockets (failed j c) in
     let count : ℕ = length configs in
     let timed : List Happening = all_timed count s in
     let parts : AreOf (timed ++ x ∷ []) (r ++ []) (at.h ++ unmarked x ∷ []) =
-    parts_on timed (x ∷ []) r [] at.h (unmarked x ∷ []) (parts_of count s r at.h at.together) (record { timed_so = refl; runs_so = refl }) in
+    parts_on timed (x ∷ []) r [] at.h (unmarked x ∷ []) (parts_of count s r at.h at.together)
+    (record { timed_so = refl; runs_so = refl }) in
     record {
       h = at.h ++ unmarked x ∷ [];
-      together = record { at_sockets_so = parts.timed_so ∙ sym (flat_map-append (with_times count) s (failed j c ∷ [])); at_runs_so = parts.runs_so ∙ append-nil r };
+      together = record {
+        at_sockets_so = parts.timed_so ∙ sym (flat_map-append (with_times count) s (failed j c ∷ []));
+        at_runs_so =
+            parts.runs_so ∙ append-nil r;
+      };
       counted = counted_more at.h x false [] server.cut server.cut refl at.counted;
       parents = at.parents;
-      all = nobody_more configs at.h server.server.instances x (failed_for count j c lt) (omega arith) (λ n k l stands late. (tt, tt)) at.all;
+      all = nobody_more configs at.h server.server.instances x (failed_for count j c lt) (omega arith)
+          (λ n k l stands late. (tt, tt)) at.all;
       moment = at.moment ∙ sym (fold_push moment_after 0 s (failed j c));
     }
 
-pub after_failed : (configs : List ConfigValue) (old new : Option (List SocketEvent)) (was : Option (List RunEvent)) (server : Counting) (m j c : ℕ) → j < length configs → Adds old new (failed j c ∷ []) → IsServing configs old was server m → IsServing configs new was server m
+pub after_failed : (configs : List ConfigValue) (old new : Option (List SocketEvent)) (was : Option (List RunEvent)) (server : Counting)
+    (m j c : ℕ) → j < length configs → Adds old new (failed j c ∷ []) → IsServing configs old was server m →
+    IsServing configs new was server m
 after_failed configs old new None server m j c lt adds at = none_serves configs new server m
 after_failed configs old new (Some r) server m j c lt adds at = elim adds [
   | inl lost ↦ subst (λ (o : Option (List SocketEvent)). IsServing configs o (Some r) server m) (sym lost) tt
   | inr all ↦ go old all at
 ]
   where
-    go : (o : Option (List SocketEvent)) → AddsAll o new (failed j c ∷ []) → IsServing configs o (Some r) server m → IsServing configs new (Some r) server m
+    go : (o : Option (List SocketEvent)) → AddsAll o new (failed j c ∷ []) → IsServing configs o (Some r) server m →
+        IsServing configs new (Some r) server m
     go None all so = subst (λ (n : Option (List SocketEvent)). IsServing configs n (Some r) server m) (sym all) tt
-    go (Some s) all so = subst (λ (n : Option (List SocketEvent)). IsServing configs n (Some r) server m) (sym all) (failed_known configs s r server m j c lt so)
+    go (Some s) all so = subst (λ (n : Option (List SocketEvent)). IsServing configs n (Some r) server m) (sym all)
+        (failed_known configs s r server m j c lt so)
 
 -- ---- a task is lent
 
@@ -98,7 +117,8 @@ after_failed configs old new (Some r) server m j c lt adds at = elim adds [
 abbrev pub IsTaskAt : ℕ → ℕ → Option TaskValue → List ServedState → Type 0
 IsTaskAt j job task vs = (v : ServedState) → instance_at j vs ≡ Some v → task ≡ task_of job v.state.jobs
 
-lent_faithful : (vs : List ServedState) (j job : ℕ) (task : Option TaskValue) → IsTaskAt j job task vs → (before : List SocketEvent) → Premise before vs (at_runs (lent j job task))
+lent_faithful : (vs : List ServedState) (j job : ℕ) (task : Option TaskValue) → IsTaskAt j job task vs → (before : List SocketEvent) →
+    Premise before vs (at_runs (lent j job task))
 lent_faithful vs j job task is before = λ m n l stands late. (
   (λ same.
       is stands.0 (ap (λ (k : ℕ). instance_at k vs) same ∙ stands.1) ∙ ap (λ (s : InstanceState). task_of job s.jobs) stands.2.state),
@@ -109,7 +129,8 @@ abbrev with_lent : Option (List RunEvent) → RunEvent → Option (List RunEvent
 with_lent was x = option_map (λ (h : List RunEvent). h ++ x ∷ []) was
 
 -- .. and then more happens
-lent_then : (was asked : Option (List RunEvent)) (x : RunEvent) (more : List RunEvent) → AddsRuns was asked (x ∷ more) → AddsRuns (with_lent was x) asked more
+lent_then : (was asked : Option (List RunEvent)) (x : RunEvent) (more : List RunEvent) → AddsRuns was asked (x ∷ more) →
+    AddsRuns (with_lent was x) asked more
 lent_then was asked x more adds = elim adds [
   | inl lost ↦ inl lost
   | inr all ↦ inr (go was all)
@@ -119,7 +140,9 @@ lent_then was asked x more adds = elim adds [
     go None all = all
     go (Some h) all = all ∙ ap Some (sym (append_assoc h (x ∷ []) more))
 
-after_lent : (configs : List ConfigValue) (known : Option (List SocketEvent)) (was : Option (List RunEvent)) (server : Counting) (m j job : ℕ) (task : Option TaskValue) → IsOneOf known was (length configs) j → IsTaskAt j job task server.server.instances → IsServing configs known was server m → IsServing configs known (with_lent was (lent j job task)) server m
+after_lent : (configs : List ConfigValue) (known : Option (List SocketEvent)) (was : Option (List RunEvent)) (server : Counting)
+    (m j job : ℕ) (task : Option TaskValue) → IsOneOf known was (length configs) j → IsTaskAt j job task server.server.instances →
+    IsServing configs known was server m → IsServing configs known (with_lent was (lent j job task)) server m
 after_lent configs None was server m j job task lt is at = tt
 after_lent configs (Some s) None server m j job task lt is at = tt
 after_lent configs (Some s) (Some r) server m j job task lt is at =
@@ -127,13 +150,15 @@ after_lent configs (Some s) (Some r) server m j job task lt is at =
     let count : ℕ = length configs in
     let timed : List Happening = all_timed count s in
     let parts : AreOf (timed ++ []) (r ++ lent j job task ∷ []) (at.h ++ unmarked x ∷ []) =
-    parts_on timed [] r (lent j job task ∷ []) at.h (unmarked x ∷ []) (parts_of count s r at.h at.together) (record { timed_so = refl; runs_so = refl }) in
+    parts_on timed [] r (lent j job task ∷ []) at.h (unmarked x ∷ []) (parts_of count s r at.h at.together)
+    (record { timed_so = refl; runs_so = refl }) in
     record {
       h = at.h ++ unmarked x ∷ [];
       together = record { at_sockets_so = parts.timed_so ∙ append-nil timed; at_runs_so = parts.runs_so };
       counted = counted_more at.h x false [] server.cut server.cut refl at.counted;
       parents = at.parents;
-      all = nobody_more configs at.h server.server.instances x (lent_for count j job task lt) (omega arith) (lent_faithful server.server.instances j job task is (sockets_in at.h)) at.all;
+      all = nobody_more configs at.h server.server.instances x (lent_for count j job task lt) (omega arith)
+          (lent_faithful server.server.instances j job task is (sockets_in at.h)) at.all;
       moment = at.moment;
     }
 
@@ -166,26 +191,34 @@ record IsWithin (count : ℕ) (w : AtWork) : Type 0 where
   instances : length w.instances ≡ count
   orders : AreOfThese count w.orders
 
-taken_within : (count : ℕ) (parents : List (Option ℕ)) (e : EventValue) (b : Bool) (ls : List LoneInstance) (v : AtWork) → length ls ≡ count → IsTaken parents e b ls v → IsWithin count v
+taken_within : (count : ℕ) (parents : List (Option ℕ)) (e : EventValue) (b : Bool) (ls : List LoneInstance) (v : AtWork) →
+    length ls ≡ count → IsTaken parents e b ls v → IsWithin count v
 taken_within count parents e b ls v is t = subst (IsWithin count) (sym t.so) (record {
   instances = length-set ls e.instance t.now ∙ is;
   orders = orders_of_these count e.instance t.orders (subst (λ (n : ℕ). e.instance < n) is (slice_get_within ls e.instance t.was t.there));
 })
 
-comes_within : (count : ℕ) (parents : List (Option ℕ)) (o : Option EventValue) (b : Bool) (ls : List LoneInstance) (v : AtWork) → length ls ≡ count → IsTakenIf parents o b ls v → IsWithin count v
+comes_within : (count : ℕ) (parents : List (Option ℕ)) (o : Option EventValue) (b : Bool) (ls : List LoneInstance) (v : AtWork) →
+    length ls ≡ count → IsTakenIf parents o b ls v → IsWithin count v
 comes_within count parents None b ls v is t = subst (IsWithin count) (sym t.1) (record { instances = is; orders = tt })
 comes_within count parents (Some e) b ls v is t = taken_within count parents e b ls v is t
 
-began : (count : ℕ) (parents : List (Option ℕ)) (h : List MarkedHappening) (past : List SocketEvent) (m : ℕ) (w v : AtWork) (run : RunKey) (before after : List RunEvent) (o : OrderValue) → IsWithin count w → MayServe parents past m w h v → run_events h ≡ before ++ ordered run.instance o ∷ after → run.instance < count
+began : (count : ℕ) (parents : List (Option ℕ)) (h : List MarkedHappening) (past : List SocketEvent) (m : ℕ) (w v : AtWork) (run : RunKey)
+    (before after : List RunEvent) (o : OrderValue) → IsWithin count w → MayServe parents past m w h v →
+    run_events h ≡ before ++ ordered run.instance o ∷ after → run.instance < count
 began count parents [] past m w v run before after o all s is = absurd (none_here before after (ordered run.instance o) is)
 began count parents ((at_sockets (clock n), b) ∷ h) past m w v run before after o all s is =
-    began count parents h (past ++ clock n ∷ []) n s.0 v run before after o (comes_within count parents None b w.instances s.0 all.instances s.1.2) s.3 is
+    began count parents h (past ++ clock n ∷ []) n s.0 v run before after o
+    (comes_within count parents None b w.instances s.0 all.instances s.1.2) s.3 is
 began count parents ((at_sockets (port j p), b) ∷ h) past m w v run before after o all s is =
-    began count parents h (past ++ port j p ∷ []) m s.0 v run before after o (comes_within count parents (event_then m (at_sockets (port j p))) b w.instances s.0 all.instances s.1.2) s.3 is
+    began count parents h (past ++ port j p ∷ []) m s.0 v run before after o
+    (comes_within count parents (event_then m (at_sockets (port j p))) b w.instances s.0 all.instances s.1.2) s.3 is
 began count parents ((at_sockets (failed j c), b) ∷ h) past m w v run before after o all s is =
-    began count parents h (past ++ failed j c ∷ []) m s.0 v run before after o (comes_within count parents None b w.instances s.0 all.instances s.1.1.2) s.3 is
+    began count parents h (past ++ failed j c ∷ []) m s.0 v run before after o
+    (comes_within count parents None b w.instances s.0 all.instances s.1.1.2) s.3 is
 began count parents ((told j, b) ∷ h) past m w v run before after o all s is =
-    began count parents h past m s.0 v run before after o (comes_within count parents (event_then m (told j)) b w.instances s.0 all.instances s.1.2) s.3 is
+    began count parents h past m s.0 v run before after o
+    (comes_within count parents (event_then m (told j)) b w.instances s.0 all.instances s.1.2) s.3 is
 began count parents ((at_runs (ordered j q), b) ∷ h) past m w v run before after o all s is =
     go before is (λ front same.
     began count parents h past m s.0 v run front after o
@@ -194,7 +227,8 @@ began count parents ((at_runs (ordered j q), b) ∷ h) past m w v run before aft
     orders : AreOfThese count (ordered j q ∷ s.0.orders)
     orders = subst (λ (x : AtWork). AreOfThese count x.orders) s.1.1 all.orders
 
-    go : (front : List RunEvent) → ordered j q ∷ run_events h ≡ front ++ ordered run.instance o ∷ after → ((rest : List RunEvent) → run_events h ≡ rest ++ ordered run.instance o ∷ after → run.instance < count) → run.instance < count
+    go : (front : List RunEvent) → ordered j q ∷ run_events h ≡ front ++ ordered run.instance o ∷ after →
+        ((rest : List RunEvent) → run_events h ≡ rest ++ ordered run.instance o ∷ after → run.instance < count) → run.instance < count
     go [] same next = subst (IsOfThese count) (first_same (ordered j q) (ordered run.instance o) (run_events h) after same) orders.0
     go (x ∷ front) same next =
         next front (rest_same (ordered j q) x (run_events h) (front ++ ordered run.instance o ∷ after) same)
@@ -204,32 +238,49 @@ began count parents ((at_runs (lent j job task), b) ∷ h) past m w v run (x ∷
     (rest_same (lent j job task) x (run_events h) (before ++ ordered run.instance o ∷ after) is)
 began count parents ((at_runs (gave j job outcome), b) ∷ h) past m w v run [] after o all s is = cc
 began count parents ((at_runs (gave j job outcome), b) ∷ h) past m w v run (x ∷ before) after o all s is =
-    began count parents h past m s.0 v run before after o (comes_within count parents (event_then m (at_runs (gave j job outcome))) b w.instances s.0 all.instances s.1.2) s.3
+    began count parents h past m s.0 v run before after o
+    (comes_within count parents (event_then m (at_runs (gave j job outcome))) b w.instances s.0 all.instances s.1.2) s.3
     (rest_same (gave j job outcome) x (run_events h) (before ++ ordered run.instance o ∷ after) is)
 
-pub begun_one : (configs : List ConfigValue) (known : Option (List SocketEvent)) (was : Option (List RunEvent)) (server : Counting) (m : ℕ) (run : RunKey) → WasBegun run was → IsServing configs known was server m → IsOneOf known was (length configs) run.instance
+pub begun_one : (configs : List ConfigValue) (known : Option (List SocketEvent)) (was : Option (List RunEvent)) (server : Counting) (m : ℕ)
+    (run : RunKey) → WasBegun run was → IsServing configs known was server m → IsOneOf known was (length configs) run.instance
 begun_one configs None was server m run since at = tt
 begun_one configs (Some s) None server m run since at = tt
 begun_one configs (Some s) (Some r) server m run since at =
-    began (length configs) (parents_of configs) at.h [] 0 (with_orders (map begun configs) []) (with_orders at.all.ls []) run since.before since.after (start run.job since.task)
+    began (length configs) (parents_of configs) at.h [] 0 (with_orders (map begun configs) [])
+    (with_orders at.all.ls []) run since.before since.after (start run.job since.task)
     (record { instances = length-map configs begun; orders = tt }) at.all.serves (at.together.at_runs_so ∙ since.whole)
 
 -- ---- a run is asked
 
 -- where something came of it, which is told
-pub asked_told : (configs : List ConfigValue) (known : Option (List SocketEvent)) (was asked now : Option (List RunEvent)) (server next : Counting) (m : ℕ) (run : RunKey) (task : Option TaskValue) (outcome : OutcomeValue) (answered : List RunEvent) → WasBegun run was → IsTaskAt run.instance run.job task server.server.instances → AddsRuns was asked (lent run.instance run.job task ∷ answered) → gave run.instance run.job outcome ∷ [] ≡ answered → TakesEvent (event_told m run.instance (ended run.job outcome)) server next asked now → IsServing configs known was server m → IsServing configs known now next m
+pub asked_told : (configs : List ConfigValue) (known : Option (List SocketEvent)) (was asked now : Option (List RunEvent))
+    (server next : Counting) (m : ℕ) (run : RunKey) (task : Option TaskValue) (outcome : OutcomeValue) (answered : List RunEvent) →
+    WasBegun run was → IsTaskAt run.instance run.job task server.server.instances →
+    AddsRuns was asked (lent run.instance run.job task ∷ answered) → gave run.instance run.job outcome ∷ [] ≡ answered →
+    TakesEvent (event_told m run.instance (ended run.job outcome)) server next asked now → IsServing configs known was server m →
+    IsServing configs known now next m
 asked_told configs known was asked now server next m run task outcome answered was_begun is adds same t at =
     let x : RunEvent = lent run.instance run.job task in
     let one : IsOneOf known was (length configs) run.instance = begun_one configs known was server m run was_begun at in
-    after_outcome configs known (with_lent was x) asked now server next m run.instance run.job outcome (still_one known was (length configs) run.instance x one) (asked_adds (with_lent was x) asked answered (gave run.instance run.job outcome ∷ []) (lent_then was asked x answered adds) same) t (after_lent configs known was server m run.instance run.job task one is at)
+    after_outcome configs known (with_lent was x) asked now server next m run.instance run.job outcome
+    (still_one known was (length configs) run.instance x one)
+    (asked_adds (with_lent was x) asked answered (gave run.instance run.job outcome ∷ []) (lent_then was asked x answered adds) same) t
+    (after_lent configs known was server m run.instance run.job task one is at)
   where
-    still_one : (k : Option (List SocketEvent)) (w : Option (List RunEvent)) (count j : ℕ) (y : RunEvent) → IsOneOf k w count j → IsOneOf k (with_lent w y) count j
+    still_one : (k : Option (List SocketEvent)) (w : Option (List RunEvent)) (count j : ℕ) (y : RunEvent) → IsOneOf k w count j →
+        IsOneOf k (with_lent w y) count j
     still_one None w count j y one = one
     still_one (Some s) None count j y one = one
     still_one (Some s) (Some r) count j y one = one
 
 -- where it goes on
-pub asked_none : (configs : List ConfigValue) (known : Option (List SocketEvent)) (was asked : Option (List RunEvent)) (server : Counting) (m : ℕ) (run : RunKey) (task : Option TaskValue) (answered : List RunEvent) → WasBegun run was → IsTaskAt run.instance run.job task server.server.instances → AddsRuns was asked (lent run.instance run.job task ∷ answered) → [] ≡ answered → IsServing configs known was server m → IsServing configs known asked server m
+pub asked_none : (configs : List ConfigValue) (known : Option (List SocketEvent)) (was asked : Option (List RunEvent)) (server : Counting)
+    (m : ℕ) (run : RunKey) (task : Option TaskValue) (answered : List RunEvent) → WasBegun run was →
+    IsTaskAt run.instance run.job task server.server.instances → AddsRuns was asked (lent run.instance run.job task ∷ answered) →
+    [] ≡ answered → IsServing configs known was server m → IsServing configs known asked server m
 asked_none configs known was asked server m run task answered was_begun is adds same at =
     let x : RunEvent = lent run.instance run.job task in
-    after_no_run configs known (with_lent was x) asked server m (asked_adds (with_lent was x) asked answered [] (lent_then was asked x answered adds) same) (after_lent configs known was server m run.instance run.job task (begun_one configs known was server m run was_begun at) is at)
+    after_no_run configs known (with_lent was x) asked server m
+    (asked_adds (with_lent was x) asked answered [] (lent_then was asked x answered adds) same)
+    (after_lent configs known was server m run.instance run.job task (begun_one configs known was server m run was_begun at) is at)

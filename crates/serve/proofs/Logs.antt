@@ -7,7 +7,9 @@ use Rattle.serve.specs.Logged.{events_of, record_event}
 use Rattle.serve.specs.SocketEvents.{moment_after}
 
 -- one record is read
-pub one_read : (left : List SocketRecord) (o : SocketRecord) (m n t : ℕ) → 1 ≤ length left → o ≡ get_or left 0 o → n ≡ moment_after m (record_event o) → fold moment_after m (events_of left) ≡ t → fold moment_after n (events_of (take (length left - 1) (drop 1 left))) ≡ t
+pub one_read : (left : List SocketRecord) (o : SocketRecord) (m n t : ℕ) → 1 ≤ length left → o ≡ get_or left 0 o →
+    n ≡ moment_after m (record_event o) → fold moment_after m (events_of left) ≡ t →
+    fold moment_after n (events_of (take (length left - 1) (drop 1 left))) ≡ t
 one_read left o m n t le first is so =
     ap (λ (k : ℕ). fold moment_after k (events_of (take (length left - 1) (drop 1 left)))) is
     ∙ sym (ap (λ (xs : List SocketRecord). fold moment_after m (events_of xs)) (first_and_rest left o le first))

@@ -20,13 +20,15 @@ last_or_none (x ∷ xs) = elim (last_or_none xs) [
 ]
 
 -- what stands in a list with one more stands before it, or is that one
-split_last : {A : Type 0} (h : List A) (x y : A) (before after : List A) → h ++ x ∷ [] ≡ before ++ y ∷ after → ((after ≡ []) × (x ≡ y) × (h ≡ before)) ⊎ ((rest : List A) × (after ≡ rest ++ x ∷ []) × (h ≡ before ++ y ∷ rest))
+split_last : {A : Type 0} (h : List A) (x y : A) (before after : List A) → h ++ x ∷ [] ≡ before ++ y ∷ after →
+    ((after ≡ []) × (x ≡ y) × (h ≡ before)) ⊎ ((rest : List A) × (after ≡ rest ++ x ∷ []) × (h ≡ before ++ y ∷ rest))
 split_last {A} h x y before after is = elim (last_or_none after) [
   | inl none ↦
       let same = same_from_push h before x y (subst (λ (zs : List A). h ++ x ∷ [] ≡ before ++ y ∷ zs) none is) in
       inl (none, same.1, same.0)
   | inr t ↦
-      let same = same_from_push h (before ++ y ∷ t.0) x t.1 (subst (λ (zs : List A). h ++ x ∷ [] ≡ before ++ y ∷ zs) t.2 is ∙ sym (append_assoc before (y ∷ t.0) (t.1 ∷ []))) in
+      let same = same_from_push h (before ++ y ∷ t.0) x t.1
+      (subst (λ (zs : List A). h ++ x ∷ [] ≡ before ++ y ∷ zs) t.2 is ∙ sym (append_assoc before (y ∷ t.0) (t.1 ∷ []))) in
       inr (t.0, t.2 ∙ ap (λ (z : A). t.0 ++ z ∷ []) (sym same.1), same.0)
 ]
 
@@ -39,7 +41,8 @@ record Follows (x : SocketEvent) (sockets next : List Socket) : Type 0 where
   comes : (i c : ℕ) → x ≡ port i (accepted c) → Contains next (at i c)
   stays : (i c : ℕ) → Contains sockets (at i c) → (x ≡ port i (shut c)) ⊎ Contains next (at i c)
 
-more : (h : List SocketEvent) (x : SocketEvent) (sockets next : List Socket) → Follows x sockets next → NumbersAreApart h × AreAmong sockets h → NumbersAreApart (h ++ x ∷ []) × AreAmong next (h ++ x ∷ [])
+more : (h : List SocketEvent) (x : SocketEvent) (sockets next : List Socket) → Follows x sockets next →
+    NumbersAreApart h × AreAmong sockets h → NumbersAreApart (h ++ x ∷ []) × AreAmong next (h ++ x ∷ [])
 more h x sockets next follows was = (
   (λ i c before between after is.
       let a : SocketEvent = port i (accepted c) in
@@ -57,27 +60,33 @@ more h x sockets next follows was = (
         | inr t ↦ elim (was.1 i c before t.0 t.2) [
           | inl since ↦ inl (subst (λ (es : List SocketEvent). Contains es s) (sym t.1) (Contains-append_left t.0 (x ∷ []) s since))
           | inr here ↦ elim (follows.stays i c here) [
-            | inl closes ↦ inl (subst (λ (es : List SocketEvent). Contains es s) (sym t.1) (subst (λ (e : SocketEvent). Contains (t.0 ++ e ∷ []) s) (sym closes) (Contains-push t.0 s)))
+            | inl closes ↦ inl (subst (λ (es : List SocketEvent). Contains es s) (sym t.1)
+                (subst (λ (e : SocketEvent). Contains (t.0 ++ e ∷ []) s) (sym closes) (Contains-push t.0 s)))
             | inr stays ↦ inr stays
           ]
         ]
       ]),
 )
 
-on_known : (old new : Option (List SocketEvent)) (x : SocketEvent) (sockets next : List Socket) → AddsAll old new (x ∷ []) → Follows x sockets next → AreOpenAt sockets old → AreOpenAt next new
+on_known : (old new : Option (List SocketEvent)) (x : SocketEvent) (sockets next : List Socket) → AddsAll old new (x ∷ []) →
+    Follows x sockets next → AreOpenAt sockets old → AreOpenAt next new
 on_known None new x sockets next adds follows was = subst (λ (o : Option (List SocketEvent)). AreOpenAt next o) (sym adds) tt
-on_known (Some h) new x sockets next adds follows was = subst (λ (o : Option (List SocketEvent)). AreOpenAt next o) (sym adds) (more h x sockets next follows was)
+on_known (Some h) new x sockets next adds follows was =
+    subst (λ (o : Option (List SocketEvent)). AreOpenAt next o) (sym adds) (more h x sockets next follows was)
 
-on : (old new : Option (List SocketEvent)) (x : SocketEvent) (sockets next : List Socket) → Adds old new (x ∷ []) → Follows x sockets next → AreOpenAt sockets old → AreOpenAt next new
+on : (old new : Option (List SocketEvent)) (x : SocketEvent) (sockets next : List Socket) → Adds old new (x ∷ []) → Follows x sockets next →
+    AreOpenAt sockets old → AreOpenAt next new
 on old new x sockets next adds follows was = elim adds [
   | inl lost ↦ subst (λ (o : Option (List SocketEvent)). AreOpenAt next o) (sym lost) tt
   | inr all ↦ on_known old new x sockets next all follows was
 ]
 
 -- nothing happened
-none_known : (old new : Option (List SocketEvent)) (sockets : List Socket) → AddsAll old new [] → AreOpenAt sockets old → AreOpenAt sockets new
+none_known : (old new : Option (List SocketEvent)) (sockets : List Socket) → AddsAll old new [] → AreOpenAt sockets old →
+    AreOpenAt sockets new
 none_known None new sockets adds was = subst (λ (o : Option (List SocketEvent)). AreOpenAt sockets o) (sym adds) tt
-none_known (Some h) new sockets adds was = subst (λ (o : Option (List SocketEvent)). AreOpenAt sockets o) (sym (adds ∙ ap Some (append-nil h))) was
+none_known (Some h) new sockets adds was = subst (λ (o : Option (List SocketEvent)). AreOpenAt sockets o)
+    (sym (adds ∙ ap Some (append-nil h))) was
 
 -- whichever are open, they stay so
 abbrev pub AllStay : Option (List SocketEvent) → Option (List SocketEvent) → Type 0
@@ -97,22 +106,29 @@ no_event (Some h) = inr (ap Some (sym (append-nil h)))
 -- ---- by what happened
 
 pub clock_stays : (old new : Option (List SocketEvent)) (n : ℕ) → Adds old new (clock n ∷ []) → AllStay old new
-clock_stays old new n adds = λ sockets. on old new (clock n) sockets sockets adds (record { free = λ i c is. cc; comes = λ i c is. cc; stays = λ i c here. inr here })
+clock_stays old new n adds = λ sockets. on old new (clock n) sockets sockets adds
+    (record { free = λ i c is. cc; comes = λ i c is. cc; stays = λ i c here. inr here })
 
 pub failed_stays : (old new : Option (List SocketEvent)) (j d : ℕ) → Adds old new (failed j d ∷ []) → AllStay old new
-failed_stays old new j d adds = λ sockets. on old new (failed j d) sockets sockets adds (record { free = λ i c is. cc; comes = λ i c is. cc; stays = λ i c here. inr here })
+failed_stays old new j d adds = λ sockets. on old new (failed j d) sockets sockets adds
+    (record { free = λ i c is. cc; comes = λ i c is. cc; stays = λ i c here. inr here })
 
-pub read_stays : (old new : Option (List SocketEvent)) (j d : ℕ) (bytes : List ℕ) → Adds old new (port j (PortEvent.read d bytes) ∷ []) → AllStay old new
-read_stays old new j d bytes adds = λ sockets. on old new (port j (PortEvent.read d bytes)) sockets sockets adds (record { free = λ i c is. cc; comes = λ i c is. cc; stays = λ i c here. inr here })
+pub read_stays : (old new : Option (List SocketEvent)) (j d : ℕ) (bytes : List ℕ) → Adds old new (port j (PortEvent.read d bytes) ∷ []) →
+    AllStay old new
+read_stays old new j d bytes adds = λ sockets. on old new (port j (PortEvent.read d bytes)) sockets sockets adds
+    (record { free = λ i c is. cc; comes = λ i c is. cc; stays = λ i c here. inr here })
 
-pub written_stays : (old new : Option (List SocketEvent)) (j d : ℕ) (bytes : List ℕ) → Adds old new (port j (PortEvent.written d bytes) ∷ []) → AllStay old new
-written_stays old new j d bytes adds = λ sockets. on old new (port j (PortEvent.written d bytes)) sockets sockets adds (record { free = λ i c is. cc; comes = λ i c is. cc; stays = λ i c here. inr here })
+pub written_stays : (old new : Option (List SocketEvent)) (j d : ℕ) (bytes : List ℕ) →
+    Adds old new (port j (PortEvent.written d bytes) ∷ []) → AllStay old new
+written_stays old new j d bytes adds = λ sockets. on old new (port j (PortEvent.written d bytes)) sockets sockets adds
+    (record { free = λ i c is. cc; comes = λ i c is. cc; stays = λ i c here. inr here })
 
 -- one that is closed
 no_one : (s : Socket) → Contains [] s → ⊥
 no_one s here = let lt = here.1 in absurd (omega (arith, lt))
 
-shut_follows : (s : Socket) (before after : List Socket) → Follows (port s.instance (shut s.connection)) (before ++ s ∷ after) (before ++ after)
+shut_follows : (s : Socket) (before after : List Socket) →
+    Follows (port s.instance (shut s.connection)) (before ++ s ∷ after) (before ++ after)
 shut_follows s before after = record {
   free = λ i c is. cc;
   comes = λ i c is. cc;
@@ -128,8 +144,10 @@ shut_follows s before after = record {
   ];
 }
 
-pub shut_closes : (old new : Option (List SocketEvent)) (s : Socket) → Adds old new (port s.instance (shut s.connection) ∷ []) → (before after : List Socket) → AreOpenAt (before ++ s ∷ after) old → AreOpenAt (before ++ after) new
-shut_closes old new s adds = λ before after. on old new (port s.instance (shut s.connection)) (before ++ s ∷ after) (before ++ after) adds (shut_follows s before after)
+pub shut_closes : (old new : Option (List SocketEvent)) (s : Socket) → Adds old new (port s.instance (shut s.connection) ∷ []) →
+    (before after : List Socket) → AreOpenAt (before ++ s ∷ after) old → AreOpenAt (before ++ after) new
+shut_closes old new s adds = λ before after. on old new (port s.instance (shut s.connection)) (before ++ s ∷ after) (before ++ after) adds
+    (shut_follows s before after)
 
 -- ---- one that is accepted
 
@@ -139,18 +157,22 @@ socket_of e = at 0 0
 
 not_taken : (i n : ℕ) (sockets : List Socket) → is_taken n sockets ≡ false → Contains sockets (at i n) → ⊥
 not_taken i n sockets free here =
-    let taken : is_taken n sockets ≡ true = list_any_at (λ (s : Socket). s.connection == n) sockets here.0 (at i n) here.1 (ap (λ (s : Socket). s.connection == n) here.2 ∙ eq-eqb n n refl) in
+    let taken : is_taken n sockets ≡ true = list_any_at (λ (s : Socket). s.connection == n) sockets here.0 (at i n) here.1
+    (ap (λ (s : Socket). s.connection == n) here.2 ∙ eq-eqb n n refl) in
     true≢false (sym taken ∙ free)
 
-accepted_follows : (i n : ℕ) (sockets : List Socket) → is_taken n sockets ≡ false → Follows (port i (accepted n)) sockets (sockets ++ at i n ∷ [])
+accepted_follows : (i n : ℕ) (sockets : List Socket) → is_taken n sockets ≡ false →
+    Follows (port i (accepted n)) sockets (sockets ++ at i n ∷ [])
 accepted_follows i n sockets free = record {
   free = λ j c is here. not_taken i n sockets free (subst (λ (s : Socket). Contains sockets s) (sym (ap socket_of is)) here);
   comes = λ j c is. subst (λ (s : Socket). Contains (sockets ++ at i n ∷ []) s) (ap socket_of is) (Contains-push sockets (at i n));
   stays = λ j c here. inr (Contains-append_left sockets (at i n ∷ []) (at j c) here);
 }
 
-pub accepted_among : (old new : Option (List SocketEvent)) (i n : ℕ) (sockets : List Socket) → Adds old new (port i (accepted n) ∷ []) → is_taken n sockets ≡ false → AreOpenAt sockets old → AreOpenAt (sockets ++ at i n ∷ []) new
-accepted_among old new i n sockets adds free was = on old new (port i (accepted n)) sockets (sockets ++ at i n ∷ []) adds (accepted_follows i n sockets free) was
+pub accepted_among : (old new : Option (List SocketEvent)) (i n : ℕ) (sockets : List Socket) → Adds old new (port i (accepted n) ∷ []) →
+    is_taken n sockets ≡ false → AreOpenAt sockets old → AreOpenAt (sockets ++ at i n ∷ []) new
+accepted_among old new i n sockets adds free was =
+    on old new (port i (accepted n)) sockets (sockets ++ at i n ∷ []) adds (accepted_follows i n sockets free) was
 
 -- ---- at the beginning
 

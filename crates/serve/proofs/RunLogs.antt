@@ -17,7 +17,8 @@ both_true true b h = (refl, h)
 both_true false b h = absurd (true≢false (sym h))
 
 -- keys that are the same
-pub begun_by : (e : RunRecord) (a b : RunKey) (t : TaskCopy) (r : Bool) → e ≡ Begun a t → r ≡ (a.instance == b.instance && a.job == b.job) → IsTrue r → (x : TaskValue) × (run_event e ≡ ordered b.instance (start b.job x))
+pub begun_by : (e : RunRecord) (a b : RunKey) (t : TaskCopy) (r : Bool) → e ≡ Begun a t → r ≡ (a.instance == b.instance && a.job == b.job) →
+    IsTrue r → (x : TaskValue) × (run_event e ≡ ordered b.instance (start b.job x))
 begun_by e a b t r is same holds =
     let both = both_true (a.instance == b.instance) (a.job == b.job) (sym same ∙ holds) in (
       task_copied t,
@@ -26,7 +27,8 @@ begun_by e a b t r is same holds =
     )
 
 -- the first record says it
-pub begun_first : (run : RunKey) (left : List RunRecord) (o : RunRecord) → 1 ≤ length left → o ≡ get_or left 0 o → ((task : TaskValue) × (run_event o ≡ ordered run.instance (start run.job task))) → IsBegun run (run_events left)
+pub begun_first : (run : RunKey) (left : List RunRecord) (o : RunRecord) → 1 ≤ length left → o ≡ get_or left 0 o →
+    ((task : TaskValue) × (run_event o ≡ ordered run.instance (start run.job task))) → IsBegun run (run_events left)
 begun_first run left o le first it = record {
   task = it.0;
   before = [];
@@ -36,7 +38,8 @@ begun_first run left o le first it = record {
 }
 
 -- one behind it does
-pub begun_later : (run : RunKey) (left : List RunRecord) (o : RunRecord) → 1 ≤ length left → o ≡ get_or left 0 o → IsBegun run (run_events (take (length left - 1) (drop 1 left))) → IsBegun run (run_events left)
+pub begun_later : (run : RunKey) (left : List RunRecord) (o : RunRecord) → 1 ≤ length left → o ≡ get_or left 0 o →
+    IsBegun run (run_events (take (length left - 1) (drop 1 left))) → IsBegun run (run_events left)
 begun_later run left o le first it = record {
   task = it.task;
   before = run_event o ∷ it.before;

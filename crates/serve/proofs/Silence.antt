@@ -14,7 +14,8 @@ IsLongestBefore n i m l sockets None heard =
     (heard ≡ m) × ((k : ℕ) (s : OpenSocket) → k < n → slice_get sockets k ≡ Some s → MayMakeRoom i m l s → ⊥)
 IsLongestBefore n i m l sockets (Some p) heard =
     (p < n) × ((s : OpenSocket) × (slice_get sockets p ≡ Some s) × (s.heard ≡ heard) × MayMakeRoom i m l s)
-    × ((k : ℕ) (s : OpenSocket) → k < n → slice_get sockets k ≡ Some s → MayMakeRoom i m l s → (heard ≤ s.heard) × (k < p → heard < s.heard))
+    × ((k : ℕ) (s : OpenSocket) → k < n → slice_get sockets k ≡ Some s → MayMakeRoom i m l s →
+    (heard ≤ s.heard) × (k < p → heard < s.heard))
 
 long : (b : Bool) → 0 < cond b 10000 60000
 long true = omega arith
@@ -22,13 +23,17 @@ long false = omega arith
 
 -- who may make room was not heard now
 heard_before : (i m : ℕ) (l : LoneInstance) (s : OpenSocket) → MayMakeRoom i m l s → s.heard < m
-heard_before i m l s may = let some : 0 < silence_limit s.received = long (nat_lt s.received 24) in let le : silence_limit s.received ≤ m - s.heard = may.1 in omega (arith, some, le)
+heard_before i m l s may = let some : 0 < silence_limit s.received = long (nat_lt s.received 24) in
+    let le : silence_limit s.received ≤ m - s.heard = may.1 in omega (arith, some, le)
 
-no_earlier : (n i m : ℕ) (l : LoneInstance) (sockets : List OpenSocket) (o : Option ℕ) (heard k : ℕ) (s : OpenSocket) → IsLongestBefore n i m l sockets o heard → k < n → slice_get sockets k ≡ Some s → MayMakeRoom i m l s → heard ≤ s.heard
+no_earlier : (n i m : ℕ) (l : LoneInstance) (sockets : List OpenSocket) (o : Option ℕ) (heard k : ℕ) (s : OpenSocket) →
+    IsLongestBefore n i m l sockets o heard → k < n → slice_get sockets k ≡ Some s → MayMakeRoom i m l s → heard ≤ s.heard
 no_earlier n i m l sockets None heard k s so lt is may = absurd (so.1 k s lt is may)
 no_earlier n i m l sockets (Some p) heard k s so lt is may = (so.2 k s lt is may).0
 
-pub longer_found : (n i m : ℕ) (l : LoneInstance) (sockets : List OpenSocket) (o : Option ℕ) (heard : ℕ) (s : OpenSocket) → slice_get sockets n ≡ Some s → s.heard < heard → MayMakeRoom i m l s → IsLongestBefore n i m l sockets o heard → IsLongestBefore (n + 1) i m l sockets (Some n) s.heard
+pub longer_found : (n i m : ℕ) (l : LoneInstance) (sockets : List OpenSocket) (o : Option ℕ) (heard : ℕ) (s : OpenSocket) →
+    slice_get sockets n ≡ Some s → s.heard < heard → MayMakeRoom i m l s → IsLongestBefore n i m l sockets o heard →
+    IsLongestBefore (n + 1) i m l sockets (Some n) s.heard
 longer_found n i m l sockets o heard s at longer may so = (
   omega arith,
   (s, at, refl, may),
@@ -43,7 +48,9 @@ longer_found n i m l sockets o heard s at longer may so = (
   ],
 )
 
-pub passed_by : (n i m : ℕ) (l : LoneInstance) (sockets : List OpenSocket) (o : Option ℕ) (heard : ℕ) (s : OpenSocket) → slice_get sockets n ≡ Some s → (MayMakeRoom i m l s → heard ≤ s.heard) → IsLongestBefore n i m l sockets o heard → IsLongestBefore (n + 1) i m l sockets o heard
+pub passed_by : (n i m : ℕ) (l : LoneInstance) (sockets : List OpenSocket) (o : Option ℕ) (heard : ℕ) (s : OpenSocket) →
+    slice_get sockets n ≡ Some s → (MayMakeRoom i m l s → heard ≤ s.heard) → IsLongestBefore n i m l sockets o heard →
+    IsLongestBefore (n + 1) i m l sockets o heard
 passed_by n i m l sockets None heard s at late so = (
   so.0,
   λ k q lt is may. elim (cases_eq k n) [
@@ -73,10 +80,13 @@ pub further : (n : ℕ) (o : Option ℕ) → IfSome o (λ p. p < n) → IfSome o
 further n None is = tt
 further n (Some p) is = omega (arith, is)
 
-pub found : (n i m : ℕ) (l : LoneInstance) (sockets : List OpenSocket) (o : Option ℕ) (heard : ℕ) → (all : (k : ℕ) (s : OpenSocket) → slice_get sockets k ≡ Some s → k < n) → IsLongestBefore n i m l sockets o heard → IsLongestSilent i m l sockets o
+pub found : (n i m : ℕ) (l : LoneInstance) (sockets : List OpenSocket) (o : Option ℕ) (heard : ℕ) →
+    (all : (k : ℕ) (s : OpenSocket) → slice_get sockets k ≡ Some s → k < n) → IsLongestBefore n i m l sockets o heard →
+    IsLongestSilent i m l sockets o
 found n i m l sockets None heard all so = λ k s is may. so.1 k s (all k s is) is may
 found n i m l sockets (Some p) heard all so =
     let s : OpenSocket = so.1.0 in
     let rest : IsSilentLongerThan i m l sockets p s = λ k q is may.
     subst (λ (x : ℕ). (x ≤ q.heard) × (k < p → x < q.heard)) (sym so.1.2) (so.2 k q (all k q is) is may) in
-    subst (λ (x : Option OpenSocket). IsSomeAnd x (λ t. MayMakeRoom i m l t × IsSilentLongerThan i m l sockets p t)) (sym so.1.1) (so.1.3, rest)
+    subst (λ (x : Option OpenSocket). IsSomeAnd x (λ t. MayMakeRoom i m l t × IsSilentLongerThan i m l sockets p t)) (sym so.1.1)
+    (so.1.3, rest)

@@ -60,7 +60,8 @@ record NoneAt (c : ℕ) (k : LoneConnection) (ks : List LoneConnection) : Type 0
   here : is_open_at c k ≡ false
   later : open_at c ks ≡ None
 
-none_if : (c : ℕ) (k : LoneConnection) (ks : List LoneConnection) (b : Bool) → is_open_at c k ≡ b → cond b (Some k.past) (open_at c ks) ≡ None → NoneAt c k ks
+none_if : (c : ℕ) (k : LoneConnection) (ks : List LoneConnection) (b : Bool) → is_open_at c k ≡ b →
+    cond b (Some k.past) (open_at c ks) ≡ None → NoneAt c k ks
 none_if c k ks true at h = absurd (none-some k.past (sym h))
 none_if c k ks false off h = record { here = off; later = h }
 
@@ -100,7 +101,8 @@ fits_open c p (w ∷ ws) (k ∷ ks) f at = elim f [
   | inl skip ↦ or_right (w.0 == c) (is_among c ws) (fits_open c p ws (k ∷ ks) skip.1 at)
   | inr is ↦ elim (cases_Bool (is_open_at c k)) [
     | inl here ↦ or_left (w.0 == c) (is_among c ws) (ap (λ (n : ℕ). n == c) is.0.number ∙ second_true k.is_open (k.number == c) here)
-    | inr off ↦ or_right (w.0 == c) (is_among c ws) (fits_open c p ws ks is.1 (sym (pick_false (is_open_at c k) (Some k.past) (open_at c ks) off) ∙ at))
+    | inr off ↦ or_right (w.0 == c) (is_among c ws)
+        (fits_open c p ws ks is.1 (sym (pick_false (is_open_at c k) (Some k.past) (open_at c ks) off) ∙ at))
   ]
 ]
 
@@ -113,7 +115,8 @@ is_grown : (w : Written) (ws : List Written) (k m : LoneConnection) → HasGrown
 is_grown w ws k m g is = record {
   number = is.number ∙ sym g.number;
   more = is.more ++ bytes_put g.past.more;
-  bytes = ap bytes_put g.past.history ∙ bytes_both k.past.history g.past.more ∙ ap (λ (bs : List ℕ). bs ++ bytes_put g.past.more) is.bytes ∙ append_assoc w.1 is.more (bytes_put g.past.more);
+  bytes = ap bytes_put g.past.history ∙ bytes_both k.past.history g.past.more ∙ ap (λ (bs : List ℕ). bs ++ bytes_put g.past.more) is.bytes
+      ∙ append_assoc w.1 is.more (bytes_put g.past.more);
   taken = ap count_taken g.past.history ∙ sum_by-append count_taken_by k.past.history g.past.more ∙ omega (arith, g.past.quiet, is.taken);
   last = λ open_still. subst (λ (n : ℕ). is_among n ws ≡ false) (sym g.number) (is.last (sym g.is_open ∙ open_still));
 }
@@ -136,9 +139,17 @@ abbrev shut_one : LoneConnection → LoneConnection
 shut_one k = record k { is_open = false }
 
 is_closed : (w : Written) (ws : List Written) (k : LoneConnection) → IsWrittenOn w ws k → IsWrittenOn w ws (shut_one k)
-is_closed w ws k is = record { number = is.number; more = is.more; bytes = is.bytes; taken = is.taken; last = λ open_still. absurd (true≢false (sym open_still)) }
+is_closed w ws k is = record {
+  number = is.number;
+  more = is.more;
+  bytes = is.bytes;
+  taken = is.taken;
+  last =
+      λ open_still. absurd (true≢false (sym open_still));
+}
 
-closed_if : (b : Bool) (w : Written) (ws : List Written) (k : LoneConnection) (ks ms : List LoneConnection) → IsWrittenOn w ws k → Fits ws ks → Fits ws ms → Fits (w ∷ ws) (cond b (shut_one k ∷ ks) (k ∷ ms))
+closed_if : (b : Bool) (w : Written) (ws : List Written) (k : LoneConnection) (ks ms : List LoneConnection) → IsWrittenOn w ws k →
+    Fits ws ks → Fits ws ms → Fits (w ∷ ws) (cond b (shut_one k ∷ ks) (k ∷ ms))
 closed_if true w ws k ks ms is f g = inr (is_closed w ws k is, f)
 closed_if false w ws k ks ms is f g = inr (is, g)
 
@@ -165,7 +176,8 @@ fits_all_closed (w ∷ ws) (k ∷ ks) f = elim f [
 not_equal : (b c : ℕ) → (b == c) ≡ false → (c == b) ≡ false
 not_equal b c h = ne_eqb c b (λ same. true≢false (sym (eq-eqb b c (sym same)) ∙ h))
 
-more_after : (c : ℕ) (w : Written) (ws : List Written) (k : LoneConnection) → is_open_at c k ≡ false → IsWrittenOn w ws k → IsWrittenOn w (ws ++ (c, []) ∷ []) k
+more_after : (c : ℕ) (w : Written) (ws : List Written) (k : LoneConnection) → is_open_at c k ≡ false → IsWrittenOn w ws k →
+    IsWrittenOn w (ws ++ (c, []) ∷ []) k
 more_after c w ws k off is = record {
   number = is.number;
   more = is.more;
@@ -191,9 +203,11 @@ abbrev new_at : ℕ → ℕ → LoneConnection
 new_at window c = record { number = c; past = new_past window; is_open = true }
 
 first_at : (window c : ℕ) → IsWrittenOn (c, []) [] (new_at window c)
-first_at window c = let none = nothing_taken window in record { number = refl; more = bytes_put (new_past window).history; bytes = refl; taken = omega (arith, none); last = λ is. refl }
+first_at window c = let none = nothing_taken window in
+    record { number = refl; more = bytes_put (new_past window).history; bytes = refl; taken = omega (arith, none); last = λ is. refl }
 
-pub fits_opened : (window c : ℕ) (ws : List Written) (ks : List LoneConnection) → open_at c ks ≡ None → Fits ws ks → Fits (ws ++ (c, []) ∷ []) (ks ++ new_at window c ∷ [])
+pub fits_opened : (window c : ℕ) (ws : List Written) (ks : List LoneConnection) → open_at c ks ≡ None → Fits ws ks →
+    Fits (ws ++ (c, []) ∷ []) (ks ++ new_at window c ∷ [])
 fits_opened window c [] [] none f = inr (first_at window c, tt)
 fits_opened window c [] (k ∷ ks) none f = absurd f
 fits_opened window c (w ∷ ws) [] none f = inl (f.0, fits_opened window c ws [] none f.1)
@@ -207,40 +221,58 @@ fits_opened window c (w ∷ ws) (k ∷ ks) none f = elim f [
 parted_at : (n : ℕ) (xs : List ℕ) → xs ≡ take n xs ++ drop n xs
 parted_at n xs = sym (take-append-drop n xs)
 
-taken_here : (bytes : List ℕ) (w : Written) (ws : List Written) (k : LoneConnection) → StartsWith (pending_bytes k.past.history) bytes → IsWrittenOn w ws k → IsWrittenOn (w.0, w.1 ++ bytes) ws (record k { past = with_taken k.past (length bytes) })
+taken_here : (bytes : List ℕ) (w : Written) (ws : List Written) (k : LoneConnection) → StartsWith (pending_bytes k.past.history) bytes →
+    IsWrittenOn w ws k → IsWrittenOn (w.0, w.1 ++ bytes) ws (record k { past = with_taken k.past (length bytes) })
 taken_here bytes w ws k starts is =
     let d : List Entry = k.past.history in
     let n : ℕ = length bytes in
-    let waits : pending_bytes d ≡ is.more = ap (λ (m : ℕ). drop m (bytes_put d)) is.taken ∙ ap (drop (length w.1)) is.bytes ∙ drop-append_seam w.1 is.more in
+    let waits : pending_bytes d ≡ is.more = ap (λ (m : ℕ). drop m (bytes_put d)) is.taken ∙ ap (drop (length w.1)) is.bytes
+    ∙ drop-append_seam w.1 is.more in
     let front : take n is.more ≡ bytes = ap (take n) (sym waits) ∙ starts in
     let whole : is.more ≡ bytes ++ drop n is.more = parted_at n is.more ∙ ap (λ (bs : List ℕ). bs ++ drop n is.more) front in
     record {
       number = is.number;
       more = drop n is.more;
-      bytes = bytes_both d (Took n ∷ []) ∙ append-nil (bytes_put d) ∙ is.bytes ∙ ap (λ (bs : List ℕ). w.1 ++ bs) whole ∙ sym (append_assoc w.1 bytes (drop n is.more));
+      bytes = bytes_both d (Took n ∷ []) ∙ append-nil (bytes_put d) ∙ is.bytes ∙ ap (λ (bs : List ℕ). w.1 ++ bs) whole
+          ∙ sym (append_assoc w.1 bytes (drop n is.more));
       taken = took_more d n ∙ omega (arith, is.taken, length-append w.1 bytes);
       last = is.last;
     }
   where
     took_more : (d : List Entry) (n : ℕ) → count_taken (d ++ Took n ∷ []) ≡ count_taken d + n
-    took_more d n = sum_by-append count_taken_by d (Took n ∷ []) ∙ (let e : sum_by count_taken_by (Took n ∷ []) ≡ n = omega arith in omega (arith, e))
+    took_more d n = sum_by-append count_taken_by d (Took n ∷ [])
+        ∙ (let e : sum_by count_taken_by (Took n ∷ []) ≡ n = omega arith in omega (arith, e))
 
-among_if : (d c : ℕ) (bytes : List ℕ) (b : Bool) (w : Written) (ws xs : List Written) → is_among d xs ≡ is_among d ws → is_among d (cond b ((w.0, w.1 ++ bytes) ∷ ws) (w ∷ xs)) ≡ is_among d (w ∷ ws)
+among_if : (d c : ℕ) (bytes : List ℕ) (b : Bool) (w : Written) (ws xs : List Written) → is_among d xs ≡ is_among d ws →
+    is_among d (cond b ((w.0, w.1 ++ bytes) ∷ ws) (w ∷ xs)) ≡ is_among d (w ∷ ws)
 among_if d c bytes true w ws xs same = refl
 among_if d c bytes false w ws xs same = ap (λ (t : Bool). (w.0 == d) || t) same
 
 among_same : (d c : ℕ) (bytes : List ℕ) (ws : List Written) → is_among d (with_written c bytes ws) ≡ is_among d ws
 among_same d c bytes [] = refl
-among_same d c bytes (w ∷ ws) = among_if d c bytes ((w.0 == c) && not (is_among c ws)) w ws (with_written c bytes ws) (among_same d c bytes ws)
+among_same d c bytes (w ∷ ws) = among_if d c bytes ((w.0 == c) && not (is_among c ws)) w ws (with_written c bytes ws)
+    (among_same d c bytes ws)
 
-is_elsewhere : (c : ℕ) (bytes : List ℕ) (w : Written) (ws : List Written) (k : LoneConnection) → IsWrittenOn w ws k → IsWrittenOn w (with_written c bytes ws) k
-is_elsewhere c bytes w ws k is = record { number = is.number; more = is.more; bytes = is.bytes; taken = is.taken; last = λ open_still. among_same k.number c bytes ws ∙ is.last open_still }
+is_elsewhere : (c : ℕ) (bytes : List ℕ) (w : Written) (ws : List Written) (k : LoneConnection) → IsWrittenOn w ws k →
+    IsWrittenOn w (with_written c bytes ws) k
+is_elsewhere c bytes w ws k is = record {
+  number = is.number;
+  more = is.more;
+  bytes = is.bytes;
+  taken = is.taken;
+  last =
+      λ open_still. among_same k.number c bytes ws ∙ is.last open_still;
+}
 
 -- it is not this one
-passed_over : (c : ℕ) (bytes : List ℕ) (w : Written) (ws : List Written) → is_among c ws ≡ true → with_written c bytes (w ∷ ws) ≡ w ∷ with_written c bytes ws
-passed_over c bytes w ws among = pick_false ((w.0 == c) && not (is_among c ws)) ((w.0, w.1 ++ bytes) ∷ ws) (w ∷ with_written c bytes ws) (not_both (w.0 == c) (is_among c ws) among)
+passed_over : (c : ℕ) (bytes : List ℕ) (w : Written) (ws : List Written) → is_among c ws ≡ true →
+    with_written c bytes (w ∷ ws) ≡ w ∷ with_written c bytes ws
+passed_over c bytes w ws among = pick_false ((w.0 == c) && not (is_among c ws)) ((w.0, w.1 ++ bytes) ∷ ws) (w ∷ with_written c bytes ws)
+    (not_both (w.0 == c) (is_among c ws) among)
 
-pub fits_taken : (c : ℕ) (bytes : List ℕ) (p : Past) (ws : List Written) (ks : List LoneConnection) → open_at c ks ≡ Some p → StartsWith (pending_bytes p.history) bytes → Fits ws ks → Fits (with_written c bytes ws) (at_open c (λ q. with_taken q (length bytes)) ks)
+pub fits_taken : (c : ℕ) (bytes : List ℕ) (p : Past) (ws : List Written) (ks : List LoneConnection) → open_at c ks ≡ Some p →
+    StartsWith (pending_bytes p.history) bytes → Fits ws ks →
+    Fits (with_written c bytes ws) (at_open c (λ q. with_taken q (length bytes)) ks)
 fits_taken c bytes p [] [] at starts f = absurd (none-some p at)
 fits_taken c bytes p [] (k ∷ ks) at starts f = absurd f
 fits_taken c bytes p (w ∷ ws) [] at starts f = absurd (none-some p at)
@@ -249,7 +281,8 @@ fits_taken c bytes p (w ∷ ws) (k ∷ ks) at starts f =
     let now : LoneConnection = record k { past = step k.past } in
     elim f [
       | inl skip ↦
-          subst (λ (xs : List Written). Fits xs (at_open c step (k ∷ ks))) (sym (passed_over c bytes w ws (fits_open c p ws (k ∷ ks) skip.1 at)))
+          subst (λ (xs : List Written). Fits xs (at_open c step (k ∷ ks)))
+          (sym (passed_over c bytes w ws (fits_open c p ws (k ∷ ks) skip.1 at)))
           (skipped w (with_written c bytes ws) (at_open c step (k ∷ ks)) skip.0 (fits_taken c bytes p ws (k ∷ ks) at starts skip.1))
       | inr is ↦ elim (cases_Bool (is_open_at c k)) [
         | inl here ↦
@@ -258,15 +291,25 @@ fits_taken c bytes p (w ∷ ws) (k ∷ ks) at starts f =
             let number : (w.0 == c) ≡ true = ap (λ (n : ℕ). n == c) is.0.number ∙ same in
             let none : is_among c ws ≡ false = subst (λ (n : ℕ). is_among n ws ≡ false) (eqb-true k.number c same) (is.0.last is_open) in
             let past : k.past ≡ p = same_Some k.past p (sym (pick_true (is_open_at c k) (Some k.past) (open_at c ks) here) ∙ at) in
-            let first : with_written c bytes (w ∷ ws) ≡ (w.0, w.1 ++ bytes) ∷ ws = pick_true ((w.0 == c) && not (is_among c ws)) ((w.0, w.1 ++ bytes) ∷ ws) (w ∷ with_written c bytes ws) (both_true (w.0 == c) (not (is_among c ws)) number (ap not none)) in
-            let it : Fits ((w.0, w.1 ++ bytes) ∷ ws) (now ∷ ks) = inr (taken_here bytes w ws k (subst (λ (q : Past). StartsWith (pending_bytes q.history) bytes) (sym past) starts) is.0, is.1) in
+            let first : with_written c bytes (w ∷ ws) ≡ (w.0, w.1 ++ bytes) ∷ ws =
+            pick_true ((w.0 == c) && not (is_among c ws)) ((w.0, w.1 ++ bytes) ∷ ws) (w ∷ with_written c bytes ws)
+            (both_true (w.0 == c) (not (is_among c ws)) number (ap not none)) in
+            let it : Fits ((w.0, w.1 ++ bytes) ∷ ws) (now ∷ ks) =
+            inr (
+              taken_here bytes w ws k (subst (λ (q : Past). StartsWith (pending_bytes q.history) bytes) (sym past) starts) is.0,
+              is.1,
+            ) in
             subst (λ (xs : List Written). Fits xs (at_open c step (k ∷ ks))) (sym first)
-            (subst (λ (ms : List LoneConnection). Fits ((w.0, w.1 ++ bytes) ∷ ws) ms) (sym (pick_true (is_open_at c k) (now ∷ ks) (k ∷ at_open c step ks) here)) it)
+            (subst (λ (ms : List LoneConnection). Fits ((w.0, w.1 ++ bytes) ∷ ws) ms)
+            (sym (pick_true (is_open_at c k) (now ∷ ks) (k ∷ at_open c step ks) here)) it)
         | inr off ↦
             let there : open_at c ks ≡ Some p = sym (pick_false (is_open_at c k) (Some k.past) (open_at c ks) off) ∙ at in
-            let it : Fits (w ∷ with_written c bytes ws) (k ∷ at_open c step ks) = inr (is_elsewhere c bytes w ws k is.0, fits_taken c bytes p ws ks there starts is.1) in
-            subst (λ (xs : List Written). Fits xs (at_open c step (k ∷ ks))) (sym (passed_over c bytes w ws (fits_open c p ws ks is.1 there)))
-            (subst (λ (ms : List LoneConnection). Fits (w ∷ with_written c bytes ws) ms) (sym (pick_false (is_open_at c k) (now ∷ ks) (k ∷ at_open c step ks) off)) it)
+            let it : Fits (w ∷ with_written c bytes ws) (k ∷ at_open c step ks) =
+            inr (is_elsewhere c bytes w ws k is.0, fits_taken c bytes p ws ks there starts is.1) in
+            subst (λ (xs : List Written). Fits xs (at_open c step (k ∷ ks)))
+            (sym (passed_over c bytes w ws (fits_open c p ws ks is.1 there)))
+            (subst (λ (ms : List LoneConnection). Fits (w ∷ with_written c bytes ws) ms)
+            (sym (pick_false (is_open_at c k) (now ∷ ks) (k ∷ at_open c step ks) off)) it)
       ]
     ]
 

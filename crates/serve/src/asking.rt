@@ -203,7 +203,8 @@ pub(crate) fn ask_all<S: Sockets, R: Runs, E: Write>(
 {
     ask_ended(counting, pace, configs, sockets, runs, errors, moment);
     pace.leave_out(sockets.passed());
-    let most = most_passed(runs.count(), runs.is_busy(), pace.is_due());
+    let is_busy = pace.is_busy(runs);
+    let most = most_passed(runs.count(), is_busy, pace.is_due());
     let mut passed: usize = 0;
     for _ in 0..most {
         passed = passed.saturating_add(runs.pass());
@@ -222,5 +223,6 @@ pub(crate) fn ask_all<S: Sockets, R: Runs, E: Write>(
             break;
         }
     }
-    pace.goes_on(runs.is_busy())
+    let is_busy = pace.is_busy(runs);
+    pace.goes_on(is_busy)
 }

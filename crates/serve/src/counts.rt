@@ -97,6 +97,17 @@ impl InstanceCounts {
         }
     }
 
+    /// How often a job began or ended, or it may have, as memory was refused; from 0 on again behind
+    /// 2^64 - 1.
+    pub fn job_changes(&self) -> u64 {
+        let begun = self.started.wrapping_add(self.killed);
+        let ended = self.succeeded.wrapping_add(self.failed);
+        begun
+            .wrapping_add(ended)
+            .wrapping_add(self.not_run)
+            .wrapping_add(self.cut)
+    }
+
     /// The count of what happened. An error code past the last has that of the last.
     fn count_of(&mut self, occurrence: Occurrence) -> &mut u64 {
         match occurrence {
@@ -137,6 +148,14 @@ impl ServeCounts {
     /// What happened at each, in the order of their numbers.
     pub fn instances(&self) -> &[InstanceCounts] {
         &self.instances
+    }
+
+    /// How often a job of an instance began or ended, or it may have; from 0 on again behind 2^64 - 1.
+    pub(crate) fn job_changes(&self, instance: u32) -> u64 {
+        match self.instances.get(instance as usize) {
+            Some(counts) => counts.job_changes(),
+            None => 0,
+        }
     }
 
     /// One more thing happened at an instance.

@@ -159,6 +159,10 @@ fn receive_all<S: Sockets, R: Runs>(
     ensures over { result ≡ Tried.Over → IsGoneAt opened.old.socket (S.happened sockets.new) }
     ensures socket { opened.new.socket ≡ opened.old.socket }
 {
+    // To find out how much may be read takes longer than to find that nothing came.
+    if !sockets.may_read(opened.socket) {
+        return Tried::NotReady;
+    }
     let mut tried = Tried::NotReady;
     let end = opened.received().saturating_add(MOST_READ);
     for _ in 0..MOST_PIECES {

@@ -8,6 +8,7 @@ ghost use Rattle.serve.specs.KeepsServing.{most_counted};
 ghost use Rattle.serve.specs.Reads.{HasSeveralHalves, frame_rest};
 ghost use Rattle.serve.specs.Silence.{MayMakeRoom, IsLongestSilent};
 
+use crate::counts::ServeCounts;
 use crate::frame_course::FrameCourse;
 use crate::sockets::{Socket, Sockets};
 use server_core::Server;
@@ -16,7 +17,7 @@ use server_core::Server;
 const BUSY_TIME: u64 = 20;
 
 /// After so many milliseconds a connection is tried, though nothing was told at its port.
-const QUIET_TIME: u64 = 16;
+const QUIET_TIME: u64 = 1_000;
 
 /// For how many milliseconds no byte came from a client, where its connection may make room.
 const SILENCE_LIMIT: u64 = 60_000;
@@ -35,7 +36,7 @@ pub(crate) struct OpenSocket {
     pub(crate) moved: u64,
     /// When it was tried last.
     pub(crate) tried: u64,
-    /// What the news of its port were before that, where no job could put bytes on it.
+    /// What the news of its port and its jobs were before that.
     pub(crate) news: Option<u64>,
     /// When a byte came last, or it was opened.
     heard: u64,
@@ -68,7 +69,7 @@ impl OpenSocket {
         moment.saturating_sub(self.moved) <= BUSY_TIME || moment != self.tried
     }
 
-    /// Whether it need not be tried now, with these news of its port: nothing moved on it for long,
+    /// Whether it need not be tried now, with these news: nothing moved on it for long,
     /// and nothing was told there since it was tried.
     pub(crate) fn is_quiet(&self, moment: u64, news: u64) -> bool {
         self.news == Some(news)
@@ -138,24 +139,13 @@ impl OpenSocket {
     }
 }
 
-/// The news of an instance's port; none where jobs of it wait or run: what ends these puts bytes on
-/// connections of which nothing comes.
-pub(crate) fn news_of<S: Sockets>(server: &Server, sockets: &S, instance: u32) -> Option<u64> {
-    if has_jobs(server, instance) {
-        return None;
-    }
-    Some(sockets.news(instance))
-}
-
-/// Whether jobs of an instance wait or run.
-fn has_jobs(server: &Server, instance: u32) -> bool {
-    match server.instance(instance) {
-        Some(served) => {
-            let sizes = served.instance().sizes();
-            sizes.waiting > 0 || sizes.running > 0
-        }
-        None => false,
-    }
+/// A number that is another one once something more was told of an instance's port, or of a
+/// connection there, or a job of the instance began or ended: that puts bytes on connections of
+/// which nothing comes.
+pub(crate) fn news_of<S: Sockets>(counts: &ServeCounts, sockets: &S, instance: u32) -> u64 {
+    sockets
+        .news(instance)
+        .wrapping_add(counts.job_changes(instance))
 }
 
 /// Whether few bytes may end messages of two calls on a connection, or more: each may want no more

@@ -16,7 +16,7 @@ ghost use Rattle.std.specs.Prelude.{◌≡◌, ◌≢◌, ◌≤◌, ◌<◌, �
 ghost use Rattle.serve.specs.Pace.{AreChargedAtMost, IsOwed, MayHaveMore, most_charged};
 
 use crate::exchange::Tried;
-use crate::runs::Doing;
+use crate::runs::{Doing, Runs};
 use crate::share::{DEAR, MOST_REST, Share, UNUSED, Work, charged_of};
 use crate::sockets::{ProcessorTime, Sockets};
 use std::alloc::{AllocError, Global};
@@ -47,6 +47,9 @@ const MOST_ASKED: u64 = 1_000;
 
 /// How many runs are asked at most in a millisecond of those that wait for folders.
 const MOST_WAITING: usize = 64;
+
+/// Behind how many tries in vain the clock is read.
+const MOST_IN_VAIN: u64 = 16;
 
 /// Lets no instance have all the time.
 #[derive(Drop)]
@@ -87,6 +90,10 @@ pub(crate) struct Pace {
     has_gone_on: bool,
     /// Whether anything came of one.
     has_told: bool,
+    /// How many runs there were when none could go on at once, where that was found last.
+    idle_runs: Option<usize>,
+    /// How many connections were tried at which nothing was ready.
+    in_vain: u64,
     /// Whether a dear piece ended this turn.
     is_spent: bool,
     /// The place of the connection from which on those of the heavy one are tried.
@@ -115,6 +122,8 @@ impl Pace {
             asked: 0,
             has_gone_on: false,
             has_told: false,
+            idle_runs: None,
+            in_vain: 0,
             is_spent: false,
             from: 0,
         })
@@ -392,6 +401,20 @@ impl Pace {
         self.has_told = self.has_told || is_told;
     }
 
+    /// Whether a run can go on at once. Where none could, none can until one comes, is asked, or is
+    /// ended: the last is noticed when those are due that wait. So not each turn looks at all.
+    pub(crate) fn is_busy<R: Runs>(&mut self, runs: &R) -> bool
+        ensures shares { self.new.shares ≡ self.old.shares }
+    {
+        let is_known = !self.is_due && !self.has_gone_on;
+        if is_known && self.idle_runs == Some(runs.count()) {
+            return false;
+        }
+        let is_busy = runs.is_busy();
+        self.idle_runs = if is_busy { None } else { Some(runs.count()) };
+        is_busy
+    }
+
     /// Whether runs are a reason to wait for nothing behind this turn, where one can go on or none
     /// can: anything came of one, or one was asked that could go on. One that may not be asked yet
     /// is none.
@@ -465,6 +488,11 @@ impl Pace {
             ≡ slice_get self.old.shares.items other }
     {
         if tried == Tried::NotReady {
+            // What such tries take is nobody's, nor that of whoever comes next.
+            self.in_vain = self.in_vain.wrapping_add(1);
+            if self.in_vain % MOST_IN_VAIN == 0 {
+                self.passed = sockets.passed();
+            }
             return;
         }
         let _charged = self.charge(sockets, sockets.passed(), instance, Work::Exchange);

@@ -350,7 +350,10 @@ impl Serving {
         let instance = open.socket.instance;
         open.is_due(self.moment)
             && self.pace.goes(instance)
-            && !open.is_quiet(self.moment, sockets.news(instance))
+            && !open.is_quiet(
+                self.moment,
+                news_of(&self.counting.counts, sockets, instance),
+            )
     }
 
     /// The same of those that stand from one place on, and before another.
@@ -382,7 +385,7 @@ impl Serving {
             }
             let mut open = self.connections[at];
             let instance = open.socket.instance;
-            let news = news_of(&self.counting.server, sockets, instance);
+            let news = news_of(&self.counting.counts, sockets, instance);
             self.rooms.until = self.pace.until();
             self.rooms.is_long = self.pace.is_long(instance);
             let (counting, rooms) = (&mut self.counting, &mut self.rooms);
@@ -409,7 +412,7 @@ impl Serving {
                 }
                 Tried::NotReady => {
                     open.tried = self.moment;
-                    open.news = news;
+                    open.news = Some(news);
                     self.connections[at] = open;
                     at += 1;
                 }

@@ -8,7 +8,7 @@ use Rattle.blob_pool.specs.Moves.{no_holders, Holders, Moves}
 use Rattle.grpc_sending.specs.StoredSending.{SourceTexts, AgreeOn}
 use Rattle.instance_core.specs.declared.event.Reply.{Reply}
 use Rattle.instance_core.specs.declared.event.ReplyItem.{ReplyItem}
-use Rattle.instance_core.specs.declared.event.ReplyItem.TheVariants.{Begins, Says, Gives, Ends, Refuses}
+use Rattle.instance_core.specs.declared.event.ReplyItem.TheVariants.{Begins, Says, Tells, Gives, Ends, Refuses}
 use Rattle.instance_core.specs.Answer.{answer, state_after}
 use Rattle.instance_core.specs.Calls.{CallEventValue}
 use Rattle.instance_core.specs.ReplyHolders.{replies_holders}
@@ -40,6 +40,7 @@ items_same : (q : Slots) (items : List ReplyItem) → map (item_by (text_at q)) 
 items_same q [] = refl
 items_same q (Begins ∷ items) = ap (λ (xs : List ReplyItemValue). item_shown q Begins ∷ xs) (items_same q items)
 items_same q (Says bytes ∷ items) = ap (λ (xs : List ReplyItemValue). item_shown q (Says bytes) ∷ xs) (items_same q items)
+items_same q (Tells bytes ∷ items) = ap (λ (xs : List ReplyItemValue). item_shown q (Tells bytes) ∷ xs) (items_same q items)
 items_same q (Gives range ∷ items) = ap (λ (xs : List ReplyItemValue). item_shown q (Gives range) ∷ xs) (items_same q items)
 items_same q (Ends ∷ items) = ap (λ (xs : List ReplyItemValue). item_shown q Ends ∷ xs) (items_same q items)
 items_same q (Refuses refusal ∷ items) = ap (λ (xs : List ReplyItemValue). item_shown q (Refuses refusal) ∷ xs) (items_same q items)
@@ -57,6 +58,7 @@ items_owed : (q : Slots) (items : List ReplyItem) → AllByRecursion IsShortRepl
 items_owed q [] h = tt
 items_owed q (Begins ∷ items) h = (tt, items_owed q items h.1)
 items_owed q (Says bytes ∷ items) h = (h.0, items_owed q items h.1)
+items_owed q (Tells bytes ∷ items) h = (h.0, items_owed q items h.1)
 items_owed q (Gives range ∷ items) h = let some = h.0.some in (omega (arith, some), items_owed q items h.1)
 items_owed q (Ends ∷ items) h = (tt, items_owed q items h.1)
 items_owed q (Refuses refusal ∷ items) h = (tt, items_owed q items h.1)
@@ -69,6 +71,7 @@ items_end : (q : Slots) (items : List ReplyItem) → AllByRecursion IsShortReply
 items_end q [] h = tt
 items_end q (Begins ∷ items) h = (tt, items_end q items h.1)
 items_end q (Says bytes ∷ items) h = (tt, items_end q items h.1)
+items_end q (Tells bytes ∷ items) h = (tt, items_end q items h.1)
 items_end q (Gives range ∷ items) h = (h.0.within, items_end q items h.1)
 items_end q (Ends ∷ items) h = (tt, items_end q items h.1)
 items_end q (Refuses refusal ∷ items) h = (tt, items_end q items h.1)

@@ -11,7 +11,7 @@ use Rattle.conn_core.specs.Past.{Past}
 use Rattle.conn_core.specs.StandsFor.{ConnectionValue}
 use Rattle.instance_core.specs.declared.event.Reply.{Reply}
 use Rattle.instance_core.specs.declared.event.ReplyItem.{ReplyItem}
-use Rattle.instance_core.specs.declared.event.ReplyItem.TheVariants.{Begins, Says, Gives, Ends, Refuses}
+use Rattle.instance_core.specs.declared.event.ReplyItem.TheVariants.{Begins, Says, Tells, Gives, Ends, Refuses}
 use Rattle.instance_core.specs.Replies.{ReplyItemValue, begins, says, gives, ends, refuses, ReplyValue}
 use Rattle.served_instance.specs.Calls.{owed_items, with_items}
 use Rattle.served_instance.specs.StandsFor.{ServedConnection}
@@ -22,6 +22,7 @@ use Rattle.served_instance.specs.Ranges.{range_holders, RangesEndWithin, HaveFew
 abbrev pub item_by : SourceTexts → ReplyItem → ReplyItemValue
 item_by texts Begins = begins
 item_by texts (Says bytes) = says bytes.items
+item_by texts (Tells bytes) = says bytes.value.items
 item_by texts (Gives range) =
     gives (record {
       digest = range.digest;
@@ -42,6 +43,7 @@ with_owed s items texts = with_items s (owed_items (map (item_by texts) items))
 -- a message's length can be written in four bytes, and a range does not end before it begins
 abbrev pub CanBeOwed : ReplyItem → Type 0
 CanBeOwed (Says bytes) = length bytes.items < message_length_limit
+CanBeOwed (Tells bytes) = length bytes.value.items < message_length_limit
 CanBeOwed (Gives range) = range.from ≤ range.until
 CanBeOwed item = Unit {0}
 

@@ -143,6 +143,7 @@ fn owe_item(
     match item {
         ReplyItem::Begins => connection.owe_block(stream, ResponseBlock::Head),
         ReplyItem::Says(bytes) => connection.owe_message(stream, bytes),
+        ReplyItem::Tells(bytes) => connection.owe_shared(stream, bytes),
         ReplyItem::Gives(range) => owe_range(pool, connection, stream, &range),
         ReplyItem::Ends => {
             connection.owe_block(stream, ResponseBlock::Trailers(Status::Success))

@@ -33,17 +33,20 @@ use Rattle.server_core.proofs.Others.{here, pair_le, within_at, others_after, se
 pub nothing_read : (p : Slots) (nobody : ViewValue) → nobody.entries ≡ [] → visible_in p nobody ≡ []
 nothing_read p nobody none = ap (blobs_in p) none
 
-pub texts_are : (p : Slots) (xs : List ServedSlots) (j : ℕ) (x : ServedSlots) → slice_get xs j ≡ Some x → texts_at j (all_in p xs) ≡ visible_in p x.instance.view
+pub texts_are : (p : Slots) (xs : List ServedSlots) (j : ℕ) (x : ServedSlots) → slice_get xs j ≡ Some x →
+    texts_at j (all_in p xs) ≡ visible_in p x.instance.view
 texts_are p xs j x there = ap (λ (o : Option ServedState). option_map_or (λ (v : ServedState). v.state.visible) o []) (here p xs j x there)
 
 -- an instance beside another of the server
-pub beside_other : (p : Slots) (xs : List ServedSlots) (i j : ℕ) (a x : ServedSlots) → j ≢ i → slice_get xs i ≡ Some a → slice_get xs j ≡ Some x → IsServer p xs → IsServedBeside p x.instance.view a
+pub beside_other : (p : Slots) (xs : List ServedSlots) (i j : ℕ) (a x : ServedSlots) → j ≢ i → slice_get xs i ≡ Some a →
+    slice_get xs j ≡ Some x → IsServer p xs → IsServedBeside p x.instance.view a
 beside_other p xs i j a x apart at there s = record {
   counted = λ k. omega (arith, s.exact k, pair_le xs i j a x k (λ e. apart (sym e)) at there);
   named = (within_at p xs j x s.within there).instance.texts.named;
 }
 
-pub acted_reading : (p q : Slots) (bs cs : List Blob) (a b : ServedSlots) (e : LoneEvent) (r : Result (Vec Order Global) EventRefusal) → bs ≡ cs → IsActed p bs a q b e r → IsActed p cs a q b e r
+pub acted_reading : (p q : Slots) (bs cs : List Blob) (a b : ServedSlots) (e : LoneEvent) (r : Result (Vec Order Global) EventRefusal) →
+    bs ≡ cs → IsActed p bs a q b e r → IsActed p cs a q b e r
 acted_reading p q bs cs a b e r same h = subst (λ (ts : List Blob). IsActed p ts a q b e r) same h
 
 -- ---- parents
@@ -51,7 +54,8 @@ acted_reading p q bs cs a b e r same h = subst (λ (ts : List Blob). IsActed p t
 pub parent_got : (parents : List (Option ℕ)) (n : ℕ) (d : Option ℕ) → n < length parents → parent_at n parents ≡ get_or parents n d
 parent_got parents n d lt = ap (option_and_then (λ (o : Option ℕ). o)) (slice_get-get_or parents n d lt)
 
-pub parent_fits : (parents : List (Option ℕ)) (count n : ℕ) (o : Option ℕ) → AreParentsOf count parents → slice_get parents n ≡ Some o → IfSome o (λ p. (p < count) × (p ≢ n))
+pub parent_fits : (parents : List (Option ℕ)) (count n : ℕ) (o : Option ℕ) → AreParentsOf count parents → slice_get parents n ≡ Some o →
+    IfSome o (λ p. (p < count) × (p ≢ n))
 parent_fits parents count n None good is = tt
 parent_fits parents count n (Some p) good is =
     let g = good.others n p is in
@@ -59,23 +63,28 @@ parent_fits parents count n (Some p) good is =
 
 -- ---- what comes of it
 
-module _ (p q : Slots) (parent : List Blob) (xs ys : List ServedSlots) (n : ℕ) (e : LoneEvent) (r : Result (Vec Order Global) EventRefusal) (h : HasActed p parent xs q ys n e r) where
+module _ (p q : Slots) (parent : List Blob) (xs ys : List ServedSlots) (n : ℕ) (e : LoneEvent) (r : Result (Vec Order Global) EventRefusal)
+    (h : HasActed p parent xs q ys n e r) where
   stood : (l : LoneInstance) → StandsAt n (all_in p xs) l → IsServedInstance (served_state_in p h.before) l
   stood l s = stands_here p xs n h.before l h.at s
 
   pub acted_own : r ≢ Err NoMemory → (l : LoneInstance) → StandsAt n (all_in p xs) l → StandsAt n (all_in q ys) (lone_step parent e l)
-  acted_own ne l s = subst (λ (zs : List ServedSlots). StandsAt n (all_in q zs) (lone_step parent e l)) (sym h.is) (stands_after q xs n h.before h.after (lone_step parent e l) h.at (h.acted.stands l (stood l s) ne))
+  acted_own ne l s = subst (λ (zs : List ServedSlots). StandsAt n (all_in q zs) (lone_step parent e l)) (sym h.is)
+      (stands_after q xs n h.before h.after (lone_step parent e l) h.at (h.acted.stands l (stood l s) ne))
 
   pub acted_short : r ≡ Err NoMemory → (l : LoneInstance) → StandsAt n (all_in p xs) l → StandsShortAt n parent e l (all_in q ys)
   acted_short memory l s =
       let t = h.acted.short memory l (stood l s) in
-      let there : StandsAt n (all_in q ys) t.left = subst (λ (zs : List ServedSlots). StandsAt n (all_in q zs) t.left) (sym h.is) (stands_after q xs n h.before h.after t.left h.at t.stands) in
+      let there : StandsAt n (all_in q ys) t.left =
+      subst (λ (zs : List ServedSlots). StandsAt n (all_in q zs) t.left) (sym h.is)
+      (stands_after q xs n h.before h.after t.left h.at t.stands) in
       record { left = t.left; short = t.short; stands = there }
 
   pub acted_settled : OnOk r ((l : LoneInstance) → StandsAt n (all_in p xs) l → AreSettled (lone_step parent e l))
   acted_settled = on_ok_weaker r (λ settled l s. settled l (stood l s)) h.acted.settled
 
-  pub acted_orders : IfOk r (λ orders. (l : LoneInstance) → StandsAt n (all_in p xs) l → OrdersStand n (all_in q ys) orders (lone_orders parent e l))
+  pub acted_orders : IfOk r (λ orders. (l : LoneInstance) → StandsAt n (all_in p xs) l →
+      OrdersStand n (all_in q ys) orders (lone_orders parent e l))
   acted_orders =
       IfOk-weaker r _ _ (λ (orders : Vec Order Global) given l s.
       subst (λ (zs : List ServedSlots). OrdersStand n (all_in q zs) orders (lone_orders parent e l)) (sym h.is)
@@ -83,13 +92,15 @@ module _ (p q : Slots) (parent : List Blob) (xs ys : List ServedSlots) (n : ℕ)
       h.acted.orders
 
   pub acted_others : IsServer p xs → (j : ℕ) → j ≢ n → instance_at j (all_in q ys) ≡ instance_at j (all_in p xs)
-  acted_others s j ne = subst (λ (zs : List ServedSlots). instance_at j (all_in q zs) ≡ instance_at j (all_in p xs)) (sym h.is) (others_after p q xs n h.before h.after h.at s h.acted.moves j ne)
+  acted_others s j ne = subst (λ (zs : List ServedSlots). instance_at j (all_in q zs) ≡ instance_at j (all_in p xs)) (sym h.is)
+      (others_after p q xs n h.before h.after h.at s h.acted.moves j ne)
 
   pub acted_outcome : (l : LoneInstance) → StandsAt n (all_in p xs) l → IsRefusalOutcome r (refusal_of e l)
   acted_outcome l s = h.acted.outcome l (stood l s)
 
   pub acted_refused : IfErr r (λ refusal. refusal ≢ NoMemory → all_in q ys ≡ all_in p xs)
-  acted_refused = subst (λ (zs : List ServedSlots). IfErr r (λ refusal. refusal ≢ NoMemory → all_in q zs ≡ all_in p xs)) (sym h.is) (refused_after r p q xs n h.before h.after h.at h.acted.refused)
+  acted_refused = subst (λ (zs : List ServedSlots). IfErr r (λ refusal. refusal ≢ NoMemory → all_in q zs ≡ all_in p xs)) (sym h.is)
+      (refused_after r p q xs n h.before h.after h.at h.acted.refused)
 
   pub acted_server : IsServer p xs → IsServer q ys
   acted_server s = subst (IsServer q) (sym h.is) (server_after p q xs n h.before h.after h.at s h.acted.moves h.acted.kept h.acted.tidy)
@@ -109,6 +120,8 @@ no_entries (e ∷ es) none =
 -- ---- a server
 
 -- what an instance of it reads
-pub read_is : (n : ℕ) (ps qs : List (Option ℕ)) (us vs : List ServedState) (s : ServerState) → ps ≡ qs → us ≡ vs → record { instances = vs; parents = qs } ≡ s → texts_of_one (parent_at n ps) us ≡ parent_texts n s
+pub read_is : (n : ℕ) (ps qs : List (Option ℕ)) (us vs : List ServedState) (s : ServerState) → ps ≡ qs → us ≡ vs →
+    record { instances = vs; parents = qs } ≡ s → texts_of_one (parent_at n ps) us ≡ parent_texts n s
 read_is n ps qs us vs s parents same is =
-    ap (λ (xs : List (Option ℕ)). texts_of_one (parent_at n xs) us) parents ∙ ap (texts_of_one (parent_at n qs)) same ∙ ap (parent_texts n) is
+    ap (λ (xs : List (Option ℕ)). texts_of_one (parent_at n xs) us) parents ∙ ap (texts_of_one (parent_at n qs)) same
+    ∙ ap (parent_texts n) is

@@ -50,7 +50,8 @@ pub record NoneAt (c : ℕ) (k : LoneConnection) (ks : List LoneConnection) : Ty
 some_none : {A : Type 0} (x : A) → Some x ≡ None → ⊥
 some_none x h = true≢false (ap is_some h)
 
-none_if : (c : ℕ) (k : LoneConnection) (ks : List LoneConnection) (b : Bool) → is_open_at c k ≡ b → cond b (Some k.past) (open_at c ks) ≡ None → NoneAt c k ks
+none_if : (c : ℕ) (k : LoneConnection) (ks : List LoneConnection) (b : Bool) → is_open_at c k ≡ b →
+    cond b (Some k.past) (open_at c ks) ≡ None → NoneAt c k ks
 none_if c k ks true at h = absurd (some_none k.past h)
 none_if c k ks false off h = record { here = off; later = h }
 
@@ -93,19 +94,23 @@ new_at window c = record { number = c; past = new_past window; is_open = true }
 abbrev new_value : ℕ → ℕ → OpenRecord
 new_value c p = record { number = c; place = p; untaken = 0 }
 
-known_opened : (window c p : ℕ) (ks : List LoneConnection) → known_from p (map sent_bytes_on ks ++ (c, []) ∷ []) (ks ++ new_at window c ∷ []) ≡ open_from p ks ++ new_value c (p + length ks) ∷ []
+known_opened : (window c p : ℕ) (ks : List LoneConnection) →
+    known_from p (map sent_bytes_on ks ++ (c, []) ∷ []) (ks ++ new_at window c ∷ []) ≡ open_from p ks ++ new_value c (p + length ks) ∷ []
 known_opened window c p [] =
     let e : p ≡ p + 0 = omega arith in
     let left : ℕ → Values = λ n. let o : OpenRecord = record { number = c; place = p; untaken = 0 - n } in o ∷ [] in
     ap left (nothing_taken window) ∙ ap (λ (n : ℕ). new_value c n ∷ []) e
 known_opened window c p (k ∷ ks) =
     let e : p + 1 + length ks ≡ p + length (k ∷ ks) = omega arith in
-    let later : known_from (p + 1) (map sent_bytes_on ks ++ (c, []) ∷ []) (ks ++ new_at window c ∷ []) ≡ open_from (p + 1) ks ++ new_value c (p + length (k ∷ ks)) ∷ [] =
+    let later : known_from (p + 1) (map sent_bytes_on ks ++ (c, []) ∷ []) (ks ++ new_at window c ∷ []) ≡ open_from (p + 1) ks
+    ++ new_value c (p + length (k ∷ ks)) ∷ [] =
     known_opened window c (p + 1) ks ∙ ap (λ (n : ℕ). open_from (p + 1) ks ++ new_value c n ∷ []) e in
     let more : Values → Values = λ os. os ++ new_value c (p + length (k ∷ ks)) ∷ [] in
     elim (cases_Bool k.is_open) [
-      | inl is ↦ pick_true k.is_open _ _ is ∙ cons_both _ _ _ _ (value_same p k) later ∙ sym (ap more (pick_true k.is_open (open_record p k ∷ open_from (p + 1) ks) (open_from (p + 1) ks) is))
-      | inr is ↦ pick_false k.is_open _ _ is ∙ later ∙ sym (ap more (pick_false k.is_open (open_record p k ∷ open_from (p + 1) ks) (open_from (p + 1) ks) is))
+      | inl is ↦ pick_true k.is_open _ _ is ∙ cons_both _ _ _ _ (value_same p k) later
+          ∙ sym (ap more (pick_true k.is_open (open_record p k ∷ open_from (p + 1) ks) (open_from (p + 1) ks) is))
+      | inr is ↦ pick_false k.is_open _ _ is ∙ later
+          ∙ sym (ap more (pick_false k.is_open (open_record p k ∷ open_from (p + 1) ks) (open_from (p + 1) ks) is))
     ]
 
 none_taken : (c n p : ℕ) (ks : List LoneConnection) → open_at c ks ≡ None → map (record_after_taking c n) (open_from p ks) ≡ open_from p ks
@@ -116,23 +121,30 @@ none_taken c n p (k ∷ ks) h =
     let here : Values = open_record p k ∷ open_from (p + 1) ks in
     let more : Values → Values = λ os. map (record_after_taking c n) os in
     elim (cases_Bool k.is_open) [
-      | inl is ↦ ap more (pick_true k.is_open here (open_from (p + 1) ks) is) ∙ cons_both _ _ _ _ (pick_false (k.number == c) _ _ (other_number c k is none.here)) later ∙ sym (pick_true k.is_open here (open_from (p + 1) ks) is)
-      | inr is ↦ ap more (pick_false k.is_open here (open_from (p + 1) ks) is) ∙ later ∙ sym (pick_false k.is_open here (open_from (p + 1) ks) is)
+      | inl is ↦ ap more (pick_true k.is_open here (open_from (p + 1) ks) is)
+          ∙ cons_both _ _ _ _ (pick_false (k.number == c) _ _ (other_number c k is none.here)) later
+          ∙ sym (pick_true k.is_open here (open_from (p + 1) ks) is)
+      | inr is ↦ ap more (pick_false k.is_open here (open_from (p + 1) ks) is) ∙ later
+          ∙ sym (pick_false k.is_open here (open_from (p + 1) ks) is)
     ]
 
 pub took_more : (d : List Entry) (n : ℕ) → count_taken (d ++ Took n ∷ []) ≡ count_taken d + n
-took_more d n = sum_by-append count_taken_by d (Took n ∷ []) ∙ (let e : sum_by count_taken_by (Took n ∷ []) ≡ n = omega arith in omega (arith, e))
+took_more d n = sum_by-append count_taken_by d (Took n ∷ [])
+    ∙ (let e : sum_by count_taken_by (Took n ∷ []) ≡ n = omega arith in omega (arith, e))
 
 abbrev after_taken : ℕ → LoneConnection → LoneConnection
 after_taken n k = record k { past = with_taken k.past n }
 
-taken_value : (c n p : ℕ) (k : LoneConnection) → (k.number == c) ≡ true → known_value p (sent_bytes_on k) (after_taken n k) ≡ record_after_taking c n (open_record p k)
+taken_value : (c n p : ℕ) (k : LoneConnection) → (k.number == c) ≡ true →
+    known_value p (sent_bytes_on k) (after_taken n k) ≡ record_after_taking c n (open_record p k)
 taken_value c n p k same =
     let f : ℕ → OpenRecord = λ m. record { number = k.number; place = p; untaken = m } in
-    let e : length (bytes_put k.past.history) - count_taken (k.past.history ++ Took n ∷ []) ≡ untaken_count k.past.history - n = omega (arith, took_more k.past.history n, length-drop (count_taken k.past.history) (bytes_put k.past.history)) in
+    let e : length (bytes_put k.past.history) - count_taken (k.past.history ++ Took n ∷ []) ≡ untaken_count k.past.history - n =
+    omega (arith, took_more k.past.history n, length-drop (count_taken k.past.history) (bytes_put k.past.history)) in
     ap f e ∙ sym (pick_true (k.number == c) _ _ same)
 
-known_took : (c n p : ℕ) (ks : List LoneConnection) → AreApart ks → known_from p (map sent_bytes_on ks) (at_open c (λ q. with_taken q n) ks) ≡ map (record_after_taking c n) (open_from p ks)
+known_took : (c n p : ℕ) (ks : List LoneConnection) → AreApart ks →
+    known_from p (map sent_bytes_on ks) (at_open c (λ q. with_taken q n) ks) ≡ map (record_after_taking c n) (open_from p ks)
 known_took c n p [] apart = refl
 known_took c n p (k ∷ ks) apart =
     let rest : Values = open_from (p + 1) ks in
@@ -152,7 +164,9 @@ known_took c n p (k ∷ ks) apart =
       | inr off ↦
           let later = known_took c n (p + 1) ks apart.1 in
           ap known (pick_false (is_open_at c k) yes no off) ∙ elim (cases_Bool k.is_open) [
-            | inl is ↦ pick_true k.is_open _ _ is ∙ cons_both _ _ _ _ (value_same p k ∙ sym (pick_false (k.number == c) _ _ (other_number c k is off))) later ∙ sym (ap more (pick_true k.is_open here rest is))
+            | inl is ↦ pick_true k.is_open _ _ is ∙ cons_both _ _ _ _
+                (value_same p k ∙ sym (pick_false (k.number == c) _ _ (other_number c k is off))) later
+                ∙ sym (ap more (pick_true k.is_open here rest is))
             | inr is ↦ pick_false k.is_open _ _ is ∙ later ∙ sym (ap more (pick_false k.is_open here rest is))
           ]
     ]
@@ -169,11 +183,14 @@ none_gone c p (k ∷ ks) h =
     let here : Values = open_record p k ∷ rest in
     let more : Values → Values = λ os. filter (others c) os in
     elim (cases_Bool k.is_open) [
-      | inl is ↦ ap more (pick_true k.is_open here rest is) ∙ pick_true (others c (open_record p k)) _ _ (ap not (other_number c k is none.here)) ∙ cons_both _ _ _ _ refl later ∙ sym (pick_true k.is_open here rest is)
+      | inl is ↦ ap more (pick_true k.is_open here rest is)
+          ∙ pick_true (others c (open_record p k)) _ _ (ap not (other_number c k is none.here)) ∙ cons_both _ _ _ _ refl later
+          ∙ sym (pick_true k.is_open here rest is)
       | inr is ↦ ap more (pick_false k.is_open here rest is) ∙ later ∙ sym (pick_false k.is_open here rest is)
     ]
 
-pub known_closed : (c p : ℕ) (ks : List LoneConnection) → AreApart ks → known_from p (map sent_bytes_on ks) (with_closed c ks) ≡ filter (others c) (open_from p ks)
+pub known_closed : (c p : ℕ) (ks : List LoneConnection) → AreApart ks →
+    known_from p (map sent_bytes_on ks) (with_closed c ks) ≡ filter (others c) (open_from p ks)
 known_closed c p [] apart = refl
 known_closed c p (k ∷ ks) apart =
     let rest : Values = open_from (p + 1) ks in
@@ -193,13 +210,17 @@ known_closed c p (k ∷ ks) apart =
       | inr off ↦
           let later = known_closed c (p + 1) ks apart.1 in
           ap known (pick_false (is_open_at c k) yes no off) ∙ elim (cases_Bool k.is_open) [
-            | inl is ↦ pick_true k.is_open _ _ is ∙ cons_both _ _ _ _ (value_same p k) later ∙ sym (ap more (pick_true k.is_open here rest is) ∙ pick_true (others c (open_record p k)) _ _ (ap not (other_number c k is off)))
+            | inl is ↦ pick_true k.is_open _ _ is ∙ cons_both _ _ _ _ (value_same p k) later
+                ∙ sym (ap more (pick_true k.is_open here rest is)
+                ∙ pick_true (others c (open_record p k)) _ _ (ap not (other_number c k is off)))
             | inr is ↦ pick_false k.is_open _ _ is ∙ later ∙ sym (ap more (pick_false k.is_open here rest is))
           ]
     ]
 
 -- what is noted of open connections follows an event
-pub known_after : (window : ℕ) (what : WhatValue) (ks : List LoneConnection) → AreApart ks → open_records_after what (length ks) (open_from 0 ks) ≡ known_from 0 (sent_bytes_after what (map sent_bytes_on ks)) (connections_after window what ks)
+pub known_after : (window : ℕ) (what : WhatValue) (ks : List LoneConnection) → AreApart ks →
+    open_records_after what (length ks) (open_from 0 ks)
+    ≡ known_from 0 (sent_bytes_after what (map sent_bytes_on ks)) (connections_after window what ks)
 known_after window (opened c) ks apart =
     let e : 0 + length ks ≡ length ks = omega arith in
     sym (known_opened window c 0 ks ∙ ap (λ (n : ℕ). open_from 0 ks ++ new_value c n ∷ []) e)

@@ -16,14 +16,18 @@ use Rattle.server_core.proofs.Lists.{get-append, get-last, get-pushed}
 abbrev pub Give : List RecordValue → List InstanceOutput → Type 0
 Give records outputs = (i : ℕ) (r : Run) → IsNotedAt i records r → output_at i outputs ≡ Some (output_of_run r)
 
-shown_append : (outputs more : List InstanceOutput) (i : ℕ) (v : InstanceOutputValue) → output_at i outputs ≡ Some v → output_at i (outputs ++ more) ≡ Some v
+shown_append : (outputs more : List InstanceOutput) (i : ℕ) (v : InstanceOutputValue) → output_at i outputs ≡ Some v →
+    output_at i (outputs ++ more) ≡ Some v
 shown_append outputs more i v is = of (slice_get outputs i) refl is
   where
-    of : (o : Option InstanceOutput) → slice_get outputs i ≡ o → option_map instance_output_shown o ≡ Some v → output_at i (outputs ++ more) ≡ Some v
+    of : (o : Option InstanceOutput) → slice_get outputs i ≡ o → option_map instance_output_shown o ≡ Some v →
+        output_at i (outputs ++ more) ≡ Some v
     of None at is' = cc
     of (Some x) at is' = ap (option_map instance_output_shown) (get-append outputs more i x at) ∙ is'
 
-pub outputs_more : (records : List RecordValue) (outputs all : List InstanceOutput) (v : RecordValue) (o : InstanceOutput) → length outputs ≡ length records → all ≡ outputs ++ o ∷ [] → Give records outputs → ((r : Run) → IsRecord v r → instance_output_shown o ≡ output_of_run r) → Give (records ++ v ∷ []) all
+pub outputs_more : (records : List RecordValue) (outputs all : List InstanceOutput) (v : RecordValue) (o : InstanceOutput) →
+    length outputs ≡ length records → all ≡ outputs ++ o ∷ [] → Give records outputs →
+    ((r : Run) → IsRecord v r → instance_output_shown o ≡ output_of_run r) → Give (records ++ v ∷ []) all
 outputs_more records outputs all v o count is give own i r noted =
     elim (get-pushed records v noted.0 i noted.1) [
       | inl old ↦ ap (output_at i) is ∙ shown_append outputs (o ∷ []) i (output_of_run r) (give i r (noted.0, old, noted.2))
@@ -35,7 +39,9 @@ outputs_more records outputs all v o count is give own i r noted =
     ]
 
 -- what a parent gives, if there is one
-pub parent_given : (vs : List ServedState) (records : List RecordValue) (outputs : List InstanceOutput) (parent : Option ℕ) (r : Option Run) → HasParentRun parent vs records r → Give records outputs → parent_output_at parent outputs ≡ option_map output_of_run r
+pub parent_given : (vs : List ServedState) (records : List RecordValue) (outputs : List InstanceOutput) (parent : Option ℕ)
+    (r : Option Run) → HasParentRun parent vs records r → Give records outputs →
+    parent_output_at parent outputs ≡ option_map output_of_run r
 parent_given vs records outputs None r h give = sym (ap (option_map output_of_run) h)
 parent_given vs records outputs (Some p) None h give = absurd h
 parent_given vs records outputs (Some p) (Some r) h give = give p r h.noted

@@ -47,7 +47,8 @@ IsWithin k = k.is_open ≡ true → IsTakenFrom k
 abbrev AreWithin : List LoneConnection → Type 0
 AreWithin ks = AllByRecursion IsWithin ks
 
-within_if : (k : LoneConnection) (ks : List LoneConnection) (b : Bool) → k.is_open ≡ b → AllByRecursion IsTakenFrom (cond b (k ∷ open_ones ks) (open_ones ks)) → IsWithin k × AllByRecursion IsTakenFrom (open_ones ks)
+within_if : (k : LoneConnection) (ks : List LoneConnection) (b : Bool) → k.is_open ≡ b →
+    AllByRecursion IsTakenFrom (cond b (k ∷ open_ones ks) (open_ones ks)) → IsWithin k × AllByRecursion IsTakenFrom (open_ones ks)
 within_if k ks true is h = (λ e. h.0, h.1)
 within_if k ks false is h = (λ e. absurd (true≢false (sym e ∙ is)), h)
 
@@ -57,7 +58,8 @@ all_within (k ∷ ks) h =
     let both = within_if k ks k.is_open refl h in
     (both.0, all_within ks both.1)
 
-taken_if : (k : LoneConnection) (ks : List LoneConnection) (b : Bool) → k.is_open ≡ b → IsWithin k → AllByRecursion IsTakenFrom (open_ones ks) → AllByRecursion IsTakenFrom (cond b (k ∷ open_ones ks) (open_ones ks))
+taken_if : (k : LoneConnection) (ks : List LoneConnection) (b : Bool) → k.is_open ≡ b → IsWithin k →
+    AllByRecursion IsTakenFrom (open_ones ks) → AllByRecursion IsTakenFrom (cond b (k ∷ open_ones ks) (open_ones ks))
 taken_if k ks true is h later = (h is, later)
 taken_if k ks false is h later = later
 
@@ -77,9 +79,17 @@ fronts_same : (ks : List LoneConnection) → AreWithin ks → AreFronts (map sen
 fronts_same [] h = tt
 fronts_same (k ∷ ks) h = (front_same k h.0, fronts_same ks h.1)
 
-fronts_opened : (window c : ℕ) (ks : List LoneConnection) → AreWithin ks → AreFronts (map sent_bytes_on ks ++ (c, []) ∷ []) (ks ++ new_at window c ∷ [])
+fronts_opened : (window c : ℕ) (ks : List LoneConnection) → AreWithin ks →
+    AreFronts (map sent_bytes_on ks ++ (c, []) ∷ []) (ks ++ new_at window c ∷ [])
 fronts_opened window c [] h =
-    let f : IsFront (c, []) (new_at window c) = record { number = refl; more = bytes_put (new_past window).history; bytes = refl; within = λ is. let none = nothing_taken window in omega (arith, none); closed = λ is. absurd (true≢false is) } in
+    let f : IsFront (c, []) (new_at window c) = record {
+      number = refl;
+      more = bytes_put (new_past window).history;
+      bytes = refl;
+      within = λ is. let none = nothing_taken window in
+          omega (arith, none);
+      closed = λ is. absurd (true≢false is);
+    } in
     (f, tt)
 fronts_opened window c (k ∷ ks) h = (front_same k h.0, fronts_opened window c ks h.1)
 
@@ -87,7 +97,8 @@ fronts_opened window c (k ∷ ks) h = (front_same k h.0, fronts_opened window c 
 abbrev pub MayTake : ℕ → ℕ → List LoneConnection → Type 0
 MayTake c n ks = (p : Past) → open_at c ks ≡ Some p → n ≤ untaken_count p.history
 
-front_took : (n : ℕ) (k : LoneConnection) → k.is_open ≡ true → IsWithin k → n ≤ untaken_count k.past.history → IsFront (sent_bytes_on k) (record k { past = with_taken k.past n })
+front_took : (n : ℕ) (k : LoneConnection) → k.is_open ≡ true → IsWithin k → n ≤ untaken_count k.past.history →
+    IsFront (sent_bytes_on k) (record k { past = with_taken k.past n })
 front_took n k is h most =
     let d = k.past.history in
     let same : bytes_put (d ++ Took n ∷ []) ≡ bytes_put d ++ [] = bytes_both d (Took n ∷ []) in
@@ -99,7 +110,8 @@ front_took n k is h most =
       closed = λ e. absurd (true≢false (sym is ∙ e));
     }
 
-fronts_took : (c n : ℕ) (ks : List LoneConnection) → AreWithin ks → MayTake c n ks → AreFronts (map sent_bytes_on ks) (at_open c (λ q. with_taken q n) ks)
+fronts_took : (c n : ℕ) (ks : List LoneConnection) → AreWithin ks → MayTake c n ks →
+    AreFronts (map sent_bytes_on ks) (at_open c (λ q. with_taken q n) ks)
 fronts_took c n [] h may = tt
 fronts_took c n (k ∷ ks) h may =
     let yes = record k { past = with_taken k.past n } ∷ ks in
@@ -115,7 +127,14 @@ fronts_took c n (k ∷ ks) h may =
     ]
 
 front_closed : (k : LoneConnection) → IsFront (sent_bytes_on k) (record k { is_open = false })
-front_closed k = record { number = refl; more = []; bytes = sym (append-nil (bytes_put k.past.history)); within = λ is. absurd (true≢false (sym is)); closed = λ is. refl }
+front_closed k = record {
+  number = refl;
+  more = [];
+  bytes = sym (append-nil (bytes_put k.past.history));
+  within =
+      λ is. absurd (true≢false (sym is));
+  closed = λ is. refl;
+}
 
 pub fronts_closed : (c : ℕ) (ks : List LoneConnection) → AreWithin ks → AreFronts (map sent_bytes_on ks) (with_closed c ks)
 fronts_closed c [] h = tt
@@ -134,7 +153,8 @@ May (opened c) ks = open_at c ks ≡ None
 May (took c n) ks = MayTake c n ks
 May _ ks = Unit {0}
 
-pub fronts_after : (window : ℕ) (what : WhatValue) (ks : List LoneConnection) → AreWithin ks → May what ks → AreFronts (sent_bytes_after what (map sent_bytes_on ks)) (connections_after window what ks)
+pub fronts_after : (window : ℕ) (what : WhatValue) (ks : List LoneConnection) → AreWithin ks → May what ks →
+    AreFronts (sent_bytes_after what (map sent_bytes_on ks)) (connections_after window what ks)
 fronts_after window (opened c) ks h may = fronts_opened window c ks h
 fronts_after window (received c bytes) ks h may = fronts_same ks h
 fronts_after window (took c n) ks h may = fronts_took c n ks h may
@@ -146,7 +166,8 @@ front_grown : (s : ℕ × List ℕ) (k m : LoneConnection) → IsFront s k → H
 front_grown s k m f g = record {
   number = f.number ∙ sym g.number;
   more = f.more ++ bytes_put g.past.more;
-  bytes = ap bytes_put g.past.history ∙ bytes_both k.past.history g.past.more ∙ ap (λ (bs : List ℕ). bs ++ bytes_put g.past.more) f.bytes ∙ append_assoc s.1 f.more (bytes_put g.past.more);
+  bytes = ap bytes_put g.past.history ∙ bytes_both k.past.history g.past.more ∙ ap (λ (bs : List ℕ). bs ++ bytes_put g.past.more) f.bytes
+      ∙ append_assoc s.1 f.more (bytes_put g.past.more);
   within = λ is. omega (arith, taken_grown k m g, f.within (sym g.is_open ∙ is));
   closed = λ is. ap (λ (n : LoneConnection). bytes_put n.past.history) (g.closed (sym g.is_open ∙ is)) ∙ f.closed (sym g.is_open ∙ is);
 }
@@ -202,7 +223,8 @@ closed_open c (k ∷ ks) =
     let no = k ∷ with_closed c ks in
     let Of : List LoneConnection → Type 0 = λ ms. AllOpenNoMore (k ∷ ks) ms in
     elim (cases_Bool (is_open_at c k)) [
-      | inl at ↦ subst Of (sym (pick_true (is_open_at c k) yes no at)) (record { number = refl; is_open = λ is. absurd (true≢false (sym is)) }, all_same_open ks)
+      | inl at ↦ subst Of (sym (pick_true (is_open_at c k) yes no at))
+          (record { number = refl; is_open = λ is. absurd (true≢false (sym is)) }, all_same_open ks)
       | inr off ↦ subst Of (sym (pick_false (is_open_at c k) yes no off)) (same_open k, closed_open c ks)
     ]
 
@@ -242,7 +264,8 @@ false_number b c h = elim (cases_Bool (c == b)) [
   | inr other ↦ other
 ]
 
-none_with : (window b c : ℕ) (ks : List LoneConnection) → (b == c) ≡ false → open_at b ks ≡ None → open_at b (ks ++ new_at window c ∷ []) ≡ None
+none_with : (window b c : ℕ) (ks : List LoneConnection) → (b == c) ≡ false → open_at b ks ≡ None →
+    open_at b (ks ++ new_at window c ∷ []) ≡ None
 none_with window b c [] h none = pick_false (c == b) _ _ (false_number b c h)
 none_with window b c (k ∷ ks) h none =
     let n = none_at b k ks none in
@@ -254,7 +277,8 @@ apart_opened window c (k ∷ ks) none a =
     let n = none_at c k ks none in
     (λ is. none_with window k.number c ks (second_false k.is_open (k.number == c) is n.here) (a.0 is), apart_opened window c ks n.later a.1)
 
-pub apart_after : (window : ℕ) (what : WhatValue) (ks : List LoneConnection) → May what ks → AreApart ks → AreApart (connections_after window what ks)
+pub apart_after : (window : ℕ) (what : WhatValue) (ks : List LoneConnection) → May what ks → AreApart ks →
+    AreApart (connections_after window what ks)
 apart_after window (opened c) ks may a = apart_opened window c ks may a
 apart_after window (received c bytes) ks may a = a
 apart_after window (took c n) ks may a = apart_later ks (at_open c (λ q. with_taken q n) ks) (at_open_open c (λ q. with_taken q n) ks) a
@@ -282,22 +306,26 @@ later_found l k ks a found c p h = elim (cases_Bool (is_open_at c k)) [
   | inr off ↦ found c p (pick_false (is_open_at c k) (Some k.past) (open_at c ks) off ∙ h)
 ]
 
-pending_found : (l : LoneInstance) (k : LoneConnection) (ks : List LoneConnection) → AreFound l (k ∷ ks) → k.is_open ≡ true → pending_bytes_on l k.number ≡ pending_bytes k.past.history
+pending_found : (l : LoneInstance) (k : LoneConnection) (ks : List LoneConnection) → AreFound l (k ∷ ks) → k.is_open ≡ true →
+    pending_bytes_on l k.number ≡ pending_bytes k.past.history
 pending_found l k ks found is =
     let at : is_open_at k.number k ≡ true = both_true k.is_open (k.number == k.number) is (eq-eqb k.number k.number refl) in
-    ap (λ (o : Option Past). option_map_or (λ (p : Past). pending_bytes p.history) o []) (found k.number k.past (pick_true (is_open_at k.number k) (Some k.past) (open_at k.number ks) at))
+    ap (λ (o : Option Past). option_map_or (λ (p : Past). pending_bytes p.history) o [])
+    (found k.number k.past (pick_true (is_open_at k.number k) (Some k.past) (open_at k.number ks) at))
 
 drop_same : (n : ℕ) (xs ys : List ℕ) → n ≡ length xs → drop n (xs ++ ys) ≡ ys
 drop_same n xs ys h = ap (λ (m : ℕ). drop m (xs ++ ys)) h ∙ drop-append_seam xs ys
 
 -- what is new on an open connection
-new_bytes : (s : ℕ × List ℕ) (k : LoneConnection) (f : IsFront s k) → k.is_open ≡ true → drop (length s.1 - count_taken k.past.history) (pending_bytes k.past.history) ≡ f.more
+new_bytes : (s : ℕ × List ℕ) (k : LoneConnection) (f : IsFront s k) → k.is_open ≡ true →
+    drop (length s.1 - count_taken k.past.history) (pending_bytes k.past.history) ≡ f.more
 new_bytes s k f is =
     let n : ℕ = count_taken k.past.history in
     let split : pending_bytes k.past.history ≡ drop n s.1 ++ f.more = ap (drop n) f.bytes ∙ drop-append-le n s.1 f.more (f.within is) in
     ap (drop (length s.1 - n)) split ∙ drop_same (length s.1 - n) (drop n s.1) f.more (sym (length-drop n s.1))
 
-more_between : (p : ℕ) (more : List ℕ) (done ss : List (ℕ × List ℕ)) (s : ℕ × List ℕ) → p ≡ length done → with_more_at p more (done ++ s ∷ ss) ≡ done ++ (s.0, s.1 ++ more) ∷ ss
+more_between : (p : ℕ) (more : List ℕ) (done ss : List (ℕ × List ℕ)) (s : ℕ × List ℕ) → p ≡ length done →
+    with_more_at p more (done ++ s ∷ ss) ≡ done ++ (s.0, s.1 ++ more) ∷ ss
 more_between zero more [] ss s h = refl
 more_between (suc p) more [] ss s h = absurd (omega (arith, h))
 more_between zero more (d ∷ done) ss s h = absurd (omega (arith, h))
@@ -316,7 +344,8 @@ push_one : (done ss : List (ℕ × List ℕ)) (s : ℕ × List ℕ) → done ++ 
 push_one [] ss s = refl
 push_one (d ∷ done) ss s = ap (λ (xs : List (ℕ × List ℕ)). d ∷ xs) (push_one done ss s)
 
-pub all_gathered : (l : LoneInstance) (p : ℕ) (done ss : List (ℕ × List ℕ)) (ks : List LoneConnection) → p ≡ length done → AreFronts ss ks → AreApart ks → AreFound l ks → sent_bytes_with_all l (known_from p ss ks) (done ++ ss) ≡ done ++ map sent_bytes_on ks
+pub all_gathered : (l : LoneInstance) (p : ℕ) (done ss : List (ℕ × List ℕ)) (ks : List LoneConnection) → p ≡ length done → AreFronts ss ks →
+    AreApart ks → AreFound l ks → sent_bytes_with_all l (known_from p ss ks) (done ++ ss) ≡ done ++ map sent_bytes_on ks
 all_gathered l p done [] [] at f a found = refl
 all_gathered l p done [] (k ∷ ks) at f a found = absurd f
 all_gathered l p done (s ∷ ss) [] at f a found = absurd f
@@ -326,12 +355,15 @@ all_gathered l p done (s ∷ ss) (k ∷ ks) at f a found =
     let all : List OpenRecord → List (ℕ × List ℕ) = λ os. sent_bytes_with_all l os (done ++ s ∷ ss) in
     let then : List (ℕ × List ℕ) → List (ℕ × List ℕ) = λ xs. sent_bytes_with_all l rest xs in
     let size : p + 1 ≡ length (done ++ sent_bytes_on k ∷ []) = omega (arith, at, length-append done (sent_bytes_on k ∷ [])) in
-    let later : sent_bytes_with_all l rest ((done ++ sent_bytes_on k ∷ []) ++ ss) ≡ (done ++ sent_bytes_on k ∷ []) ++ map sent_bytes_on ks = all_gathered l (p + 1) (done ++ sent_bytes_on k ∷ []) ss ks size f.1 a.1 (later_found l k ks a found) in
-    let after : sent_bytes_with_all l rest (done ++ sent_bytes_on k ∷ ss) ≡ done ++ map sent_bytes_on (k ∷ ks) = ap then (push_one done ss (sent_bytes_on k)) ∙ later ∙ sym (push_one done (map sent_bytes_on ks) (sent_bytes_on k)) in
+    let later : sent_bytes_with_all l rest ((done ++ sent_bytes_on k ∷ []) ++ ss) ≡ (done ++ sent_bytes_on k ∷ []) ++ map sent_bytes_on ks =
+    all_gathered l (p + 1) (done ++ sent_bytes_on k ∷ []) ss ks size f.1 a.1 (later_found l k ks a found) in
+    let after : sent_bytes_with_all l rest (done ++ sent_bytes_on k ∷ ss) ≡ done ++ map sent_bytes_on (k ∷ ks) =
+    ap then (push_one done ss (sent_bytes_on k)) ∙ later ∙ sym (push_one done (map sent_bytes_on ks) (sent_bytes_on k)) in
     let between : ℕ × List ℕ → List (ℕ × List ℕ) = λ x. done ++ x ∷ ss in
     elim (cases_Bool k.is_open) [
       | inl is ↦
-          let new : drop o.untaken (pending_bytes_on l o.number) ≡ f.0.more = ap (drop o.untaken) (pending_found l k ks found is) ∙ new_bytes s k f.0 is in
+          let new : drop o.untaken (pending_bytes_on l o.number) ≡ f.0.more =
+          ap (drop o.untaken) (pending_found l k ks found is) ∙ new_bytes s k f.0 is in
           let one : sent_bytes_with l (done ++ s ∷ ss) o ≡ done ++ sent_bytes_on k ∷ ss =
           more_between p (drop o.untaken (pending_bytes_on l o.number)) done ss s at
           ∙ ap (λ (m : List ℕ). done ++ (s.0, s.1 ++ m) ∷ ss) new ∙ ap between (whole s k f.0) in
@@ -339,7 +371,8 @@ all_gathered l p done (s ∷ ss) (k ∷ ks) at f a found =
       | inr is ↦ ap all (pick_false k.is_open (o ∷ rest) rest is) ∙ ap then (ap between (whole_closed s k f.0 is)) ∙ after
     ]
 
-pub all_counted : (l : LoneInstance) (p : ℕ) (ss : List (ℕ × List ℕ)) (ks : List LoneConnection) → AreFronts ss ks → AreApart ks → AreFound l ks → map (record_after_noting l) (known_from p ss ks) ≡ open_from p ks
+pub all_counted : (l : LoneInstance) (p : ℕ) (ss : List (ℕ × List ℕ)) (ks : List LoneConnection) → AreFronts ss ks → AreApart ks →
+    AreFound l ks → map (record_after_noting l) (known_from p ss ks) ≡ open_from p ks
 all_counted l p [] [] f a found = refl
 all_counted l p [] (k ∷ ks) f a found = absurd f
 all_counted l p (s ∷ ss) [] f a found = absurd f
@@ -347,11 +380,15 @@ all_counted l p (s ∷ ss) (k ∷ ks) f a found =
     let rest : List OpenRecord = known_from (p + 1) ss ks in
     let o : OpenRecord = known_value p s k in
     let all : List OpenRecord → List OpenRecord = λ os. map (record_after_noting l) os in
-    let later : map (record_after_noting l) rest ≡ open_from (p + 1) ks = all_counted l (p + 1) ss ks f.1 a.1 (later_found l k ks a found) in
+    let later : map (record_after_noting l) rest ≡ open_from (p + 1) ks =
+    all_counted l (p + 1) ss ks f.1 a.1 (later_found l k ks a found) in
     let value : List ℕ → OpenRecord = λ bytes. record { number = k.number; place = p; untaken = length bytes } in
     elim (cases_Bool k.is_open) [
       | inl is ↦
           let here : record_after_noting l o ≡ open_record p k = ap value (pending_found l k ks found is) in
-          ap all (pick_true k.is_open (o ∷ rest) rest is) ∙ ap (λ (x : OpenRecord). x ∷ map (record_after_noting l) rest) here ∙ ap (λ (xs : List OpenRecord). open_record p k ∷ xs) later ∙ sym (pick_true k.is_open (open_record p k ∷ open_from (p + 1) ks) (open_from (p + 1) ks) is)
-      | inr is ↦ ap all (pick_false k.is_open (o ∷ rest) rest is) ∙ later ∙ sym (pick_false k.is_open (open_record p k ∷ open_from (p + 1) ks) (open_from (p + 1) ks) is)
+          ap all (pick_true k.is_open (o ∷ rest) rest is) ∙ ap (λ (x : OpenRecord). x ∷ map (record_after_noting l) rest) here
+          ∙ ap (λ (xs : List OpenRecord). open_record p k ∷ xs) later
+          ∙ sym (pick_true k.is_open (open_record p k ∷ open_from (p + 1) ks) (open_from (p + 1) ks) is)
+      | inr is ↦ ap all (pick_false k.is_open (o ∷ rest) rest is) ∙ later
+          ∙ sym (pick_false k.is_open (open_record p k ∷ open_from (p + 1) ks) (open_from (p + 1) ks) is)
     ]

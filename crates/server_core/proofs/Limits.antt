@@ -23,7 +23,8 @@ pub named_beside : (r : Option Run) → IfSome r (λ k. KeepsLimits k.lone) → 
 named_beside None h = tt
 named_beside (Some r) h = h.within.texts.named
 
-parent_keeps : (r : Option Run) (e : LoneEvent) → IsNarrow e → IfSome r (λ k. KeepsLimits k.lone) → IfSome (option_map (λ k. run_step [] k e) r) (λ k. KeepsLimits k.lone)
+parent_keeps : (r : Option Run) (e : LoneEvent) → IsNarrow e → IfSome r (λ k. KeepsLimits k.lone) →
+    IfSome (option_map (λ k. run_step [] k e) r) (λ k. KeepsLimits k.lone)
 parent_keeps None e narrow h = tt
 parent_keeps (Some r) e narrow h = stepped_keeps [] e r.lone (refusal_of e r.lone) tt narrow h
 
@@ -38,7 +39,8 @@ step_keeps f (own_event e) narrow h = record {
 }
 step_keeps f (parent_event e) narrow h = record { own = h.own; beside = parent_keeps f.parent e narrow h.beside }
 
-runs_keep : (f : FamilyRun) (es : List FamilyEvent) → AllByRecursion IsNarrow (map event_in es) → FamilyKeeps f → FamilyKeeps (fold family_step f es)
+runs_keep : (f : FamilyRun) (es : List FamilyEvent) → AllByRecursion IsNarrow (map event_in es) → FamilyKeeps f →
+    FamilyKeeps (fold family_step f es)
 runs_keep f [] narrow h = h
 runs_keep f (e ∷ es) narrow h = runs_keep (family_step f e) es narrow.1 (step_keeps f e narrow.0 h)
 
@@ -47,9 +49,20 @@ unfolding IsDistinct
 no_calls = tt
 
 no_jobs_wait : AreJobs (no_jobs {J = JobValue})
-no_jobs_wait = record { rising = tt; given = tt; ended_given = tt; ended_once = tt; ended_apart = tt; few_numbers = omega arith; few_waiting = omega arith; few_running = omega arith; few_ended = omega arith }
+no_jobs_wait = record {
+  rising = tt;
+  given = tt;
+  ended_given = tt;
+  ended_once = tt;
+  ended_apart = tt;
+  few_numbers = omega arith;
+  few_waiting = omega arith;
+  few_running = omega arith;
+  few_ended = omega arith;
+}
 
-pub new_within : (name : List ℕ) (quota slots : ℕ) (limits : LimitsValue) → quota ≤ 2 ^ 40 → slots ≤ MOST_RUNNING → IsLimits limits → IsInstanceWithin (new_instance name quota slots limits)
+pub new_within : (name : List ℕ) (quota slots : ℕ) (limits : LimitsValue) → quota ≤ 2 ^ 40 → slots ≤ MOST_RUNNING → IsLimits limits →
+    IsInstanceWithin (new_instance name quota slots limits)
 new_within name quota slots limits small few good = record {
   quota = small;
   limits = good;
@@ -77,5 +90,6 @@ new_family_keeps family limited = record { own = new_keeps family.own limited.ow
   beside None h = tt
   beside (Some config) h = new_keeps config h
 
-pub run_within : (family : Family) (events : List FamilyEvent) → AreLimited family → AllByRecursion IsNarrow (map event_in events) → IsInstanceWithin (run_of_family family events).own.lone.state
+pub run_within : (family : Family) (events : List FamilyEvent) → AreLimited family → AllByRecursion IsNarrow (map event_in events) →
+    IsInstanceWithin (run_of_family family events).own.lone.state
 run_within family events limited narrow = (runs_keep (new_family_run family) events narrow (new_family_keeps family limited)).own.within

@@ -18,7 +18,8 @@ get-last [] x = refl
 get-last (y ∷ xs) x = get-last xs x
 
 -- what stands behind one more element
-pub get-pushed : {X : Type 0} (xs : List X) (y x : X) (i : ℕ) → slice_get (xs ++ y ∷ []) i ≡ Some x → (slice_get xs i ≡ Some x) ⊎ ((i ≡ length xs) × (y ≡ x))
+pub get-pushed : {X : Type 0} (xs : List X) (y x : X) (i : ℕ) → slice_get (xs ++ y ∷ []) i ≡ Some x →
+    (slice_get xs i ≡ Some x) ⊎ ((i ≡ length xs) × (y ≡ x))
 get-pushed [] y x zero is = inr (refl, cc)
 get-pushed [] y x (suc i) is = inl is
 get-pushed (z ∷ xs) y x zero is = inl is
@@ -58,7 +59,8 @@ map_twice f g None = refl
 map_twice f g (Some x) = refl
 
 -- what a look-up by its place gives
-pub got : {A X : Type 0} (f : A → X) (xs : List X) (i : ℕ) (r : Option A) → is_some r ≡ nat_lt i (length xs) → IfSome r (λ x. f x ≡ get_or xs i (f x)) → option_map f r ≡ slice_get xs i
+pub got : {A X : Type 0} (f : A → X) (xs : List X) (i : ℕ) (r : Option A) → is_some r ≡ nat_lt i (length xs) →
+    IfSome r (λ x. f x ≡ get_or xs i (f x)) → option_map f r ≡ slice_get xs i
 got f xs i None there is =
     let past : length xs ≤ i = grind (arith, nat_tests) in
     sym (none_past xs i past)

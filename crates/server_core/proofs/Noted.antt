@@ -43,7 +43,8 @@ may_what : (what : WhatValue) (l : LoneInstance) → refusal_of_what what l ≡ 
 may_what (opened c) l h = none_of (open_at c l.connections) (passes (is_some (open_at c l.connections)) ConnectionExists _ h).off
 may_what (received c bytes) l h = tt
 may_what (took c n) l h = λ p is.
-    let answer : Option Past → Option EventRefusal = λ o. option_map_or (λ (q : Past). cond (nat_lt (untaken_count q.history) n) (Some TookTooMuch) None) o (Some NoSuchConnection) in
+    let answer : Option Past → Option EventRefusal =
+    λ o. option_map_or (λ (q : Past). cond (nat_lt (untaken_count q.history) n) (Some TookTooMuch) None) o (Some NoSuchConnection) in
     ltb-false (untaken_count p.history) n (passes (nat_lt (untaken_count p.history) n) TookTooMuch None (sym (ap answer is) ∙ h)).off
 may_what (closed c) l h = tt
 may_what tick l h = tt
@@ -58,17 +59,24 @@ length_sent : (ks : List LoneConnection) → length (map sent_bytes_on ks) ≡ l
 length_sent [] = refl
 length_sent (k ∷ ks) = ap suc (length_sent ks)
 
-pub noted_apart : (v : RecordValue) (r : Run) (bs : List Blob) (e : LoneEvent) → IsRecord v r → refusal_of e r.lone ≡ None → AreApart (lone_step bs e r.lone).connections
+pub noted_apart : (v : RecordValue) (r : Run) (bs : List Blob) (e : LoneEvent) → IsRecord v r → refusal_of e r.lone ≡ None →
+    AreApart (lone_step bs e r.lone).connections
 noted_apart v r bs e st none =
     let ks = r.lone.connections in
     let window = r.lone.state.limits.window in
     let k1 = connections_after window e.what ks in
     let m : LoneInstance = lone_step bs e r.lone in
     let step : m ≡ after_event bs e r.lone = ap (after_event_unless bs e r.lone) none in
-    let grown : AreGrown k1 m.connections = subst (λ (n : LoneInstance). AreGrown k1 n.connections) (sym step) (accepted_more bs e r.lone) in
+    let grown : AreGrown k1 m.connections = subst (λ (n : LoneInstance). AreGrown k1 n.connections) (sym step)
+    (accepted_more bs e r.lone) in
     apart_grown k1 m.connections grown (apart_after window e.what ks (may e r.lone none) st.apart)
 
-pub noted : (v : RecordValue) (r : Run) (bs : List Blob) (e : LoneEvent) (given : List OrderValue) (ordered : List (ℕ × OrderValue)) (ss : List (ℕ × List ℕ)) (os : List OpenRecord) → IsRecord v r → refusal_of e r.lone ≡ None → given ≡ lone_orders bs e r.lone → ordered ≡ v.orders ++ orders_at (v.count + 1) given → ss ≡ sent_bytes_with_all (lone_step bs e r.lone) (open_records_after e.what (length v.sent) v.live) (sent_bytes_after e.what v.sent) → os ≡ map (record_after_noting (lone_step bs e r.lone)) (open_records_after e.what (length v.sent) v.live) → IsRecord (record { count = v.count + 1; orders = ordered; refusals = v.refusals; sent = ss; live = os }) (run_step bs r e)
+pub noted : (v : RecordValue) (r : Run) (bs : List Blob) (e : LoneEvent) (given : List OrderValue) (ordered : List (ℕ × OrderValue))
+    (ss : List (ℕ × List ℕ)) (os : List OpenRecord) → IsRecord v r → refusal_of e r.lone ≡ None → given ≡ lone_orders bs e r.lone →
+    ordered ≡ v.orders ++ orders_at (v.count + 1) given →
+    ss ≡ sent_bytes_with_all (lone_step bs e r.lone) (open_records_after e.what (length v.sent) v.live) (sent_bytes_after e.what v.sent) →
+    os ≡ map (record_after_noting (lone_step bs e r.lone)) (open_records_after e.what (length v.sent) v.live) →
+    IsRecord (record { count = v.count + 1; orders = ordered; refusals = v.refusals; sent = ss; live = os }) (run_step bs r e)
 noted v r bs e given ordered ss os st none gave ordered_is ss_is os_is =
     let ks = r.lone.connections in
     let m : LoneInstance = lone_step bs e r.lone in
@@ -76,22 +84,28 @@ noted v r bs e given ordered ss os st none gave ordered_is ss_is os_is =
     let window = r.lone.state.limits.window in
     let k1 = connections_after window e.what ks in
     let step : m ≡ after_event bs e r.lone = ap (after_event_unless bs e r.lone) none in
-    let grown : AreGrown k1 m.connections = subst (λ (n : LoneInstance). AreGrown k1 n.connections) (sym step) (accepted_more bs e r.lone) in
+    let grown : AreGrown k1 m.connections = subst (λ (n : LoneInstance). AreGrown k1 n.connections) (sym step)
+    (accepted_more bs e r.lone) in
     let can : May e.what ks = may e r.lone none in
-    let fronts : AreFronts s1 m.connections = fronts_grown s1 k1 m.connections (fronts_after window e.what ks (all_within ks st.taken) can) grown in
+    let fronts : AreFronts s1 m.connections = fronts_grown s1 k1 m.connections
+    (fronts_after window e.what ks (all_within ks st.taken) can) grown in
     let apart : AreApart m.connections = noted_apart v r bs e st none in
     let sent : sent_bytes_after e.what v.sent ≡ s1 = ap (sent_bytes_after e.what) st.sent in
     let size : length v.sent ≡ length ks = ap length st.sent ∙ length_sent ks in
     let known : open_records_after e.what (length v.sent) v.live ≡ known_from 0 s1 m.connections =
-    ap (λ (n : ℕ). open_records_after e.what n v.live) size ∙ ap (open_records_after e.what (length ks)) st.live ∙ known_after window e.what ks st.apart ∙ known_grown 0 s1 k1 m.connections grown in
+    ap (λ (n : ℕ). open_records_after e.what n v.live) size ∙ ap (open_records_after e.what (length ks)) st.live
+    ∙ known_after window e.what ks st.apart ∙ known_grown 0 s1 k1 m.connections grown in
     record {
       count = ap (λ n. n + 1) st.count;
       orders = ordered_is
           ∙ ap (λ (xs : List (ℕ × OrderValue)). xs ++ orders_at (v.count + 1) given) st.orders
           ∙ ap (λ (n : ℕ). r.orders ++ orders_at (n + 1) given) st.count
           ∙ ap (λ (os : List OrderValue). r.orders ++ orders_at (r.count + 1) os) gave;
-      refusals = st.refusals ∙ sym (append-nil r.refusals) ∙ ap (λ (o : Option EventRefusal). r.refusals ++ refusals_at (r.count + 1) o) (sym none);
-      sent = ss_is ∙ ap (λ (qs : List OpenRecord). sent_bytes_with_all m qs (sent_bytes_after e.what v.sent)) known ∙ ap (sent_bytes_with_all m (known_from 0 s1 m.connections)) sent ∙ all_gathered m 0 [] s1 m.connections refl fronts apart (λ c p h. h);
+      refusals = st.refusals ∙ sym (append-nil r.refusals)
+          ∙ ap (λ (o : Option EventRefusal). r.refusals ++ refusals_at (r.count + 1) o) (sym none);
+      sent = ss_is ∙ ap (λ (qs : List OpenRecord). sent_bytes_with_all m qs (sent_bytes_after e.what v.sent)) known
+          ∙ ap (sent_bytes_with_all m (known_from 0 s1 m.connections)) sent
+          ∙ all_gathered m 0 [] s1 m.connections refl fronts apart (λ c p h. h);
       live = os_is ∙ ap (map (record_after_noting m)) known ∙ all_counted m 0 s1 m.connections fronts apart (λ c p h. h);
       taken = fronts_taken s1 m.connections fronts;
       apart = apart;
@@ -108,7 +122,8 @@ step_by bs r e o = record {
   refusals = r.refusals ++ refusals_at (r.count + 1) o;
 }
 
-refused_for : (A : Type 0) (refusal : EventRefusal) (reason : Option EventRefusal) → refusal ≢ NoMemory → IsRefusalOutcome {A = A} (Err refusal) reason → reason ≡ Some refusal
+refused_for : (A : Type 0) (refusal : EventRefusal) (reason : Option EventRefusal) → refusal ≢ NoMemory →
+    IsRefusalOutcome {A = A} (Err refusal) reason → reason ≡ Some refusal
 refused_for A NoMemory reason ne h = absurd (ne refl)
 refused_for A NoSuchInstance reason ne h = h
 refused_for A NoSuchConnection reason ne h = h
@@ -119,7 +134,10 @@ refused_for A TimeWentBack reason ne h = h
 refused_for A TookTooMuch reason ne h = h
 
 -- nothing is put and nothing is ordered
-pub refused_noted : (A : Type 0) (v : RecordValue) (r : Run) (bs : List Blob) (e : LoneEvent) (refusal : EventRefusal) (told : List (ℕ × EventRefusal)) → IsRecord v r → refusal ≢ NoMemory → IsRefusalOutcome {A = A} (Err refusal) (refusal_of e r.lone) → told ≡ v.refusals ++ (v.count + 1, refusal) ∷ [] → IsRecord (record { count = v.count + 1; orders = v.orders; refusals = told; sent = v.sent; live = v.live }) (run_step bs r e)
+pub refused_noted : (A : Type 0) (v : RecordValue) (r : Run) (bs : List Blob) (e : LoneEvent) (refusal : EventRefusal)
+    (told : List (ℕ × EventRefusal)) → IsRecord v r → refusal ≢ NoMemory → IsRefusalOutcome {A = A} (Err refusal) (refusal_of e r.lone) →
+    told ≡ v.refusals ++ (v.count + 1, refusal) ∷ [] →
+    IsRecord (record { count = v.count + 1; orders = v.orders; refusals = told; sent = v.sent; live = v.live }) (run_step bs r e)
 refused_noted A v r bs e refusal told st ne gave told_is =
     let w : RecordValue = record { count = v.count + 1; orders = v.orders; refusals = told; sent = v.sent; live = v.live } in
     let stepped : IsRecord w (step_by bs r e (Some refusal)) = record {

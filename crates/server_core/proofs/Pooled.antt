@@ -19,7 +19,8 @@ use Rattle.server_core.proofs.Storing.{IsHeldAt, all_slot}
 abbrev number : Bool → ℕ
 number b = cond b 1 0
 
-one_same : (p : Slots) (e k : ℕ) → IsShared p → 0 < count_at p e → 0 < count_at p k → one_at e k ≡ number (bytes_eq (text_at p e) (text_at p k))
+one_same : (p : Slots) (e k : ℕ) → IsShared p → 0 < count_at p e → 0 < count_at p k →
+    one_at e k ≡ number (bytes_eq (text_at p e) (text_at p k))
 one_same p e k shared here there = go (k == e) (bytes_eq (text_at p e) (text_at p k)) refl refl where
   go : (n t : Bool) → (k == e) ≡ n → bytes_eq (text_at p e) (text_at p k) ≡ t → number n ≡ number t
   go true true slot text = refl
@@ -40,7 +41,8 @@ one_own k = grind (arith, nat_tests)
 abbrev AreThere : Slots → List ℕ → Type 0
 AreThere p ns = (j : ℕ) → 0 < count_of j ns → 0 < count_at p j
 
-slots_same : (p : Slots) (ns : List ℕ) (k : ℕ) → IsShared p → AreThere p ns → 0 < count_at p k → count_of k ns ≡ times_in (text_at p k) (map (text_at p) ns)
+slots_same : (p : Slots) (ns : List ℕ) (k : ℕ) → IsShared p → AreThere p ns → 0 < count_at p k →
+    count_of k ns ≡ times_in (text_at p k) (map (text_at p) ns)
 slots_same p [] k shared there held = refl
 slots_same p (n ∷ ns) k shared there held =
     let own : 0 < count_of n (n ∷ ns) = let one = one_own n in omega (arith, one) in
@@ -59,7 +61,8 @@ in_texts t (x ∷ xs) some = go (bytes_eq x t) refl (in_texts t xs) where
       let none : number (bytes_eq x t) ≡ number false = ap number is in
       inr (later (omega (arith, some, none)))
 
-pub is_pool_of : (p : Slots) (xs : List ServedSlots) → IsServer p xs → IsShared p → ((k : ℕ) → held_text_at p k ≢ None → 0 < count_at p k) → IsPoolOf p (texts_of_all (all_in p xs))
+pub is_pool_of : (p : Slots) (xs : List ServedSlots) → IsServer p xs → IsShared p → ((k : ℕ) → held_text_at p k ≢ None → 0 < count_at p k) →
+    IsPoolOf p (texts_of_all (all_in p xs))
 is_pool_of p xs s shared held = record {
   all = λ t some.
       let r : IsHeldAt p (slots_of_all xs) t = all_slot p xs t (in_texts t (texts_of_all (all_in p xs)) some) in
@@ -67,6 +70,7 @@ is_pool_of p xs s shared held = record {
   once = shared;
   counts = λ k some.
       let there : AreThere p (slots_of_all xs) = λ j more. omega (arith, s.exact j, holders_are xs j, more) in
-      s.exact k ∙ holders_are xs k ∙ slots_same p (slots_of_all xs) k shared there some ∙ ap (times_in (text_at p k)) (sym (texts_are p xs));
+      s.exact k ∙ holders_are xs k ∙ slots_same p (slots_of_all xs) k shared there some
+      ∙ ap (times_in (text_at p k)) (sym (texts_are p xs));
   only = held;
 }

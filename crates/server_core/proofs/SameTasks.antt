@@ -38,7 +38,8 @@ joined_run f (x ∷ xs) ys = joined_run (family_step f x) xs ys
 
 -- ---- runs in which events were done in part
 
-own_becomes : (parent : List Blob) (r q : Run) (e : LoneEvent) (marked : Bool) → IsRunStep parent r e marked q → Become r.lone.state.jobs q.lone.state.jobs
+own_becomes : (parent : List Blob) (r q : Run) (e : LoneEvent) (marked : Bool) → IsRunStep parent r e marked q →
+    Become r.lone.state.jobs q.lone.state.jobs
 own_becomes parent r q e false is =
     subst (λ (x : Run). Become r.lone.state.jobs x.lone.state.jobs) (sym is) (stepped_become parent e r.lone)
 own_becomes parent r q e true h = short_becomes parent e r.lone q.lone h.lone
@@ -49,22 +50,29 @@ marked_step_becomes f g (parent_event e, marked) h = unchanged (jobs_in f) (jobs
 
 marked_run_becomes : (f g : FamilyRun) (es : List MarkedEvent) → IsRun f es g → Become (jobs_in f) (jobs_in g)
 marked_run_becomes f g [] is = unchanged (jobs_in f) (jobs_in g) (ap (λ (k : FamilyRun). jobs_in k) is)
-marked_run_becomes f g (e ∷ es) h = become_both (jobs_in f) (jobs_in h.0) (jobs_in g) (marked_step_becomes f h.0 e h.1) (marked_run_becomes h.0 g es h.2)
+marked_run_becomes f g (e ∷ es) h = become_both (jobs_in f) (jobs_in h.0) (jobs_in g) (marked_step_becomes f h.0 e h.1)
+    (marked_run_becomes h.0 g es h.2)
 
 -- ---- a task
 
-keeps_task : (n : ℕ) (task other : TaskValue) (old new : Jobs JobValue) → AreJobs old → Become old new → task_of n old ≡ Some task → task_of n new ≡ Some other → other ≡ task
+keeps_task : (n : ℕ) (task other : TaskValue) (old new : Jobs JobValue) → AreJobs old → Become old new → task_of n old ≡ Some task →
+    task_of n new ≡ Some other → other ≡ task
 keeps_task n task other old new are h is then =
     task-same n h.changes old task other are is (subst (λ (jobs : Jobs JobValue). task_of n jobs ≡ Some other) h.so then)
 
-pub run_keeps_task : (family : Family) (earlier later : List FamilyEvent) (n : ℕ) (task other : TaskValue) → AreLimited family → AllByRecursion IsNarrow (map event_in earlier)
-    → task_of n (run_of_family family earlier).own.lone.state.jobs ≡ Some task → task_of n (run_of_family family (earlier ++ later)).own.lone.state.jobs ≡ Some other → other ≡ task
+pub run_keeps_task : (family : Family) (earlier later : List FamilyEvent) (n : ℕ) (task other : TaskValue) → AreLimited family →
+    AllByRecursion IsNarrow (map event_in earlier)
+    → task_of n (run_of_family family earlier).own.lone.state.jobs ≡ Some task →
+    task_of n (run_of_family family (earlier ++ later)).own.lone.state.jobs ≡ Some other → other ≡ task
 run_keeps_task family earlier later n task other limited narrow is then =
     let f : FamilyRun = run_of_family family earlier in
-    let end : task_of n (jobs_in (fold family_step f later)) ≡ Some other = subst (λ (g : FamilyRun). task_of n (jobs_in g) ≡ Some other) (joined_run (new_family_run family) earlier later) then in
-    keeps_task n task other (jobs_in f) (jobs_in (fold family_step f later)) (run_within family earlier limited narrow).jobs (run_becomes f later) is end
+    let end : task_of n (jobs_in (fold family_step f later)) ≡ Some other =
+    subst (λ (g : FamilyRun). task_of n (jobs_in g) ≡ Some other) (joined_run (new_family_run family) earlier later) then in
+    keeps_task n task other (jobs_in f) (jobs_in (fold family_step f later)) (run_within family earlier limited narrow).jobs
+    (run_becomes f later) is end
 
-pub marked_run_keeps_task : (f g : FamilyRun) (events : List MarkedEvent) (n : ℕ) (task other : TaskValue) → IsInstanceWithin f.own.lone.state → IsRun f events g
+pub marked_run_keeps_task : (f g : FamilyRun) (events : List MarkedEvent) (n : ℕ) (task other : TaskValue) →
+    IsInstanceWithin f.own.lone.state → IsRun f events g
     → task_of n f.own.lone.state.jobs ≡ Some task → task_of n g.own.lone.state.jobs ≡ Some other → other ≡ task
 marked_run_keeps_task f g events n task other within steps is then =
     keeps_task n task other (jobs_in f) (jobs_in g) within.jobs (marked_run_becomes f g events steps) is then

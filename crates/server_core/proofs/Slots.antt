@@ -91,7 +91,8 @@ entry_texts : (p : Slots) (es : List ViewEntry) → texts_of (blobs_in p es) ≡
 entry_texts p [] = refl
 entry_texts p (e ∷ es) = ap (λ (ts : List (List ℕ)). text_at p e.1 ∷ ts) (entry_texts p es)
 
-waiting_texts : (p : Slots) (ws : List (ℕ × Job)) → flat_map (λ (w : ℕ × JobValue). texts_of w.1.task.texts) (map (waiting_in p) ws) ≡ map (text_at p) (slots_of_waiting ws)
+waiting_texts : (p : Slots) (ws : List (ℕ × Job)) →
+    flat_map (λ (w : ℕ × JobValue). texts_of w.1.task.texts) (map (waiting_in p) ws) ≡ map (text_at p) (slots_of_waiting ws)
 waiting_texts p [] = refl
 waiting_texts p (w ∷ ws) =
     let later = flat_map (λ (x : ℕ × JobValue). texts_of x.1.task.texts) (map (waiting_in p) ws) in
@@ -99,7 +100,8 @@ waiting_texts p (w ∷ ws) =
     ∙ ap (λ (ts : List (List ℕ)). map (text_at p) (job_slots w.1) ++ ts) (waiting_texts p ws)
     ∙ sym (map-append (text_at p) (job_slots w.1) (slots_of_waiting ws))
 
-running_texts : (p : Slots) (rs : List (ℕ × Running Job)) → flat_map (λ (r : ℕ × Running JobValue). texts_of r.1.job.task.texts) (map (running_in p) rs) ≡ map (text_at p) (slots_of_running rs)
+running_texts : (p : Slots) (rs : List (ℕ × Running Job)) →
+    flat_map (λ (r : ℕ × Running JobValue). texts_of r.1.job.task.texts) (map (running_in p) rs) ≡ map (text_at p) (slots_of_running rs)
 running_texts p [] = refl
 running_texts p (r ∷ rs) =
     let later = flat_map (λ (x : ℕ × Running JobValue). texts_of x.1.job.task.texts) (map (running_in p) rs) in

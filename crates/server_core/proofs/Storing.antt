@@ -38,10 +38,15 @@ in_slot (Some x ∷ p) (suc k) h = inr (in_slot p k h)
 
 distinct : (p : Slots) → IsShared p → ((k : ℕ) → held_text_at p k ≢ None → 0 < count_at p k) → AreDistinct (in_slots p)
 distinct [] s h = tt
-distinct (None ∷ p) s h = distinct p (record { once = λ j k a b e. let same : suc j ≡ suc k = s.once (suc j) (suc k) a b e in omega (arith, same) }) (λ k. h (suc k))
+distinct (None ∷ p) s h = distinct p (record {
+  once = λ j k a b e. let same : suc j ≡ suc k = s.once (suc j) (suc k) a b e in
+      omega (arith, same);
+}) (λ k. h (suc k))
 distinct (Some x ∷ p) s h = (
-  λ again. let r = at_slot p x.text again in let same : 0 ≡ suc r.slot = s.once 0 (suc r.slot) (h 0 (λ e. cc)) (h (suc r.slot) r.some) (sym r.text) in absurd (omega (arith, same)),
-  distinct p (record { once = λ j k a b e. let same : suc j ≡ suc k = s.once (suc j) (suc k) a b e in omega (arith, same) }) (λ k. h (suc k)),
+  λ again. let r = at_slot p x.text again in let same : 0 ≡ suc r.slot =
+      s.once 0 (suc r.slot) (h 0 (λ e. cc)) (h (suc r.slot) r.some) (sym r.text) in absurd (omega (arith, same)),
+  distinct p (record { once = λ j k a b e. let same : suc j ≡ suc k = s.once (suc j) (suc k) a b e in omega (arith, same) })
+      (λ k. h (suc k)),
 )
 
 counted : (p : Slots) → ((k : ℕ) → held_text_at p k ≢ None → 0 < count_at p k) → texts_stored p ≡ length (in_slots p)
@@ -54,7 +59,8 @@ counted (Some x ∷ p) h =
     let ih = counted p (λ k. h (suc k)) in
     let some : 0 < x.count = h 0 (λ e. cc) in
     let test : nat_lt 0 x.count ≡ true = grind (arith, nat_tests) in
-    let cons : texts_stored (Some x ∷ p) ≡ cond (nat_lt 0 x.count) 1 0 + texts_stored p = sum_by-cons (λ (o : Option HeldText). cond (is_held o) 1 0) (Some x) p in
+    let cons : texts_stored (Some x ∷ p) ≡ cond (nat_lt 0 x.count) 1 0 + texts_stored p =
+    sum_by-cons (λ (o : Option HeldText). cond (is_held o) 1 0) (Some x) p in
     let number : Bool → ℕ = λ b. cond b 1 0 in
     let one : number (nat_lt 0 x.count) ≡ number true = ap number test in
     omega (arith, ih, cons, one)
@@ -85,7 +91,8 @@ text_slot p (n ∷ ns) t h = elim h [
 slot_text : (p : Slots) (ns : List ℕ) (k : ℕ) → 0 < count_of k ns → IsAmong (text_at p k) (map (text_at p) ns)
 slot_text p [] k h = absurd (omega arith)
 slot_text p (n ∷ ns) k h = go (k == n) refl (λ later. slot_text p ns k later) where
-  go : (b : Bool) → (k == n) ≡ b → (0 < count_of k ns → IsAmong (text_at p k) (map (text_at p) ns)) → IsAmong (text_at p k) (map (text_at p) (n ∷ ns))
+  go : (b : Bool) → (k == n) ≡ b → (0 < count_of k ns → IsAmong (text_at p k) (map (text_at p) ns)) →
+      IsAmong (text_at p k) (map (text_at p) (n ∷ ns))
   go true test ih = let same : n ≡ k = grind (arith, nat_tests) in inl (ap (text_at p) same)
   go false test ih =
       let number : Bool → ℕ = λ b. cond b 1 0 in
@@ -100,12 +107,16 @@ slot_held p xs k h =
     let some : 0 < count_of k (slots_of_all xs) = omega (arith, h, holders_are xs k) in
     subst (IsAmong (text_at p k)) (sym (texts_are p xs)) (slot_text p (slots_of_all xs) k some)
 
-pub stored_are : (p : Slots) (xs : List ServedSlots) (n b : ℕ) → IsServer p xs → IsShared p → ((k : ℕ) → held_text_at p k ≢ None → 0 < count_at p k) → n ≡ texts_stored p → b ≡ bytes_stored p → AreStored (texts_of_all (all_in p xs)) n b
+pub stored_are : (p : Slots) (xs : List ServedSlots) (n b : ℕ) → IsServer p xs → IsShared p →
+    ((k : ℕ) → held_text_at p k ≢ None → 0 < count_at p k) → n ≡ texts_stored p → b ≡ bytes_stored p →
+    AreStored (texts_of_all (all_in p xs)) n b
 stored_are p xs n b s shared held count bytes = record {
   texts = in_slots p;
   distinct = distinct p shared held;
-  all = λ t h. let r = all_slot p xs t h in subst (λ (u : List ℕ). IsAmong u (in_slots p)) r.text (in_slot p r.slot (omega (arith, s.exact r.slot, holders_are xs r.slot, r.some)));
-  only = λ t h. let r = at_slot p t h in subst (λ (u : List ℕ). IsAmong u (texts_of_all (all_in p xs))) r.text (slot_held p xs r.slot (omega (arith, s.exact r.slot, held r.slot r.some)));
+  all = λ t h. let r = all_slot p xs t h in subst (λ (u : List ℕ). IsAmong u (in_slots p)) r.text
+      (in_slot p r.slot (omega (arith, s.exact r.slot, holders_are xs r.slot, r.some)));
+  only = λ t h. let r = at_slot p t h in subst (λ (u : List ℕ). IsAmong u (texts_of_all (all_in p xs))) r.text
+      (slot_held p xs r.slot (omega (arith, s.exact r.slot, held r.slot r.some)));
   count_is = count ∙ counted p held;
   bytes_is = bytes ∙ sized p;
 }

@@ -205,6 +205,10 @@ impl<'a> Sockets for Fake<'a> {
         self.passed()
     }
 
+    fn may_read(&self, _socket: Socket) -> bool {
+        true
+    }
+
     /// The server is never without a processor.
     fn processor(&self) -> ProcessorTime {
         ProcessorTime {

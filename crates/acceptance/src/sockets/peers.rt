@@ -73,6 +73,10 @@ impl<'a> Sockets for WithPeers<'a> {
         self.sockets.news(instance)
     }
 
+    fn may_read(&self, socket: Socket) -> bool {
+        self.sockets.may_read(socket)
+    }
+
     fn accept(&mut self, socket: Socket) -> io::Result<()> {
         self.sockets.accept(socket)
     }

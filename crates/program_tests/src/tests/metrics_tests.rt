@@ -1,7 +1,7 @@
 //! What is told of a server, as Prometheus reads it.
 
 use crate::tests::metrics_text_wanted::WANTED;
-use metrics_text::*;
+use figures::*;
 use std::alloc::{AllocError, Global};
 use std::test::*;
 

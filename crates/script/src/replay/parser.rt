@@ -26,11 +26,11 @@ pub struct ReplayScript<'a> {
     pub events: EventReader<'a>,
 }
 
-/// The script that a text writes, where these limits were chosen for all instances, or the number of
-/// its first bad line: one that has no form,
-/// configures an instance after an event, or configures an instance that may not follow those
-/// before it or may not build on its parent. A parent is another instance, of any line, of a later
-/// one too: the first of its name, which builds on none.
+/// The script that a text writes, where these limits were chosen for all instances, or the number
+/// of its first bad line: one that has no form, configures an instance after an event, or
+/// configures an instance that may not follow those before it or may not build on its parent. A
+/// parent is another instance, of any line, of a later one too: the first of its name, which builds
+/// on none.
 pub fn parse(alloc: Global, limits: Limits, text: &[u8]) -> Result<ReplayScript<'_>, ScriptFault>
     ensures script { IfOk result (λ script.
         replay_script_of (limits_value limits) text.now ≡ Ok (replay_script_value script)) }
@@ -55,8 +55,8 @@ pub fn parse(alloc: Global, limits: Limits, text: &[u8]) -> Result<ReplayScript<
     })
 }
 
-// What was chosen for the instances, those of all lines, those of the lines so far, and whether there
-// was an event among the latter.
+// What was chosen for the instances, those of all lines, those of the lines so far, and whether
+// there was an event among the latter.
 #[derive(Drop)]
 pub(crate) struct ReplayHead<'a> {
     pub(crate) limits: Limits,

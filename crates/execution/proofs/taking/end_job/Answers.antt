@@ -16,7 +16,7 @@ pub release_texts-requires : goal.release_texts-requires
 release_texts-requires c =
     let p : Slots = c.args.pool.now in
     let n : ℕ = c.args.number in
-    let operation : List ℕ = c.args.operation.items in
+    let operation : List ℕ = c.args.operation.value.items in
     let jobs : Jobs Job = c.args.queue.now in
     let job : Job = c.unwrap-job.result in
     let found : running_job n jobs ≡ Some job = subst (λ (r : Result Job JobError). IfOk r (λ (j : Job). running_job n jobs ≡ Some j)) c.unwrap-job.ensures c.end.ensures.job in
@@ -26,7 +26,7 @@ pub returns-clause-ended : goal.returns-clause-ended
 returns-clause-ended c =
     let p : Slots = c.args.pool.now in
     let n : ℕ = c.args.number in
-    let operation : List ℕ = c.args.operation.items in
+    let operation : List ℕ = c.args.operation.value.items in
     let jobs : Jobs Job = c.args.queue.now in
     let job : Job = c.unwrap-job.result in
     let found : running_job n jobs ≡ Some job = subst (λ (r : Result Job JobError). IfOk r (λ (j : Job). running_job n jobs ≡ Some j)) c.unwrap-job.ensures c.end.ensures.job in
@@ -39,7 +39,7 @@ pub returns-clause-moves : goal.returns-clause-moves
 returns-clause-moves c =
     let p : Slots = c.args.pool.now in
     let n : ℕ = c.args.number in
-    let operation : List ℕ = c.args.operation.items in
+    let operation : List ℕ = c.args.operation.value.items in
     let jobs : Jobs Job = c.args.queue.now in
     let job : Job = c.unwrap-job.result in
     let found : running_job n jobs ≡ Some job = subst (λ (r : Result Job JobError). IfOk r (λ (j : Job). running_job n jobs ≡ Some j)) c.unwrap-job.ensures c.end.ensures.job in

@@ -4,7 +4,7 @@ use Rattle.blob_pool.specs.Moves.{Moves}
 use Rattle.cas_service.specs.Answers.{Answers}
 use Rattle.cas_service.specs.declared.error.CallError.{CallError}
 use Rattle.instance_core.specs.declared.answer.Answer.{Answer}
-use Rattle.instance_core.specs.declared.answer.Answer.TheVariants.{Message, Messages, Range, Watching}
+use Rattle.instance_core.specs.declared.answer.Answer.TheVariants.{Message, Operation, Messages, Range, Watching}
 use Rattle.instance_core.specs.ReplyHolders.{result_holders}
 use Rattle.instance_core.specs.Carries.{answer_shown, answer_holders, EndsWithin}
 use Rattle.instance_core.proofs.Replying.{of_answer, to_answer, refused_so, none_moves}
@@ -19,6 +19,16 @@ pub returns-in-Ok-Message-clause-moves : goal.returns-in-Ok-Message-clause-moves
 returns-in-Ok-Message-clause-moves c =
     none_moves c.args.pool.now (answer_holders c.args.outcome) (result_holders c.reply_with.result)
     (λ k. to_answer (λ (o : Result Answer CallError). answer_holders o k ≡ 0) c.args.outcome c.in-Ok-Message.field-0 (Message c.in-Ok-Message.message) c.in-Ok-Message.is c.in-Ok-Message.field-0-is refl) c.reply_with.ensures.given
+
+pub returns-in-Ok-Operation-clause-replies : goal.returns-in-Ok-Operation-clause-replies
+returns-in-Ok-Operation-clause-replies c = λ answer means.
+    let answered = of_answer (λ (o : Result Answer CallError). Answers (answer_shown c.args.pool.now) o answer) c.args.outcome c.in-Ok-Operation.field-0 (Operation c.in-Ok-Operation.operation) c.in-Ok-Operation.is c.in-Ok-Operation.field-0-is means in
+    rw answered (c.operation_reply.ensures.replies c.args.pool.now)
+
+pub returns-in-Ok-Operation-clause-moves : goal.returns-in-Ok-Operation-clause-moves
+returns-in-Ok-Operation-clause-moves c =
+    none_moves c.args.pool.now (answer_holders c.args.outcome) (result_holders c.operation_reply.result)
+    (λ k. to_answer (λ (o : Result Answer CallError). answer_holders o k ≡ 0) c.args.outcome c.in-Ok-Operation.field-0 (Operation c.in-Ok-Operation.operation) c.in-Ok-Operation.is c.in-Ok-Operation.field-0-is refl) c.operation_reply.ensures.given
 
 pub returns-in-Ok-Messages-clause-replies : goal.returns-in-Ok-Messages-clause-replies
 returns-in-Ok-Messages-clause-replies c = λ answer means.

@@ -22,7 +22,14 @@ returns c =
     let texts : List Blob = blobs_in p (kept_entries task.texts.items) in
     let message : command_shown c.in_ok-message.message ≡ command_for read.command.items =
     c.in_ok-message.ensures ∙ ap command_for c.deref-3.ensures.value in
-    let run : Task = record { nodes = c.in_ok-nodes.nodes; command = c.in_ok-command.command; working_directory = c.in_ok-working_directory.working_directory; outputs = c.in_ok-outputs.outputs; function = c.function_for-function.result } in
+    let run : Task = record {
+      nodes = c.in_ok-nodes.nodes;
+      command = c.in_ok-command.command;
+      working_directory =
+          c.in_ok-working_directory.working_directory;
+      outputs = c.in_ok-outputs.outputs;
+      function = c.function_for-function.result;
+    } in
     subst (λ (t : TaskValue). IsTaskOf t run) c.in_ok-read.ensures.says (record {
       program = c.in_ok-command.ensures ∙ ap program_of message;
       directory = c.in_ok-working_directory.ensures.ok ∙ ap (λ (v : CommandValue). v.working_directory) message;

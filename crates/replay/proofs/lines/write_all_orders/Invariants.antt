@@ -4,7 +4,8 @@ use Rattle.replay.specs.Printed.{order_lines}
 use Rattle.replay.proofs.lines.write_all_orders.Given as goal
 
 abbrev pub invariant-orders : goal.invariant-orders
-invariant-orders l = l.text.items ++ order_lines l.instance (map ordered_shown l.left) ≡ l.fn.text.items ++ order_lines l.instance (map ordered_shown l.orders)
+invariant-orders l = l.text.items ++ order_lines l.instance (map ordered_shown l.left) ≡ l.fn.text.items
+    ++ order_lines l.instance (map ordered_shown l.orders)
 
 abbrev pub decreases-orders : goal.decreases-orders
 decreases-orders l = length l.left

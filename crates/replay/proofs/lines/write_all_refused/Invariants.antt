@@ -4,7 +4,8 @@ use Rattle.replay.specs.Printed.{refusal_lines}
 use Rattle.replay.proofs.lines.write_all_refused.Given as goal
 
 abbrev pub invariant-refused : goal.invariant-refused
-invariant-refused l = l.text.items ++ refusal_lines l.instance (map refused_shown l.left) ≡ l.fn.text.items ++ refusal_lines l.instance (map refused_shown l.refused)
+invariant-refused l = l.text.items ++ refusal_lines l.instance (map refused_shown l.left) ≡ l.fn.text.items
+    ++ refusal_lines l.instance (map refused_shown l.refused)
 
 abbrev pub decreases-refused : goal.decreases-refused
 decreases-refused l = length l.left

@@ -8,13 +8,17 @@ events-init c = λ configs begun. ([], begun, refl)
 
 pub step-requires : goal.step-requires
 step-requires c =
-    record { room = has_room c.requires.begun.0 c.args.events c.events.events c.events.run (c.events.invariant c.requires.begun.0 c.requires.begun.1) c.requires.few }
+    record {
+      room = has_room c.requires.begun.0 c.args.events c.events.events c.events.run
+          (c.events.invariant c.requires.begun.0 c.requires.begun.1) c.requires.few;
+    }
 
 pub events-preserved : goal.events-preserved
 events-preserved c =
     let first : c.events.events ≡ event_value c.in-Some.event ∷ c.next_event.new.self = search rules in
     λ configs begun.
-    one_more configs c.args.events c.events.events c.next_event.new.self (event_value c.in-Some.event) c.events.run c.in_ok-run.run' first c.in_ok-run.ensures (c.events.invariant configs begun)
+    one_more configs c.args.events c.events.events c.next_event.new.self
+    (event_value c.in-Some.event) c.events.run c.in_ok-run.run' first c.in_ok-run.ensures (c.events.invariant configs begun)
 
 pub returns : goal.returns
 returns c =

@@ -32,9 +32,12 @@ returns-in-Ok g c =
     let before : Option (List RunEvent) = g.R.Runs.happened c.args.runs.now in
     let after : Option (List RunEvent) = g.R.Runs.happened c.carry_out.new.runs in
     let ws : List ServedState = c.step.new.self.instances in
-    let carried : AreCarriedOut c.args.instance ws c.in-Ok.orders.items before after = λ v is. subst (λ (os : List Order). AddsRuns before after (map (ordered c.args.instance) (orders_meant v.state.jobs os))) c.deref.ensures.value (c.carry_out.ensures.carried v is) in
+    let carried : AreCarriedOut c.args.instance ws c.in-Ok.orders.items before after =
+    λ v is. subst (λ (os : List Order). AddsRuns before after (map (ordered c.args.instance) (orders_meant v.state.jobs os)))
+    c.deref.ensures.value (c.carry_out.ensures.carried v is) in
     record {
-      takes = accepted_by c.in-Ok.orders e c.args.counting.now _ c.in-Ok.orders before after did.own did.orders did.others did.stray did.count did.parents refl carried;
+      takes = accepted_by c.in-Ok.orders e c.args.counting.now _ c.in-Ok.orders before after did.own did.orders did.others did.stray
+          did.count did.parents refl carried;
       no_fault = c.carry_out.ensures.no_fault;
       outcome = did.outcome;
       refused = tt;

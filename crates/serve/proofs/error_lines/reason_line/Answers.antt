@@ -13,5 +13,6 @@ returns c =
     let reason : List ℕ = c.args.reason.now in
     let some : (length reason == 0) ≡ false = grind (arith, common_steps) in
     let begun = c.in_ok-head.ensures.ok ∙ sym (five (codes "remoted: run ") name (codes " ") (decimal c.args.job) (codes ": ")) in
-    let said = c.in_ok-extend_escaped.ensures ∙ ap (λ (l : List ℕ). l ++ escaped reason) (ap (λ (v : Vec ℕ). v.items) c.into_bytes-line.ensures.value ∙ begun) in
+    let said = c.in_ok-extend_escaped.ensures ∙ ap (λ (l : List ℕ). l ++ escaped reason)
+    (ap (λ (v : Vec ℕ). v.items) c.into_bytes-line.ensures.value ∙ begun) in
     c.in_ok-push.ensures.items ∙ ap (λ (l : List ℕ). l ++ codes "\n") said ∙ sym (reason_written name reason c.args.job some)

@@ -11,5 +11,6 @@ returns g c = record {
   closes = closed_open _ _ c.args.socket c.close.ensures.adds;
   shut = c.close.ensures.adds;
   unknown = still_unknown _ _ _ _ _ _ c.tell.ensures.takes (λ is. is);
-  in_vain = λ l stands none. told_in_vain _ c.args.moment c.args.socket.connection _ _ l none (c.tell.ensures.outcome l stands) c.tell.ensures.refused;
+  in_vain = λ l stands none. told_in_vain _ c.args.moment c.args.socket.connection _ _ l none
+      (c.tell.ensures.outcome l stands) c.tell.ensures.refused;
 }

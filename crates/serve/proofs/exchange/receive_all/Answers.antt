@@ -23,7 +23,8 @@ returns-after-loop-clause-over g c = λ is. absurd (c.loop.invariant.going is)
 pub loop-preserved : goal.loop-preserved
 loop-preserved g c = record {
   serving = λ configs lt at.
-      c.receive.ensures.serving configs (subst (λ (s : Socket). s.instance < length configs) (sym c.loop.invariant.socket) lt) (c.loop.invariant.serving configs lt at);
+      c.receive.ensures.serving configs (subst (λ (s : Socket). s.instance < length configs) (sym c.loop.invariant.socket) lt)
+      (c.loop.invariant.serving configs lt at);
   stays = λ count before after next has.
       c.receive.ensures.stays count before after next (c.loop.invariant.stays count before after next has);
   no_fault = c.receive.ensures.no_fault ∙ c.loop.invariant.no_fault;

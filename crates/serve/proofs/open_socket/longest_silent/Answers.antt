@@ -10,7 +10,9 @@ loop-place-preserved-then-candidate-heard c =
     let lt : c.loop-place.place < length c.args.connections.now = grind (arith, common_steps) in
     record {
       found = further c.loop-place.place c.loop-place.longest c.loop-place.invariant.found;
-      longest = λ lone stands. passed_by c.loop-place.place c.args.instance c.args.moment lone c.args.connections.now c.loop-place.longest c.loop-place.heard _ (slice_get-get_or c.args.connections.now c.loop-place.place _ lt) (λ may. c.if-candidate-heard.true) (c.loop-place.invariant.longest lone stands);
+      longest = λ lone stands. passed_by c.loop-place.place c.args.instance c.args.moment lone c.args.connections.now c.loop-place.longest
+          c.loop-place.heard _ (slice_get-get_or c.args.connections.now c.loop-place.place _ lt) (λ may. c.if-candidate-heard.true)
+          (c.loop-place.invariant.longest lone stands);
     }
 
 pub loop-place-preserved-then-not-may_make_room : goal.loop-place-preserved-then-not-may_make_room
@@ -18,7 +20,8 @@ loop-place-preserved-then-not-may_make_room c =
     let lt : c.loop-place.place < length c.args.connections.now = grind (arith, common_steps) in
     record {
       found = further c.loop-place.place c.loop-place.longest c.loop-place.invariant.found;
-      longest = λ lone stands. passed_by c.loop-place.place c.args.instance c.args.moment lone c.args.connections.now c.loop-place.longest c.loop-place.heard _ (slice_get-get_or c.args.connections.now c.loop-place.place _ lt)
+      longest = λ lone stands. passed_by c.loop-place.place c.args.instance c.args.moment lone c.args.connections.now c.loop-place.longest
+          c.loop-place.heard _ (slice_get-get_or c.args.connections.now c.loop-place.place _ lt)
           (λ may. absurd (true≢false (sym ((c.may_make_room.ensures lone stands).1 may) ∙ c.if-not-may_make_room.true)))
           (c.loop-place.invariant.longest lone stands);
     }
@@ -28,7 +31,9 @@ loop-place-preserved c =
     let lt : c.loop-place.place < length c.args.connections.now = grind (arith, common_steps) in
     record {
       found = omega arith;
-      longest = λ lone stands. longer_found c.loop-place.place c.args.instance c.args.moment lone c.args.connections.now c.loop-place.longest c.loop-place.heard _ (slice_get-get_or c.args.connections.now c.loop-place.place _ lt) (omega (arith, c.if-candidate-heard.false))
+      longest = λ lone stands. longer_found c.loop-place.place c.args.instance c.args.moment lone c.args.connections.now
+          c.loop-place.longest c.loop-place.heard _ (slice_get-get_or c.args.connections.now c.loop-place.place _ lt)
+          (omega (arith, c.if-candidate-heard.false))
           ((c.may_make_room.ensures lone stands).0 c.if-not-may_make_room.false) (c.loop-place.invariant.longest lone stands);
     }
 

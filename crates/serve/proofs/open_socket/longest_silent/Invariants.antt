@@ -8,5 +8,6 @@ use Rattle.serve.proofs.open_socket.longest_silent.Given as goal
 abbrev pub invariant-loop-place : goal.invariant-loop-place
 invariant-loop-place l = record {
   found : IfSome l.longest (λ n. n < l.place);
-  longest : (lone : LoneInstance) → StandsAt l.instance l.server.instances lone → IsLongestBefore l.place l.instance l.moment lone l.connections l.longest l.heard;
+  longest : (lone : LoneInstance) → StandsAt l.instance l.server.instances lone →
+      IsLongestBefore l.place l.instance l.moment lone l.connections l.longest l.heard;
 }

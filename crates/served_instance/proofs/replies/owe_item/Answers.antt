@@ -26,6 +26,16 @@ returns-in-Says-clause-takes c =
     takes_none (item_holders c.args.item) (ItemEndsWithin c.args.item) c.args.pool.now c.args.connection.now c.owe_message.new.self (λ k. ap (λ (it : ReplyItem). item_holders it k) c.in-Says.is)
     (record { sources = c.owe_message.ensures.sources; fit = c.owe_message.ensures.fit })
 
+pub returns-in-Tells-clause-owes : goal.returns-in-Tells-clause-owes
+returns-in-Tells-clause-owes c =
+    owes_item c.owe_shared.result c.args.stream c.args.item _ c.args.connection.now c.owe_shared.new.self c.in-Tells.is
+    (owes_by c.owe_shared.result _ c.args.connection.now c.owe_shared.new.self c.owe_shared.ensures.stands c.owe_shared.ensures.rest)
+
+pub returns-in-Tells-clause-takes : goal.returns-in-Tells-clause-takes
+returns-in-Tells-clause-takes c =
+    takes_none (item_holders c.args.item) (ItemEndsWithin c.args.item) c.args.pool.now c.args.connection.now c.owe_shared.new.self (λ k. ap (λ (it : ReplyItem). item_holders it k) c.in-Tells.is)
+    (record { sources = c.owe_shared.ensures.sources; fit = c.owe_shared.ensures.fit })
+
 pub returns-in-Gives-clause-owes : goal.returns-in-Gives-clause-owes
 returns-in-Gives-clause-owes c =
     owes_item c.owe_range.result c.args.stream c.args.item _ c.args.connection.now c.owe_range.new.connection c.in-Gives.is

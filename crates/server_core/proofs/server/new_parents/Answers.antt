@@ -8,7 +8,8 @@ use Rattle.server_core.proofs.Begins.{parents_more}
 use Rattle.server_core.proofs.server.new_parents.Goals as goal
 
 pub loop-config-preserved : goal.loop-config-preserved
-loop-config-preserved c = parents_more _ _ _ _ _ _ _ c.loop-config-test.true c.config-item.is c.in_ok-push.ensures.items c.loop-config.invariant c.parent_of.ensures
+loop-config-preserved c = parents_more _ _ _ _ _ _ _ c.loop-config-test.true c.config-item.is c.in_ok-push.ensures.items
+    c.loop-config.invariant c.parent_of.ensures
 
 pub returns : goal.returns
 returns c =

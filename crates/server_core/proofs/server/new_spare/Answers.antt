@@ -5,4 +5,5 @@ use Rattle.server_core.proofs.Acted.{no_entries}
 use Rattle.server_core.proofs.server.new_spare.Goals as goal
 
 pub returns : goal.returns
-returns c = IfOk-weaker c.new-2.result _ _ (λ (v : ServedSlots) none. no_entries v.instance.view.entries (λ k. omega (arith, none k))) c.new-2.ensures.holders
+returns c = IfOk-weaker c.new-2.result _ _ (λ (v : ServedSlots) none. no_entries v.instance.view.entries (λ k. omega (arith, none k)))
+    c.new-2.ensures.holders

@@ -19,7 +19,12 @@ step-requires c =
     let none = ap (λ (v : ViewValue). v.entries) c.view.ensures ∙ c.requires.spare in
     let there = slice_get-get_or xs n d c.requires.there in
     let kept = kept_at p xs n (get_or xs n d) there c.requires.server in
-    record { kept = kept; beside = beside_nobody p c.view.result.now (get_or xs n d) none kept; tidy = tidy_at p xs n (get_or xs n d) there c.requires.server }
+    record {
+      kept = kept;
+      beside = beside_nobody p c.view.result.now (get_or xs n d) none kept;
+      tidy =
+          tidy_at p xs n (get_or xs n d) there c.requires.server;
+    }
 
 pub returns-in-None-clause-acted : goal.returns-in-None-clause-acted
 returns-in-None-clause-acted c =
@@ -32,7 +37,8 @@ returns-in-None-clause-acted c =
     let b = c.step.new.self in
     let e = (event_value c.args.event).lone in
     let r = c.step.result in
-    let read : visible_in p c.view.result.now ≡ [] = nothing_read p c.view.result.now (ap (λ (v : ViewValue). v.entries) c.view.ensures ∙ c.requires.spare) in
+    let read : visible_in p c.view.result.now ≡ [] =
+    nothing_read p c.view.result.now (ap (λ (v : ViewValue). v.entries) c.view.ensures ∙ c.requires.spare) in
     let did = c.step.ensures in
     subst (λ (o : Option ℕ). HasActed p (texts_of_one o (all_in p xs)) xs q (set xs n b) n e r) (sym c.in-None.is) (record {
       before = a;
@@ -58,4 +64,5 @@ pub returns-in-Some-clause-acted : goal.returns-in-Some-clause-acted
 returns-in-Some-clause-acted c =
     let p = c.args.pool.now in
     let xs = c.args.instances.now in
-    subst (λ (o : Option ℕ). HasActed p (texts_of_one o (all_in p xs)) xs c.step_beside.new.pool c.step_beside.new.instances c.args.number (event_value c.args.event).lone c.step_beside.result) (sym c.in-Some.is) c.step_beside.ensures.acted
+    subst (λ (o : Option ℕ). HasActed p (texts_of_one o (all_in p xs)) xs c.step_beside.new.pool c.step_beside.new.instances c.args.number
+    (event_value c.args.event).lone c.step_beside.result) (sym c.in-Some.is) c.step_beside.ensures.acted

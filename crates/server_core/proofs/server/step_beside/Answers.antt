@@ -27,7 +27,8 @@ step-outcome-requires c =
     record {
       kept = kept_at p xs n x old c.requires.server;
       tidy = tidy_at p xs n x old c.requires.server;
-      beside = subst (λ (v : ViewValue). IsServedBeside p v x) (sym c.view-parent.ensures) (beside_other p xs n m x (get_or ys m d) c.requires.apart old there c.requires.server);
+      beside = subst (λ (v : ViewValue). IsServedBeside p v x) (sym c.view-parent.ensures)
+          (beside_other p xs n m x (get_or ys m d) c.requires.apart old there c.requires.server);
     }
 
 pub returns-clause-acted : goal.returns-clause-acted
@@ -47,7 +48,8 @@ returns-clause-acted c =
     let in' : m < length ys = omega (arith, length-set xs n u, c.requires.place) in
     let old = slice_get-get_or xs n c.index-instances-number.result c.requires.there ∙ ap Some (sym c.swap.ensures.y_after) in
     let there = sym (get-set_other xs n m u c.requires.apart) ∙ slice_get-get_or ys m d in' in
-    let read : visible_in p c.view-parent.result.now ≡ texts_at m (all_in p xs) = ap (visible_in p) c.view-parent.ensures ∙ sym (texts_are p xs m (get_or ys m d) there) in
+    let read : visible_in p c.view-parent.result.now ≡ texts_at m (all_in p xs) =
+    ap (visible_in p) c.view-parent.ensures ∙ sym (texts_are p xs m (get_or ys m d) there) in
     record {
       before = x;
       after = y;

@@ -21,13 +21,17 @@ step_at-requires-clause-parent c =
 abbrev read : goal.After-instances-1 → List Blob
 read c = texts_of_one (parent_at c.args.event.instance c.args.parents.now) (all_in c.args.pool.now c.args.instances.now)
 
-acted : (c : goal.After-instances-1) → HasActed c.args.pool.now (read c) c.args.instances.now c.step_at.new.pool c.step_at.new.instances c.args.event.instance (event_value c.args.event).lone c.step_at.result
+acted : (c : goal.After-instances-1) → HasActed c.args.pool.now
+    (read c) c.args.instances.now c.step_at.new.pool c.step_at.new.instances c.args.event.instance
+    (event_value c.args.event).lone c.step_at.result
 acted c =
     let parents = c.args.parents.now in
     let n = c.args.event.instance in
     let d : Option ℕ = None in
     let lt : n < length parents = omega (arith, c.if-number-instances.false, c.requires.parents.each) in
-    subst (λ (o : Option ℕ). HasActed c.args.pool.now (texts_of_one o (all_in c.args.pool.now c.args.instances.now)) c.args.instances.now c.step_at.new.pool c.step_at.new.instances n (event_value c.args.event).lone c.step_at.result)
+    subst (λ (o : Option ℕ). HasActed c.args.pool.now
+    (texts_of_one o (all_in c.args.pool.now c.args.instances.now)) c.args.instances.now c.step_at.new.pool c.step_at.new.instances n
+    (event_value c.args.event).lone c.step_at.result)
     (sym (parent_got parents n d lt)) c.step_at.ensures.acted
 
 pub returns-clause-own : goal.returns-clause-own

@@ -12,5 +12,6 @@ loop-preserved c =
     record {
       count = ap length more ∙ length_push _ _ ∙ ap (λ k. k + 1) old.count;
       begun = begun_more _ _ _ _ old.count more old.begun c.new.ensures;
-      room = All-same (λ (r : RecordValue). r.count < 1) _ _ more (All-push (λ (r : RecordValue). r.count < 1) _ _ old.room (none_counted _ c.new.ensures));
+      room = All-same (λ (r : RecordValue). r.count < 1) _ _ more
+          (All-push (λ (r : RecordValue). r.count < 1) _ _ old.room (none_counted _ c.new.ensures));
     }

@@ -16,12 +16,16 @@ loop-record-preserved c =
 
 pub returns-clause-count : goal.returns-clause-count
 returns-clause-count c =
-    let end = YieldsList-end (YieldsList-from_vec {s = c.into_iter-record-iterator.result} c.args.records.items (search rules) (search rules))
-    c.loop-record.yielded c.loop-record.record-iterator c.loop-record.yielded_by c.next.result c.next.new.self c.in-None.is c.next.ensures.steps in
+    let end = YieldsList-end (YieldsList-from_vec {s = c.into_iter-record-iterator.result} c.args.records.items (search rules)
+    (search rules))
+    c.loop-record.yielded c.loop-record.record-iterator c.loop-record.yielded_by c.next.result c.next.new.self c.in-None.is
+    c.next.ensures.steps in
     c.loop-record.invariant.count ∙ end.1
 
 pub returns-clause-outputs : goal.returns-clause-outputs
 returns-clause-outputs c =
-    let end = YieldsList-end (YieldsList-from_vec {s = c.into_iter-record-iterator.result} c.args.records.items (search rules) (search rules))
-    c.loop-record.yielded c.loop-record.record-iterator c.loop-record.yielded_by c.next.result c.next.new.self c.in-None.is c.next.ensures.steps in
+    let end = YieldsList-end (YieldsList-from_vec {s = c.into_iter-record-iterator.result} c.args.records.items (search rules)
+    (search rules))
+    c.loop-record.yielded c.loop-record.record-iterator c.loop-record.yielded_by c.next.result c.next.new.self c.in-None.is
+    c.next.ensures.steps in
     rw (← end.0, map-id) c.loop-record.invariant.outputs

@@ -22,7 +22,8 @@ pub returns-clause-may : goal.returns-clause-may
 returns-clause-may c =
     let events = c.args.events.items in
     let end = YieldsList-end (YieldsList-from_vec {s = c.into_iter-event-iterator.result} events (search rules) (search rules))
-    c.loop-event.yielded c.loop-event.event-iterator c.loop-event.yielded_by c.next.result c.next.new.self c.in-None.is c.next.ensures.steps in
+    c.loop-event.yielded c.loop-event.event-iterator c.loop-event.yielded_by c.next.result c.next.new.self c.in-None.is
+    c.next.ensures.steps in
     let taken : HasPassed c.args.configs.now (map event_value events) c.loop-event.run = rw (← end.0, map-id) c.loop-event.invariant in
     IfOk-weaker c.outputs.result _ _ (λ outputs given. given c.args.configs.now (map event_value events) taken) c.outputs.ensures.may
 
@@ -30,7 +31,8 @@ pub returns-clause-count : goal.returns-clause-count
 returns-clause-count c =
     let events = c.args.events.items in
     let end = YieldsList-end (YieldsList-from_vec {s = c.into_iter-event-iterator.result} events (search rules) (search rules))
-    c.loop-event.yielded c.loop-event.event-iterator c.loop-event.yielded_by c.next.result c.next.new.self c.in-None.is c.next.ensures.steps in
+    c.loop-event.yielded c.loop-event.event-iterator c.loop-event.yielded_by c.next.result c.next.new.self c.in-None.is
+    c.next.ensures.steps in
     let taken : HasPassed c.args.configs.now (map event_value events) c.loop-event.run = rw (← end.0, map-id) c.loop-event.invariant in
     IfOk-weaker c.outputs.result _ _ (λ outputs given. given c.args.configs.now (map event_value events) taken) c.outputs.ensures.may_count
 
@@ -38,6 +40,7 @@ pub returns-clause-strays : goal.returns-clause-strays
 returns-clause-strays c =
     let events = c.args.events.items in
     let end = YieldsList-end (YieldsList-from_vec {s = c.into_iter-event-iterator.result} events (search rules) (search rules))
-    c.loop-event.yielded c.loop-event.event-iterator c.loop-event.yielded_by c.next.result c.next.new.self c.in-None.is c.next.ensures.steps in
+    c.loop-event.yielded c.loop-event.event-iterator c.loop-event.yielded_by c.next.result c.next.new.self c.in-None.is
+    c.next.ensures.steps in
     let taken : HasPassed c.args.configs.now (map event_value events) c.loop-event.run = rw (← end.0, map-id) c.loop-event.invariant in
     IfOk-weaker c.outputs.result _ _ (λ outputs given. given c.args.configs.now (map event_value events) taken) c.outputs.ensures.may_strays

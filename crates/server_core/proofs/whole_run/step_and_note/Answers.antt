@@ -17,18 +17,24 @@ returns-in_ok-push-in-None-clause-runs c =
 pub returns-in_ok-push-in-None-clause-strays : goal.returns-in_ok-push-in-None-clause-strays
 returns-in_ok-push-in-None-clause-strays c =
     let did = c.step-outcome.ensures in
-    let told = stray_told c.step-outcome.new.self.instances (event_value c.args.event) c.args.place _ (sym c.in-None.ensures.found) did.count in
+    let told = stray_told c.step-outcome.new.self.instances (event_value c.args.event) c.args.place _
+    (sym c.in-None.ensures.found) did.count in
     c.in_ok-push-in-None.ensures.items ∙ ap (λ ps. c.args.strays.now.items ++ ps) (sym told)
 
 pub returns-in-Some-clause-runs : goal.returns-in-Some-clause-runs
 returns-in-Some-clause-runs c =
     let did = c.step-outcome.ensures in
     let ne : c.step-outcome.result ≢ Err NoMemory = grind (arith, common_steps) in
-    on_ok_weaker c.note.result (λ notes. noted_runs _ c.step-outcome.result (event_value c.args.event) _ _ _ c.in-Some.pool.now c.in-Some.served.now _ _ (did.own ne) did.others did.outcome (sym c.in-Some.ensures.found) c.in-Some.ensures.fit did.orders (λ r st. notes r (parent_texts c.args.event.instance c.args.server.now) (event_value c.args.event).lone st c.made_by-change.ensures)) c.note.ensures.stands
+    on_ok_weaker c.note.result (λ notes. noted_runs _ c.step-outcome.result
+    (event_value c.args.event) _ _ _ c.in-Some.pool.now c.in-Some.served.now _ _ (did.own ne) did.others did.outcome
+    (sym c.in-Some.ensures.found) c.in-Some.ensures.fit did.orders
+    (λ r st. notes r (parent_texts c.args.event.instance c.args.server.now)
+    (event_value c.args.event).lone st c.made_by-change.ensures)) c.note.ensures.stands
 
 pub returns-in-Some-clause-strays : goal.returns-in-Some-clause-strays
 returns-in-Some-clause-strays c =
     let did = c.step-outcome.ensures in
-    let told = none_told c.step-outcome.new.self.instances _ (event_value c.args.event) c.args.place _ (sym c.in-Some.ensures.found) did.count in
+    let told = none_told c.step-outcome.new.self.instances _ (event_value c.args.event) c.args.place _
+    (sym c.in-Some.ensures.found) did.count in
     let same = sym (ap (λ ps. c.args.strays.now.items ++ ps) told ∙ append-nil c.args.strays.now.items) in
     on_ok_weaker c.note.result (λ _. same) c.note.ensures.stands

@@ -13,7 +13,8 @@ pub invariant_of-self : goal.invariant_of-self
 invariant_of-self g c = record {
   carried = elim c.match-copied_lent.branch [
     | in-Ok w ↦ carried_twice _ _ _ _ _ _ _ _ c.args.self.now.carried c.ask-answer.ensures.carries w.add.ensures.adds
-        (subst (λ (o : Option (List RunEvent)). AddsRuns o (runs_logged c.log_answer-answer.new.log) (outcome_events c.args.run c.log_answer-answer.result))
+        (subst (λ (o : Option (List RunEvent)). AddsRuns o (runs_logged c.log_answer-answer.new.log)
+        (outcome_events c.args.run c.log_answer-answer.result))
         (ap (λ s. runs_logged s.1.1.0) w.self-is) c.log_answer-answer.ensures.adds)
         (elim c.log_answer-answer.ensures.told [
           | inl lost ↦ inl lost
@@ -21,11 +22,13 @@ invariant_of-self g c = record {
         ])
     | in-Err+in-Some-1 w ↦ carried_never (g.R.Runs.carries c.args.self.now.runs) _ _
         (outcome_events c.args.run c.log_answer-answer.result)
-        (subst (λ (o : Option (List RunEvent)). AddsRuns o (runs_logged c.log_answer-answer.new.log) (outcome_events c.args.run c.log_answer-answer.result))
+        (subst (λ (o : Option (List RunEvent)). AddsRuns o (runs_logged c.log_answer-answer.new.log)
+        (outcome_events c.args.run c.log_answer-answer.result))
         (ap (λ s. runs_logged s.1.1.0) w.self-is) c.log_answer-answer.ensures.adds)
     | in-Err+in-None-1 w ↦ carried_never (g.R.Runs.carries c.args.self.now.runs) _ _
         (outcome_events c.args.run c.log_answer-answer.result)
-        (subst (λ (o : Option (List RunEvent)). AddsRuns o (runs_logged c.log_answer-answer.new.log) (outcome_events c.args.run c.log_answer-answer.result))
+        (subst (λ (o : Option (List RunEvent)). AddsRuns o (runs_logged c.log_answer-answer.new.log)
+        (outcome_events c.args.run c.log_answer-answer.result))
         (ap (λ s. runs_logged s.1.1.0) w.self-is) c.log_answer-answer.ensures.adds)
   ];
 }

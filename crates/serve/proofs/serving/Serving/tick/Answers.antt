@@ -11,12 +11,15 @@ loop-instance-init g c = record {
   rises = c.now-self.ensures.rises;
   no_fault = refl;
   instances = refl;
-  opened = clock_open _ _ _ c.now-self.ensures.adds c.args.self.now.instances c.args.self.now.connections.items c.args.self.now.next c.args.self.now.moment c.requires.opened;
+  opened = clock_open _ _ _ c.now-self.ensures.adds c.args.self.now.instances c.args.self.now.connections.items c.args.self.now.next
+      c.args.self.now.moment c.requires.opened;
 }
 
 pub loop-instance-preserved : goal.loop-instance-preserved
 loop-instance-preserved g c = record {
-  ticking = λ configs same at. one_ticked configs _ _ _ _ _ _ _ _ (omega (arith, same, c.loop-instance-test.true, c.loop-instance.auto.instance-end)) c.tell.ensures.takes (c.loop-instance.invariant.ticking configs same at);
+  ticking = λ configs same at. one_ticked configs _ _ _ _ _ _ _ _
+      (omega (arith, same, c.loop-instance-test.true, c.loop-instance.auto.instance-end)) c.tell.ensures.takes
+      (c.loop-instance.invariant.ticking configs same at);
   unknown = still_unknown _ _ _ _ _ _ c.tell.ensures.takes c.loop-instance.invariant.unknown;
   adds = c.loop-instance.invariant.adds;
   rises = c.loop-instance.invariant.rises;
@@ -27,4 +30,6 @@ loop-instance-preserved g c = record {
 
 pub returns-clause-serving : goal.returns-clause-serving
 returns-clause-serving g c = λ configs same at.
-    all_ticked configs _ _ _ _ _ c.loop-instance.instance _ c.loop-instance.invariant.adds c.loop-instance.invariant.unknown (omega (arith, same, c.loop-instance-test.false, c.loop-instance.auto.instance-end)) (c.loop-instance.invariant.ticking configs same at)
+    all_ticked configs _ _ _ _ _ c.loop-instance.instance _ c.loop-instance.invariant.adds c.loop-instance.invariant.unknown
+    (omega (arith, same, c.loop-instance-test.false, c.loop-instance.auto.instance-end))
+    (c.loop-instance.invariant.ticking configs same at)

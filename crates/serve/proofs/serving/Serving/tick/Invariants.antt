@@ -8,7 +8,10 @@ use Rattle.serve.proofs.serving.Serving.tick.Given as goal
 
 abbrev pub invariant-loop-instance : goal.invariant-loop-instance
 invariant-loop-instance g l = record {
-  ticking : (configs : List ConfigValue) → length configs ≡ l.fn.self.instances → IsServing configs (g.S.Sockets.happened l.fn.sockets) (g.R.Runs.happened l.fn.runs) l.fn.self.counting l.fn.self.moment → IsTicking configs (g.S.Sockets.happened l.fn.sockets) (g.R.Runs.happened l.fn.runs) l.self.moment l.instance l.self.counting (g.R.Runs.happened l.runs);
+  ticking : (configs : List ConfigValue) → length configs ≡ l.fn.self.instances →
+      IsServing configs (g.S.Sockets.happened l.fn.sockets) (g.R.Runs.happened l.fn.runs) l.fn.self.counting l.fn.self.moment →
+      IsTicking configs (g.S.Sockets.happened l.fn.sockets) (g.R.Runs.happened l.fn.runs) l.self.moment l.instance l.self.counting
+      (g.R.Runs.happened l.runs);
   unknown : StaysUnknown (g.R.Runs.happened l.fn.runs) (g.R.Runs.happened l.runs);
   adds : Adds (g.S.Sockets.happened l.fn.sockets) (g.S.Sockets.happened l.sockets) (clock l.self.moment ∷ []);
   rises : Rises (g.S.Sockets.happened l.fn.sockets) l.self.moment;

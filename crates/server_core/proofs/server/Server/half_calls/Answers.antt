@@ -2,4 +2,6 @@ use Rattle.server_core.proofs.Others.{connections_there}
 use Rattle.server_core.proofs.server.Server.half_calls.Goals as goal
 
 pub returns-clause-calls : goal.returns-clause-calls
-returns-clause-calls c = λ l s. c.half_calls.ensures l (connections_there c.in_ok-instance.ensures.0 c.args.self.now.instances c.args.instance c.in_ok-instance.field-0.now l c.in_ok-instance.ensures.1 c.in_ok-instance.ensures.2 s)
+returns-clause-calls c = λ l s. c.half_calls.ensures l
+    (connections_there c.in_ok-instance.ensures.0 c.args.self.now.instances c.args.instance c.in_ok-instance.field-0.now l
+    c.in_ok-instance.ensures.1 c.in_ok-instance.ensures.2 s)

@@ -31,13 +31,16 @@ loop-config-preserved c =
       nobody = nobody_pushed xs v _ more old.nobody new.holders;
       tidy = tidy_pushed xs v _ more old.tidy new.tidy;
       within = λ p. within_pushed p xs v _ more (old.within p) (new.within p);
-      stands = λ p. starts_more _ _ _ (all_in p xs) _ (served_state_in p v) c.loop-config-test.true c.config-item.is (length-map xs (served_state_in p) ∙ old.count) (ap (all_in p) more ∙ all_pushed p xs v) (old.stands p) (new.stands p);
+      stands = λ p. starts_more _ _ _ (all_in p xs) _ (served_state_in p v) c.loop-config-test.true c.config-item.is
+          (length-map xs (served_state_in p) ∙ old.count) (ap (all_in p) more ∙ all_pushed p xs v) (old.stands p) (new.stands p);
     }
 
 pub returns-clause-stands : goal.returns-clause-stands
 returns-clause-stands c = λ i config at.
     let xs = c.instances-configs.result.now in
-    let all : c.args.configs.now ≡ map config_value (take c.loop-config.config-index xs) = sym c.instances-configs.ensures.instances ∙ ap (map config_value) (sym (take_all c.loop-config.config-index xs c.loop-config-test.false)) in
+    let all : c.args.configs.now ≡ map config_value (take c.loop-config.config-index xs) =
+    sym c.instances-configs.ensures.instances ∙ ap (map config_value)
+    (sym (take_all c.loop-config.config-index xs c.loop-config-test.false)) in
     c.loop-config.invariant.stands _ i config (ap (config_at i) (sym all) ∙ at)
 
 pub invariant_of-result : goal.invariant_of-result
@@ -47,11 +50,21 @@ invariant_of-result c =
     let good = ap config_fault c.instances-configs.ensures.instances ∙ c.instances-configs.ensures.good in
     let parents = c.in_ok-parents.ensures in
     let some = ((none_is_good (map config_value c.instances-configs.result.now)).0 good).few in
-    let few : length ys ≤ instance_limit = omega (arith, c.loop-config.invariant.count, c.loop-config.auto.config-index-end, length-map xs config_value, some) in (
-      server_begun c.new-pool.result ys c.new-pool.ensures few c.loop-config.invariant.nobody (c.loop-config.invariant.within c.new-pool.result) c.loop-config.invariant.tidy,
+    let few : length ys ≤ instance_limit = omega (
+      arith,
+      c.loop-config.invariant.count,
+      c.loop-config.auto.config-index-end,
+      length-map xs
+          config_value,
+      some,
+    ) in (
+      server_begun c.new-pool.result ys c.new-pool.ensures few c.loop-config.invariant.nobody
+          (c.loop-config.invariant.within c.new-pool.result) c.loop-config.invariant.tidy,
       c.in_ok-spare.ensures,
       record {
-        each = ap length parents ∙ length-map c.args.configs.now (parent_of c.args.configs.now) ∙ sym (ap length c.instances-configs.ensures.instances) ∙ length-map xs config_value ∙ omega (arith, c.loop-config.invariant.count, c.loop-config.auto.config-index-end);
+        each = ap length parents ∙ length-map c.args.configs.now (parent_of c.args.configs.now)
+            ∙ sym (ap length c.instances-configs.ensures.instances) ∙ length-map xs config_value
+            ∙ omega (arith, c.loop-config.invariant.count, c.loop-config.auto.config-index-end);
         others = subst AreParents (sym parents) (parents_good c.args.configs.now c.instances-configs.ensures.good);
       },
     )

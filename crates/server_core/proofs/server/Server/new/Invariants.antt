@@ -17,5 +17,6 @@ invariant-loop-config l = record {
   nobody : (k : ℕ) → all_holders l.instances.items k ≡ 0;
   tidy : AreAllTidy l.instances.items;
   within : (p : Slots) → AllByRecursion IsServedWithin (all_in p l.instances.items);
-  stands : (p : Slots) (i : ℕ) (config : ConfigValue) → config_at i (map config_value (take l.config-index l.configs)) ≡ Some config → StandsAt i (all_in p l.instances.items) (new_lone config.name config.quota config.slots config.limits);
+  stands : (p : Slots) (i : ℕ) (config : ConfigValue) → config_at i (map config_value (take l.config-index l.configs)) ≡ Some config →
+      StandsAt i (all_in p l.instances.items) (new_lone config.name config.quota config.slots config.limits);
 }

@@ -2,4 +2,6 @@ use Rattle.server_core.proofs.Others.{connections_there}
 use Rattle.server_core.proofs.server.Server.pending.Goals as goal
 
 pub returns-clause-bytes : goal.returns-clause-bytes
-returns-clause-bytes c = λ l s. c.pending.ensures.bytes l (connections_there c.in_ok-instance.ensures.0 c.args.self.now.instances c.args.instance c.in_ok-instance.field-0.now l c.in_ok-instance.ensures.1 c.in_ok-instance.ensures.2 s)
+returns-clause-bytes c = λ l s. c.pending.ensures.bytes l
+    (connections_there c.in_ok-instance.ensures.0 c.args.self.now.instances c.args.instance c.in_ok-instance.field-0.now l
+    c.in_ok-instance.ensures.1 c.in_ok-instance.ensures.2 s)

@@ -26,8 +26,10 @@ returns-clause-own c = λ ne l s.
     let old = ap (all_in p) c.deref_mut.ensures.value ∙ ap (λ v. v.instances) c.self.view_is in
     let before = subst (λ (vs : List ServedState). StandsAt n vs l) (sym old) s in
     let read = read_is n _ _ _ _ _ c.deref.ensures.value (ap (all_in p) c.deref_mut.ensures.value) c.self.view_is in
-    subst (λ (xs : List ServedSlots). StandsAt n (all_in q xs) (lone_step (parent_texts n c.args.self.now) (event_value c.args.event).lone l)) (sym (written _ _ _ long))
-    (subst (λ (bs : List Blob). StandsAt n (all_in q c.step_one.new.instances) (lone_step bs (event_value c.args.event).lone l)) read (c.step_one.ensures.own ne l before))
+    subst (λ (xs : List ServedSlots). StandsAt n (all_in q xs)
+    (lone_step (parent_texts n c.args.self.now) (event_value c.args.event).lone l)) (sym (written _ _ _ long))
+    (subst (λ (bs : List Blob). StandsAt n (all_in q c.step_one.new.instances) (lone_step bs (event_value c.args.event).lone l)) read
+    (c.step_one.ensures.own ne l before))
 
 pub returns-clause-short : goal.returns-clause-short
 returns-clause-short c = λ memory l s.
@@ -38,8 +40,10 @@ returns-clause-short c = λ memory l s.
     let old = ap (all_in p) c.deref_mut.ensures.value ∙ ap (λ v. v.instances) c.self.view_is in
     let before = subst (λ (vs : List ServedState). StandsAt n vs l) (sym old) s in
     let read = read_is n _ _ _ _ _ c.deref.ensures.value (ap (all_in p) c.deref_mut.ensures.value) c.self.view_is in
-    subst (λ (xs : List ServedSlots). StandsShortAt n (parent_texts n c.args.self.now) (event_value c.args.event).lone l (all_in q xs)) (sym (written _ _ _ long))
-    (subst (λ (bs : List Blob). StandsShortAt n bs (event_value c.args.event).lone l (all_in q c.step_one.new.instances)) read (c.step_one.ensures.short memory l before))
+    subst (λ (xs : List ServedSlots). StandsShortAt n (parent_texts n c.args.self.now) (event_value c.args.event).lone l (all_in q xs))
+    (sym (written _ _ _ long))
+    (subst (λ (bs : List Blob). StandsShortAt n bs (event_value c.args.event).lone l (all_in q c.step_one.new.instances)) read
+    (c.step_one.ensures.short memory l before))
 
 pub returns-clause-settled : goal.returns-clause-settled
 returns-clause-settled c =
@@ -62,6 +66,8 @@ returns-clause-orders c =
     let read = read_is n _ _ _ _ _ c.deref.ensures.value (ap (all_in p) c.deref_mut.ensures.value) c.self.view_is in
     IfOk-weaker c.step_one.result _ _ (λ (orders : Vec Order Global) given l s.
     let before = subst (λ (vs : List ServedState). StandsAt n vs l) (sym old) s in
-    subst (λ (xs : List ServedSlots). OrdersStand n (all_in q xs) orders (lone_orders (parent_texts n c.args.self.now) (event_value c.args.event).lone l)) (sym (written _ _ _ long))
-    (subst (λ (bs : List Blob). OrdersStand n (all_in q c.step_one.new.instances) orders (lone_orders bs (event_value c.args.event).lone l)) read (given l before)))
+    subst (λ (xs : List ServedSlots). OrdersStand n (all_in q xs) orders
+    (lone_orders (parent_texts n c.args.self.now) (event_value c.args.event).lone l)) (sym (written _ _ _ long))
+    (subst (λ (bs : List Blob). OrdersStand n (all_in q c.step_one.new.instances) orders (lone_orders bs (event_value c.args.event).lone l))
+    read (given l before)))
     c.step_one.ensures.orders

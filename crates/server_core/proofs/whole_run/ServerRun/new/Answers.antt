@@ -10,7 +10,8 @@ pub returns : goal.returns
 returns c =
     let server = c.in_ok-server.ensures in
     let records = c.in_ok-records.ensures in
-    let many : length c.instances.result.now ≡ length c.args.configs.now = sym (length-map c.instances.result.now config_value) ∙ ap length c.instances.ensures.instances in
+    let many : length c.instances.result.now ≡ length c.args.configs.now =
+    sym (length-map c.instances.result.now config_value) ∙ ap length c.instances.ensures.instances in
     record {
       many = server.count;
       count = refl;
@@ -26,7 +27,8 @@ pub invariant_of-result : goal.invariant_of-result
 invariant_of-result c =
     let server = c.in_ok-server.ensures in
     let records = c.in_ok-records.ensures in
-    let many : length c.instances.result.now ≡ length c.args.configs.now = sym (length-map c.instances.result.now config_value) ∙ ap length c.instances.ensures.instances in
+    let many : length c.instances.result.now ≡ length c.args.configs.now =
+    sym (length-map c.instances.result.now config_value) ∙ ap length c.instances.ensures.instances in
     record {
       within = server.within;
       parents = server.related;

@@ -9,7 +9,12 @@ use Rattle.server_core.proofs.whole_run.ServerRun.outputs.Goals as goal
 
 pub returns-clause-may : goal.returns-clause-may
 returns-clause-may c = λ configs events h i config is.
-    let v : RunValue = record { server = c.self.inside.server; records = c.self.inside.records.items; strays = c.self.inside.strays.items; count = c.self.inside.count } in
+    let v : RunValue = record {
+      server = c.self.inside.server;
+      records = c.self.inside.records.items;
+      strays = c.self.inside.strays.items;
+      count = c.self.inside.count;
+    } in
     let here : HasPassed configs events v = subst (HasPassed configs events) (sym c.self.view_is) h in
     let own = here.own i config is in
     record {
@@ -18,18 +23,32 @@ returns-clause-may c = λ configs events h i config is.
       runs = record {
         came = own.came;
         gives = refl;
-        parent_gives = parent_given c.self.inside.server.instances c.self.inside.records.items c.in_ok-instances.instances.items (parent_of configs config) own.came.run.parent own.there.beside c.in_ok-instances.ensures.outputs;
+        parent_gives = parent_given c.self.inside.server.instances c.self.inside.records.items c.in_ok-instances.instances.items
+            (parent_of configs config) own.came.run.parent own.there.beside c.in_ok-instances.ensures.outputs;
       };
     }
 
 pub returns-clause-alone : goal.returns-clause-alone
 returns-clause-alone c = λ configs events h i config is.
-    let v : RunValue = record { server = c.self.inside.server; records = c.self.inside.records.items; strays = c.self.inside.strays.items; count = c.self.inside.count } in
+    let v : RunValue = record {
+      server = c.self.inside.server;
+      records = c.self.inside.records.items;
+      strays = c.self.inside.strays.items;
+      count = c.self.inside.count;
+    } in
     let here : HasTaken configs events v = subst (HasTaken configs events) (sym c.self.view_is) h in
-    c.in_ok-instances.ensures.outputs i (run_of_family (family_in configs config) (family_events i (parent_of configs config) events)).own (here.alone i config is).own.noted
+    c.in_ok-instances.ensures.outputs i (run_of_family (family_in configs config) (family_events i (parent_of configs config) events)).own
+    (here.alone i config is).own.noted
 
 pub returns-clause-within : goal.returns-clause-within
 returns-clause-within c = λ configs events h i config is.
-    let v : RunValue = record { server = c.self.inside.server; records = c.self.inside.records.items; strays = c.self.inside.strays.items; count = c.self.inside.count } in
+    let v : RunValue = record {
+      server = c.self.inside.server;
+      records = c.self.inside.records.items;
+      strays = c.self.inside.strays.items;
+      count = c.self.inside.count;
+    } in
     let here : HasTaken configs events v = subst (HasTaken configs events) (sym c.self.view_is) h in
-    state_within c.self.inside.server.instances i (run_of_family (family_in configs config) (family_events i (parent_of configs config) events)).own.lone c.self.invariant.within (here.alone i config is).own.stands
+    state_within c.self.inside.server.instances i
+    (run_of_family (family_in configs config) (family_events i (parent_of configs config) events)).own.lone c.self.invariant.within
+    (here.alone i config is).own.stands

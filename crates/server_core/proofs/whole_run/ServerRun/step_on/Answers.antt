@@ -22,7 +22,8 @@ returns c configs events h =
     refl did.count did.parents c.self.invariant.parents
     (λ i r was. did.runs i r (subst (λ (rs : List RecordValue). HasRun i old.server.instances rs r) (sym c.deref_mut.ensures.value) was))
     did.strays in
-    subst (λ (rs : List RecordValue). HasPassed configs (events ++ event_value c.args.event ∷ []) (record { server = new.server; records = rs; strays = new.strays.items; count = old.count + 1 }))
+    subst (λ (rs : List RecordValue). HasPassed configs (events ++ event_value c.args.event ∷ [])
+    (record { server = new.server; records = rs; strays = new.strays.items; count = old.count + 1 }))
     (sym (written _ _ _ long)) taken
 
 pub invariant_of-result : goal.invariant_of-result
@@ -32,6 +33,14 @@ invariant_of-result c =
     let new = c.step_on_and_note.new in
     let long : old.records.len ≡ length new.records = grind (arith, common_steps) in
     let did_parents = c.in_ok-step_on_and_note.ensures.parents in
-    let each : length new.records ≡ length new.server.instances = c.step_on_and_note.auto.records ∙ ap length c.deref_mut.ensures.value ∙ c.self.invariant.each ∙ sym did.count in
-    subst (λ (rs : List RecordValue). IsRunning (record { server = new.server; records = rs; strays = new.strays.items; count = old.count + 1 }))
-    (sym (written _ _ _ long)) (record { within = did.within; parents = subst AreParents (sym did_parents) c.self.invariant.parents; each = each; room = did.room })
+    let each : length new.records ≡ length new.server.instances =
+    c.step_on_and_note.auto.records ∙ ap length c.deref_mut.ensures.value ∙ c.self.invariant.each ∙ sym did.count in
+    subst (λ (rs : List RecordValue). IsRunning (record
+    { server = new.server; records = rs; strays = new.strays.items; count = old.count + 1 }))
+    (sym (written _ _ _ long)) (record {
+      within = did.within;
+      parents = subst AreParents (sym did_parents) c.self.invariant.parents;
+      each =
+          each;
+      room = did.room;
+    })

@@ -1,9 +1,0 @@
-use Rattle.std.proofs.Common.{arith}
-use Rattle.instance_words.proofs.Colons.{first_is, none_is}
-use Rattle.instance_words.proofs.cut.Goals as goal
-
-pub returns-clause-first : goal.returns-clause-first
-returns-clause-first c = first_is c.args.text.now c.split_once.result (c.split_once.ensures.byte (omega arith) (λ w o f. f))
-
-pub returns-clause-none : goal.returns-clause-none
-returns-clause-none c = none_is c.args.text.now c.split_once.result (c.split_once.ensures.byte (omega arith) (λ w o f. f))

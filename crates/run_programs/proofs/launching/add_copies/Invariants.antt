@@ -1,0 +1,10 @@
+use Rattle.std.proofs.Common.{◌≡◌, ◌++◌, length, map, string_bytes}
+use Rattle.run_programs.proofs.launching.add_copies.Given as goal
+
+abbrev pub invariant-loop-left : goal.invariant-loop-left
+invariant-loop-left l =
+    map string_bytes l.words.items ++ map string_bytes l.left
+    ≡ map string_bytes l.fn.words.items ++ map string_bytes l.arguments
+
+abbrev pub decreases-loop-left : goal.decreases-loop-left
+decreases-loop-left l = length l.left

@@ -4,8 +4,9 @@
 PROGRAM is the built `remoted`. A workspace with N actions (15,000 if not given), each with an output of its own in one of
 a hundred packages, is built by Bazel with a server of the numbers that DEPLOYING has for such a team, and again from
 another copy of it with another output base: by Bazel's own count each action is a remote cache hit. With `--usual` the
-server has the usual numbers, and the second build has no hit. It ends with status 1 where that is not so, and tells how
-many results and blobs the instance has then, of how many, and the server's memory. Debian: bazel-bootstrap (4.2.3).
+server has the usual numbers, and at most a third of the second build is hit: none, where Bazel asks in the same order.
+It ends with status 1 where that is not so, and tells how many results and blobs the instance has then, of how many, and
+the server's memory. Debian: bazel-bootstrap (4.2.3).
 """
 
 import argparse
@@ -73,9 +74,9 @@ def compare(folder, options):
         found = figures(path)
         told = {name: found.get(name) for name in ("remoted_results", "remoted_results_limit", "remoted_blobs", "remoted_blobs_limit")}
         print(f"ok {told}, memory {server.resident_megabytes():,.0f} MB", flush=True)
-    wanted = 0 if options.usual else options.actions
-    if (filled.hits, filled.run) != (0, options.actions) or taken.hits != wanted:
-        raise SystemExit(f"FAILED: {taken.hits} remote hits, wanted {wanted}")
+    least, most = (0, options.actions // 3) if options.usual else (options.actions, options.actions)
+    if (filled.hits, filled.run) != (0, options.actions) or not least <= taken.hits <= most:
+        raise SystemExit(f"FAILED: {taken.hits} remote hits, wanted {least} to {most}")
     print(f"ok {taken.hits} remote hits in the second build", flush=True)
 
 

@@ -10,7 +10,7 @@ import messages as m
 import programs
 from execution_context import expect
 from executing import Link
-from server import has_leases
+from server import has_leases, opens_by_shell
 from teams import PYTHON, TOP, Skipped, listed, victim
 
 SECRET = b"of somebody else"
@@ -286,9 +286,9 @@ def leased(stage):
 
 
 def starved(stage):
-    """Programs take the processor from the shell that opens outputs."""
-    if not has_leases():
-        raise Skipped("the system has no leases, so the server opens outputs itself")
+    """Programs take the processor from the shells of the server, one of which opens outputs."""
+    if not stage.way.is_apart and not opens_by_shell(stage.way.launcher):
+        raise Skipped("nobody can have a lease on an output, so the server opens outputs itself")
     with stage.serve(slots=(8, 2)) as (server, red):
         numbers = [red.start(stage.action(python(STARVING), files=["o"])) for _ in range(3)]
         stage.blue_runs(server)

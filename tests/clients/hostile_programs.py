@@ -15,7 +15,7 @@ import programs
 from execution_context import expect
 from executing import Link
 from hostile_folders import python
-from server import has_leases
+from server import opens_by_shell
 from teams import Skipped
 
 # The line of a run that failed, or one of another kind, as for lines that were dropped. None is within another one.
@@ -242,8 +242,8 @@ def helper_lines(stage):
 
 def opener_stopped(stage):
     """What opens outputs for the server is stopped (SIGSTOP), again and again."""
-    if not has_leases():
-        raise Skipped("the system has no leases, so the server opens outputs itself")
+    if not opens_by_shell(stage.way.launcher):
+        raise Skipped("nobody can have a lease on an output, so the server opens outputs itself")
     with stage.serve() as (server, red):
         for _ in range(3):
             os.kill(stage.helper(server, programs.OPENS_OUTPUTS), signal.SIGSTOP)
@@ -256,8 +256,8 @@ def opener_stopped(stage):
 
 def opener_killed(stage):
     """What opens outputs for the server is killed fifty times a second."""
-    if not has_leases():
-        raise Skipped("the system has no leases, so the server opens outputs itself")
+    if not opens_by_shell(stage.way.launcher):
+        raise Skipped("nobody can have a lease on an output, so the server opens outputs itself")
     names = [f"f{number}" for number in range(20)]
     expected = {name: (m.digest(name.encode()), False) for name in names}
     killed = 0

@@ -28,6 +28,14 @@ def has_leases():
         return int(file.read()) != 0
 
 
+def opens_by_shell(launcher):
+    """Whether a shell opens outputs for the server: a program may have a lease on one when its launcher has ended."""
+    if not launcher:
+        return has_leases()
+    with open(launcher, "rb") as file:
+        return has_leases() and b"# leaves: no process" not in file.read(4096).split(b"\n")
+
+
 def free_ports(count):
     sockets = [socket.socket() for _ in range(count)]
     for each in sockets:

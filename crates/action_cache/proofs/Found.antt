@@ -22,20 +22,29 @@ both_are_there ds None h = absurd h
 
 -- ---- an action's result
 
-same_found : (look : Lookup) (action : Digest) (results : List Blob) (text : List ℕ) (o : Option (List Digest)) → lookup (same_digest action) results ≡ Some text → blobs_once look text ≡ o → HaveSameUses o (blobs_for look action results)
+same_found : (look : Lookup) (action : Digest) (results : List Blob) (text : List ℕ) (o : Option (List Digest)) →
+    lookup (same_digest action) results ≡ Some text → blobs_once look text ≡ o → HaveSameUses o (blobs_for look action results)
 same_found look action results text o stored is = rw (stored, ← is) (once_is_enough look text)
 
-pub none_is_found : (look : Lookup) (action : Digest) (results : List Blob) (text : List ℕ) → lookup (same_digest action) results ≡ Some text → blobs_once look text ≡ None → blobs_for look action results ≡ None
-none_is_found look action results text stored is = neither_is_there (blobs_for look action results) (same_found look action results text None stored is)
+pub none_is_found : (look : Lookup) (action : Digest) (results : List Blob) (text : List ℕ) →
+    lookup (same_digest action) results ≡ Some text → blobs_once look text ≡ None → blobs_for look action results ≡ None
+none_is_found look action results text stored is =
+    neither_is_there (blobs_for look action results) (same_found look action results text None stored is)
 
-pub none_same : (look : Lookup) (action : Digest) (results : List Blob) (text : List ℕ) → lookup (same_digest action) results ≡ Some text → blobs_once look text ≡ None → HaveSameUses None (blobs_for look action results)
+pub none_same : (look : Lookup) (action : Digest) (results : List Blob) (text : List ℕ) → lookup (same_digest action) results ≡ Some text →
+    blobs_once look text ≡ None → HaveSameUses None (blobs_for look action results)
 none_same look action results text stored is = same_found look action results text None stored is
 
-pub blobs_are_found : (look : Lookup) (action : Digest) (results : List Blob) (text : List ℕ) (ds : List Digest) → lookup (same_digest action) results ≡ Some text → blobs_once look text ≡ Some ds → HaveSameUses (Some ds) (blobs_for look action results)
+pub blobs_are_found : (look : Lookup) (action : Digest) (results : List Blob) (text : List ℕ) (ds : List Digest) →
+    lookup (same_digest action) results ≡ Some text → blobs_once look text ≡ Some ds →
+    HaveSameUses (Some ds) (blobs_for look action results)
 blobs_are_found look action results text ds stored is = same_found look action results text (Some ds) stored is
 
-pub text_is_found : (look : Lookup) (action : Digest) (results : List Blob) (text : List ℕ) (ds : List Digest) → lookup (same_digest action) results ≡ Some text → HaveSameUses (Some ds) (blobs_for look action results) → result_for look action results ≡ Some text
-text_is_found look action results text ds stored same = go (blobs_for look action results) (both_are_there ds (blobs_for look action results) same) where
-  go : (o : Option (List Digest)) → is_some o ≡ true → and_then o (λ _. lookup (same_digest action) results) ≡ Some text
-  go (Some es) h = stored
-  go None h = cc
+pub text_is_found : (look : Lookup) (action : Digest) (results : List Blob) (text : List ℕ) (ds : List Digest) →
+    lookup (same_digest action) results ≡ Some text → HaveSameUses (Some ds) (blobs_for look action results) →
+    result_for look action results ≡ Some text
+text_is_found look action results text ds stored same =
+    go (blobs_for look action results) (both_are_there ds (blobs_for look action results) same) where
+      go : (o : Option (List Digest)) → is_some o ≡ true → and_then o (λ _. lookup (same_digest action) results) ≡ Some text
+      go (Some es) h = stored
+      go None h = cc

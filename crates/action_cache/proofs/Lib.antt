@@ -2,3 +2,4 @@ mod Pairs
 mod Trees
 mod Found
 mod TreeRecords
+mod Looks

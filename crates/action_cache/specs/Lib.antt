@@ -5,3 +5,4 @@ pub mod Answering
 pub mod LastTrees
 pub mod Naming
 pub mod TreeTexts
+pub mod Work

@@ -1,6 +1,6 @@
 //! GetActionResult, whole and in its two steps.
 
-ghost use Rattle.std.specs.Prelude.{◌≡◌, ℕ, None, option_map, IfOk, OnOk, OnErr};
+ghost use Rattle.std.specs.Prelude.{◌≡◌, ◌+◌, ◌≤◌, ℕ, None, option_map, IfOk, OnOk, OnErr};
 ghost use Rattle.digest.specs.Naming.{same_digest};
 ghost use Rattle.blob_pool.specs.Slots.{Slots};
 ghost use Rattle.instance_view.specs.Visible.{with_match_first};
@@ -9,13 +9,14 @@ ghost use Rattle.instance_view.specs.Sight.{sight_of};
 ghost use Rattle.input_tree.specs.Texts.{texts_of};
 ghost use Rattle.input_tree.specs.Uses.{visible_after_uses};
 ghost use Rattle.action_cache.specs.Answering.{HaveSameUses, blobs_for, blobs_used, result_for, results_after};
+ghost use Rattle.action_cache.specs.Work.{bytes_for, looks_for};
 
 use crate::complete::blobs_once;
 use crate::results::Results;
 use blob_pool::Pool;
 use digest::Digest;
 use input_tree::use_all;
-use instance_view::{Sight, View};
+use instance_view::{Sight, View, Work};
 use std::alloc::{AllocError, Global};
 
 /// A result that is stored and complete.
@@ -32,23 +33,29 @@ pub struct FoundResult {
 ///
 /// A result is complete where it can be read, its trees can, and each blob is there that it names:
 /// output files, trees with the files of their roots and children, and standard output and error
-/// where they are set. Each tree is read once, however often it is named.
+/// where they are set. Each tree is read once, however often it is named. How often blobs are
+/// looked for, and how much is read, is bounded by the lengths of the result and of its trees.
 pub fn find_result(
     alloc: Global,
     results: &Results,
     view: &Sight<'_>,
     pool: &Pool,
     action: &Digest,
+    work: &mut Work,
 ) -> Result<Option<FoundResult>, AllocError>
     ensures text { IfOk result (λ found. option_map (λ f. f.text.items) found
         ≡ result_for (texts_of pool.now view.now) action.now results.now) }
     ensures blobs { IfOk result (λ found. HaveSameUses (option_map (λ f. f.blobs.items) found)
         (blobs_for (texts_of pool.now view.now) action.now results.now)) }
+    ensures looks { work.new.looks ≤ work.old.looks
+        + looks_for (texts_of pool.now view.now) action.now results.now }
+    ensures bytes { work.new.bytes ≤ work.old.bytes
+        + bytes_for (texts_of pool.now view.now) action.now results.now }
 {
     let Some(text) = results.get(action) else {
         return Ok(None);
     };
-    let Some(blobs) = blobs_once(alloc, view, pool, text)? else {
+    let Some(blobs) = blobs_once(alloc, view, pool, work, text)? else {
         return Ok(None);
     };
     let text = Vec::from_slice(alloc, text)?;
@@ -81,6 +88,7 @@ pub fn get_result(
     parent: &View,
     pool: &Pool,
     action: &Digest,
+    work: &mut Work,
 ) -> Result<Option<Vec<u8>>, AllocError>
     ensures answer { let look = texts_of pool.now (sight_of view.old parent.now) in
         IfOk result (λ answer. option_map (λ text. text.items) answer
@@ -96,8 +104,13 @@ pub fn get_result(
     ensures err { OnErr result ((results.new ≡ results.old) × (view.new ≡ view.old)) }
     ensures holders { (k : ℕ) → holders view.new k ≡ holders view.old k }
     ensures limit { view.new.limit ≡ view.old.limit }
+    ensures looks { let look = texts_of pool.now (sight_of view.old parent.now) in
+        work.new.looks ≤ work.old.looks + looks_for look action.now results.old }
+    ensures bytes { let look = texts_of pool.now (sight_of view.old parent.now) in
+        work.new.bytes ≤ work.old.bytes + bytes_for look action.now results.old }
 {
-    let Some(found) = find_result(alloc, results, &Sight::new(view, parent), pool, action)? else {
+    let sight = Sight::new(view, parent);
+    let Some(found) = find_result(alloc, results, &sight, pool, action, work)? else {
         return Ok(None);
     };
     use_result(results, view, action, &found.blobs);

@@ -1,16 +1,15 @@
 //! Naming blobs, each of which has to be there.
 
-ghost use Rattle.std.specs.Prelude.{◌≡◌, is_some, option_map};
+ghost use Rattle.std.specs.Prelude.{◌≡◌, ◌+◌, ◌≤◌, is_some, option_map};
 ghost use Rattle.reapi_messages.specs.Digests.{digest_shown};
-ghost use Rattle.input_tree.specs.Texts.{texts_of};
+ghost use Rattle.instance_view.specs.Texts.{look_of};
 ghost use Rattle.action_cache.specs.declared.naming.Unnamed.TheVariants.{Incomplete, NoMemory};
 ghost use Rattle.action_cache.specs.Complete.{with_blob, with_set};
 ghost use Rattle.action_cache.specs.Naming.{Names};
 
-use blob_pool::Pool;
 use digest::Digest;
 use input_tree::{Unread, digest_written};
-use instance_view::Sight;
+use instance_view::{Sight, Texts, Work};
 use message_fields::WireError;
 use reapi_messages as messages;
 use std::alloc::{AllocError, AllocFailed, Global};
@@ -56,33 +55,38 @@ impl<T: Drop> From<AllocFailed<T>> for Unnamed {
     }
 }
 
-/// The blobs that an instance sees, and the pool where their bytes lie.
-#[derive(Clone, Copy)]
+/// The blobs that an instance sees. They are looked for and read by `texts` alone, which counts.
+#[derive(Drop)]
 pub struct Blobs<'a> {
     pub alloc: Global,
-    pub view: &'a Sight<'a>,
-    pub pool: &'a Pool,
+    pub texts: Texts<'a, Sight<'a>>,
 }
 
-/// Whether an instance sees a blob. Which bytes it has in the pool makes no difference.
-pub fn is_there(blobs: &Blobs<'_>, digest: &Digest) -> bool
-    ensures { result ≡ is_some (texts_of blobs.now.pool.now blobs.now.view.now digest.now) }
+/// Whether an instance sees a blob. Which bytes it has in the pool makes no difference. This is one
+/// look.
+pub fn is_there(blobs: &Blobs<'_>, work: &mut Work, digest: &Digest) -> bool
+    ensures there { result ≡ is_some (look_of blobs.now.texts digest.now) }
+    ensures looks { work.new.looks ≤ work.old.looks + 1 }
+    ensures bytes { work.new.bytes ≡ work.old.bytes }
 {
-    blobs.view.contains(digest)
+    blobs.texts.contains(work, digest)
 }
 
 /// Names a blob, where it is there.
 pub fn name_blob(
     blobs: &Blobs<'_>,
+    work: &mut Work,
     named: &mut Vec<Digest>,
     written: &Option<messages::Digest<'_>>,
 ) -> Result<(), Unnamed>
-    ensures { Names (λ _. named.new.items) result
-        (with_blob (texts_of blobs.now.pool.now blobs.now.view.now) named.old.items
+    ensures named { Names (λ _. named.new.items) result
+        (with_blob (look_of blobs.now.texts) named.old.items
         (option_map digest_shown written.now)) }
+    ensures looks { work.new.looks ≤ work.old.looks + 1 }
+    ensures bytes { work.new.bytes ≡ work.old.bytes }
 {
     match digest_written(written) {
-        Some(digest) if is_there(blobs, &digest) => {
+        Some(digest) if is_there(blobs, work, &digest) => {
             named.push(digest)?;
             Ok(())
         }
@@ -93,15 +97,17 @@ pub fn name_blob(
 /// Names a blob that need not be set.
 pub fn name_set(
     blobs: &Blobs<'_>,
+    work: &mut Work,
     named: &mut Vec<Digest>,
     written: &Option<messages::Digest<'_>>,
 ) -> Result<(), Unnamed>
-    ensures { Names (λ _. named.new.items) result
-        (with_set (texts_of blobs.now.pool.now blobs.now.view.now) named.old.items
-        (option_map digest_shown written.now)) }
+    ensures named { Names (λ _. named.new.items) result
+        (with_set (look_of blobs.now.texts) named.old.items (option_map digest_shown written.now)) }
+    ensures looks { work.new.looks ≤ work.old.looks + 1 }
+    ensures bytes { work.new.bytes ≡ work.old.bytes }
 {
     match written {
         None => Ok(()),
-        Some(_) => name_blob(blobs, named, written),
+        Some(_) => name_blob(blobs, work, named, written),
     }
 }

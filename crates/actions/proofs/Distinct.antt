@@ -35,7 +35,8 @@ rising_pairs (t ∷ (u ∷ us)) h =
     let less = less_by (slice_cmp nat_cmp t u) parts.0 in
     let later = rising_pairs (u ∷ us) parts.1 in
     (λ y c. go less later y (in_cases u us y c), later) where
-      go : slice_cmp nat_cmp t u ≡ Less → Pairs (λ t u. slice_cmp nat_cmp t u ≡ Less) (u ∷ us) → (y : List ℕ) → (u ≡ y) ⊎ Contains us y → slice_cmp nat_cmp t y ≡ Less
+      go : slice_cmp nat_cmp t u ≡ Less → Pairs (λ t u. slice_cmp nat_cmp t u ≡ Less) (u ∷ us) → (y : List ℕ) → (u ≡ y) ⊎ Contains us y →
+          slice_cmp nat_cmp t y ≡ Less
       go less later y (inl is) = rw (← is) less
       go less later y (inr c) = nat_list_cmp_total.trans t u y less (later.0 y c)
 
@@ -51,14 +52,19 @@ either_false false b h = (refl, h)
 
 not_alike : (t : List ℕ) (us : List (List ℕ)) → not (list_any (are_alike t) us) ≡ true → (u : List ℕ) → Contains us u → t ≢ u
 not_alike t [] h u c = absurd (in_none u c)
-not_alike t (v ∷ vs) h u c = go (either_false (are_alike t v) (list_any (are_alike t) vs) h) (in_cases v vs u c) (λ further c. not_alike t vs further u c) where
-  go : (are_alike t v ≡ false) × (not (list_any (are_alike t) vs) ≡ true) → (v ≡ u) ⊎ Contains vs u → (not (list_any (are_alike t) vs) ≡ true → Contains vs u → t ≢ u) → t ≢ u
-  go parts (inl is) later = λ same. (let equal : slice_cmp nat_cmp t v ≡ Equal = rw (is, ← same) (self_equal t) in let alike : are_alike t v ≡ true = rw equal refl in let no = parts.0 in cc)
-  go parts (inr c) later = later parts.1 c
+not_alike t (v ∷ vs) h u c = go (either_false (are_alike t v) (list_any (are_alike t) vs) h) (in_cases v vs u c)
+    (λ further c. not_alike t vs further u c) where
+      go : (are_alike t v ≡ false) × (not (list_any (are_alike t) vs) ≡ true) → (v ≡ u) ⊎ Contains vs u →
+          (not (list_any (are_alike t) vs) ≡ true → Contains vs u → t ≢ u) → t ≢ u
+      go parts (inl is) later = λ same. (let equal : slice_cmp nat_cmp t v ≡ Equal = rw (is, ← same) (self_equal t) in
+          let alike : are_alike t v ≡ true = rw equal refl in let no = parts.0 in cc)
+      go parts (inr c) later = later parts.1 c
 
 pub apart_differ : (ts us : List (List ℕ)) → are_apart ts us ≡ true → (t u : List ℕ) → Contains ts t → Contains us u → t ≢ u
 apart_differ [] us h t u ct cu = absurd (in_none t ct)
-apart_differ (x ∷ ts) us h t u ct cu = go (and_parts (not (list_any (are_alike x) us)) (are_apart ts us) h) (in_cases x ts t ct) (λ further c. apart_differ ts us further t u c cu) where
-  go : (not (list_any (are_alike x) us) ≡ true) × (are_apart ts us ≡ true) → (x ≡ t) ⊎ Contains ts t → (are_apart ts us ≡ true → Contains ts t → t ≢ u) → t ≢ u
-  go parts (inl is) later = rw (← is) (not_alike x us parts.0 u cu)
-  go parts (inr c) later = later parts.1 c
+apart_differ (x ∷ ts) us h t u ct cu = go (and_parts (not (list_any (are_alike x) us)) (are_apart ts us) h) (in_cases x ts t ct)
+    (λ further c. apart_differ ts us further t u c cu) where
+      go : (not (list_any (are_alike x) us) ≡ true) × (are_apart ts us ≡ true) → (x ≡ t) ⊎ Contains ts t →
+          (are_apart ts us ≡ true → Contains ts t → t ≢ u) → t ≢ u
+      go parts (inl is) later = rw (← is) (not_alike x us parts.0 u cu)
+      go parts (inr c) later = later parts.1 c

@@ -25,18 +25,21 @@ in_cases {X = X} y xs x c = go (Contains-append_cases (y ∷ []) xs x c) where
 pub filter_gives : {X : Type 0} (p : X → Bool) (xs : List X) (x : X) → Contains (filter p xs) x → Contains xs x × (p x ≡ true)
 filter_gives p [] x c = absurd (in_none x c)
 filter_gives {X = X} p (y ∷ ys) x c = go (p y) refl c (filter_gives p ys x) where
-  first : p y ≡ true → (y ≡ x) ⊎ Contains (filter p ys) x → (Contains (filter p ys) x → Contains ys x × (p x ≡ true)) → Contains (y ∷ ys) x × (p x ≡ true)
+  first : p y ≡ true → (y ≡ x) ⊎ Contains (filter p ys) x → (Contains (filter p ys) x → Contains ys x × (p x ≡ true)) →
+      Contains (y ∷ ys) x × (p x ≡ true)
   first e (inl is) later = (rw (← is) (first_in y ys), ap p (sym is) ∙ e)
   first e (inr h) later = (later_in y ys x (later h).0, (later h).1)
 
-  go : (b : Bool) → p y ≡ b → Contains (cond b (y ∷ filter p ys) (filter p ys)) x → (Contains (filter p ys) x → Contains ys x × (p x ≡ true)) → Contains (y ∷ ys) x × (p x ≡ true)
+  go : (b : Bool) → p y ≡ b → Contains (cond b (y ∷ filter p ys) (filter p ys)) x →
+      (Contains (filter p ys) x → Contains ys x × (p x ≡ true)) → Contains (y ∷ ys) x × (p x ≡ true)
   go true e c later = first e (in_cases y (filter p ys) x c) later
   go false e c later = (later_in y ys x (later c).0, (later c).1)
 
 pub filter_has : {X : Type 0} (p : X → Bool) (xs : List X) (x : X) → Contains xs x → p x ≡ true → Contains (filter p xs) x
 filter_has p [] x c e = c
 filter_has {X = X} p (y ∷ ys) x c e = go (p y) refl (in_cases y ys x c) (λ h. filter_has p ys x h e) where
-  go : (b : Bool) → p y ≡ b → (y ≡ x) ⊎ Contains ys x → (Contains ys x → Contains (filter p ys) x) → Contains (cond b (y ∷ filter p ys) (filter p ys)) x
+  go : (b : Bool) → p y ≡ b → (y ≡ x) ⊎ Contains ys x → (Contains ys x → Contains (filter p ys) x) →
+      Contains (cond b (y ∷ filter p ys) (filter p ys)) x
   go true is (inl h) later = rw (← h) (first_in y (filter p ys))
   go true is (inr h) later = later_in y (filter p ys) x (later h)
   go false is (inl h) later = let no : p x ≡ false = ap p (sym h) ∙ is in cc

@@ -18,17 +18,20 @@ use Rattle.actions.specs.Walk.{directory_nodes, nodes_of_text, nodes_or_fault}
 use Rattle.actions.specs.ReadOnce.{AreRead, at_level}
 use Rattle.tree_nodes.specs.Nodes.{node_at_level}
 
-each_at : {V : Type 0} (l m : ℕ) (at : ℕ → V → Option PlanNodeValue) → ((v : V) → at m v ≡ option_map (node_at_level m) (at l v)) → (vs : List V) → filter_map (at m) vs ≡ at_level m (filter_map (at l) vs)
+each_at : {V : Type 0} (l m : ℕ) (at : ℕ → V → Option PlanNodeValue) → ((v : V) → at m v ≡ option_map (node_at_level m) (at l v)) →
+    (vs : List V) → filter_map (at m) vs ≡ at_level m (filter_map (at l) vs)
 each_at l m at h [] = refl
 each_at {V = V} l m at h (v ∷ vs) = go (at l v) refl (each_at l m at h vs) where
-  go : (o : Option PlanNodeValue) → at l v ≡ o → filter_map (at m) vs ≡ at_level m (filter_map (at l) vs) → filter_map (at m) (v ∷ vs) ≡ at_level m (filter_map (at l) (v ∷ vs))
+  go : (o : Option PlanNodeValue) → at l v ≡ o → filter_map (at m) vs ≡ at_level m (filter_map (at l) vs) →
+      filter_map (at m) (v ∷ vs) ≡ at_level m (filter_map (at l) (v ∷ vs))
   go None is later = rw (h v, is) later
   go (Some n) is later = rw (h v, is) (ap (λ (ns : List PlanNodeValue). node_at_level m n ∷ ns) later)
 
 abbrev node_with : List ℕ → ℕ → PlanKindValue → PlanNodeValue
 node_with name level kind = record { name = name; level = level; kind = kind }
 
-node_level : (l m : ℕ) (name : List ℕ) (kind : Digest → PlanKindValue) (o : Option Digest) → option_map (λ d. node_with name m (kind d)) o ≡ option_map (node_at_level m) (option_map (λ d. node_with name l (kind d)) o)
+node_level : (l m : ℕ) (name : List ℕ) (kind : Digest → PlanKindValue) (o : Option Digest) →
+    option_map (λ d. node_with name m (kind d)) o ≡ option_map (node_at_level m) (option_map (λ d. node_with name l (kind d)) o)
 node_level l m name kind None = refl
 node_level l m name kind (Some d) = refl
 
@@ -40,14 +43,23 @@ directory_level l m v = node_level l m v.name directory (written_digest v.digest
 
 nodes_level : (l m : ℕ) (v : DirectoryValue) → nodes_of m v ≡ at_level m (nodes_of l v)
 nodes_level l m v =
-    rw (each_at l m file_at (file_level l m) v.files, each_at l m symlink_at (λ s. refl) v.symlinks, each_at l m directory_at (directory_level l m) v.directories)
-    (sym (map-append (node_at_level m) (filter_map (file_at l) v.files) (filter_map (symlink_at l) v.symlinks ++ filter_map (directory_at l) v.directories)
-    ∙ ap (λ (ns : List PlanNodeValue). at_level m (filter_map (file_at l) v.files) ++ ns) (map-append (node_at_level m) (filter_map (symlink_at l) v.symlinks) (filter_map (directory_at l) v.directories))))
+    rw (
+      each_at l m file_at (file_level l m) v.files,
+      each_at l m symlink_at (λ s. refl) v.symlinks,
+      each_at l m directory_at
+          (directory_level l m) v.directories,
+    )
+    (sym (map-append (node_at_level m) (filter_map (file_at l) v.files)
+    (filter_map (symlink_at l) v.symlinks ++ filter_map (directory_at l) v.directories)
+    ∙ ap (λ (ns : List PlanNodeValue). at_level m (filter_map (file_at l) v.files) ++ ns)
+    (map-append (node_at_level m) (filter_map (symlink_at l) v.symlinks) (filter_map (directory_at l) v.directories))))
 
 -- where a directory's nodes are known at a level, they are at each
-pub nodes_at : (look : Lookup) (l m : ℕ) (d : Digest) (ns : List PlanNodeValue) → directory_nodes look l d ≡ Ok ns → directory_nodes look m d ≡ Ok (at_level m ns)
+pub nodes_at : (look : Lookup) (l m : ℕ) (d : Digest) (ns : List PlanNodeValue) → directory_nodes look l d ≡ Ok ns →
+    directory_nodes look m d ≡ Ok (at_level m ns)
 nodes_at look l m d ns h = text (look d) h where
-  read : (o : Option DirectoryValue) → nodes_or_fault (option_map (nodes_of l) o) ≡ Ok ns → nodes_or_fault (option_map (nodes_of m) o) ≡ Ok (at_level m ns)
+  read : (o : Option DirectoryValue) → nodes_or_fault (option_map (nodes_of l) o) ≡ Ok ns →
+      nodes_or_fault (option_map (nodes_of m) o) ≡ Ok (at_level m ns)
   read None h = cc
   read (Some v) h =
       let is : nodes_of l v ≡ ns = cc in
@@ -58,19 +70,25 @@ nodes_at look l m d ns h = text (look d) h where
   text (Some t) h = read (directory_in t) h
 
 -- one more directory is read
-pub read_more : (look : Lookup) (old new : List (Digest × Vec PlanNode Global)) (level : ℕ) (e : Digest) (ns : List PlanNodeValue) (copies : Vec PlanNode Global) → AreRead look old → directory_nodes look level e ≡ Ok ns → nodes_shown copies.items ≡ at_level level ns
+pub read_more : (look : Lookup) (old new : List (Digest × Vec PlanNode Global)) (level : ℕ) (e : Digest) (ns : List PlanNodeValue)
+    (copies : Vec PlanNode Global) → AreRead look old → directory_nodes look level e ≡ Ok ns → nodes_shown copies.items ≡ at_level level ns
     → ((d : Digest) → lookup (same_digest d) new ≡ (if same_digest e d then Some copies else lookup (same_digest d) old)) → AreRead look new
 read_more look old new level e ns copies read is copied put d m = rw (put d) (go (same_digest e d) refl) where
   twice : (xs : List PlanNodeValue) → at_level m (at_level level xs) ≡ at_level m xs
   twice [] = refl
   twice (x ∷ xs) = ap (λ (ys : List PlanNodeValue). node_at_level m x ∷ ys) (twice xs)
 
-  go : (b : Bool) → same_digest e d ≡ b → IfSome (if b then Some copies else lookup (same_digest d) old) (λ nodes. directory_nodes look m d ≡ Ok (at_level m (nodes_shown nodes.items)))
+  go : (b : Bool) → same_digest e d ≡ b → IfSome (if b then Some copies else lookup (same_digest d) old)
+      (λ nodes. directory_nodes look m d ≡ Ok (at_level m (nodes_shown nodes.items)))
   go true same =
       let equal = same_equal e d same in
       rw (← equal) (nodes_at look level m e ns is ∙ ap (λ (xs : List PlanNodeValue). Ok xs) (sym (ap (at_level m) copied ∙ twice ns)))
   go false same = read d m
 
 -- what the table has of a directory that was read
-pub read_before : (look : Lookup) (table : List (Digest × Vec PlanNode Global)) (d : Digest) (level : ℕ) (nodes : Vec PlanNode Global) → AreRead look table → lookup (same_digest d) table ≡ Some nodes → directory_nodes look level d ≡ Ok (at_level level (nodes_shown nodes.items))
-read_before look table d level nodes read found = subst (λ (o : Option (Vec PlanNode Global)). IfSome o (λ ns. directory_nodes look level d ≡ Ok (at_level level (nodes_shown ns.items)))) found (read d level)
+pub read_before : (look : Lookup) (table : List (Digest × Vec PlanNode Global)) (d : Digest) (level : ℕ) (nodes : Vec PlanNode Global) →
+    AreRead look table → lookup (same_digest d) table ≡ Some nodes →
+    directory_nodes look level d ≡ Ok (at_level level (nodes_shown nodes.items))
+read_before look table d level nodes read found =
+    subst (λ (o : Option (Vec PlanNode Global)). IfSome o (λ ns. directory_nodes look level d ≡ Ok (at_level level (nodes_shown ns.items))))
+    found (read d level)

@@ -28,15 +28,19 @@ below_not ds look level (directory d) h = go (nat_le 64 level) h where
   go true h = cc
   go false h = text_not ds (level + 1) (look d) h
 
-along_not : (ds : List Digest) (most : ℕ) (look : Lookup) (next met : List PlanNodeValue) → walk_along most look next met ≡ Err (missing ds) → ⊥
+along_not : (ds : List Digest) (most : ℕ) (look : Lookup) (next met : List PlanNodeValue) →
+    walk_along most look next met ≡ Err (missing ds) → ⊥
 unfolding walk_along
 along_not ds zero look [] met h = cc
 along_not ds (suc most) look [] met h = cc
 along_not ds zero look (n ∷ next) met h = cc
-along_not ds (suc most) look (n ∷ next) met h = go (nodes_inside look n) refl h (λ inside. along_not ds most look (inside ++ next) (met ++ n ∷ [])) where
-  go : (m : Nodes) → nodes_inside look n ≡ m → (m >>= (λ inside. walk_along most look (inside ++ next) (met ++ n ∷ []))) ≡ Err (missing ds) → ((inside : List PlanNodeValue) → walk_along most look (inside ++ next) (met ++ n ∷ []) ≡ Err (missing ds) → ⊥) → ⊥
-  go (Ok inside) is h later = later inside h
-  go (Err e) is h later = below_not ds look n.level n.kind (is ∙ h)
+along_not ds (suc most) look (n ∷ next) met h =
+    go (nodes_inside look n) refl h (λ inside. along_not ds most look (inside ++ next) (met ++ n ∷ [])) where
+      go : (m : Nodes) → nodes_inside look n ≡ m → (m >>= (λ inside. walk_along most look (inside ++ next) (met ++ n ∷ [])))
+          ≡ Err (missing ds) → ((inside : List PlanNodeValue) → walk_along most look (inside ++ next) (met ++ n ∷ []) ≡ Err (missing ds) → ⊥) →
+          ⊥
+      go (Ok inside) is h later = later inside h
+      go (Err e) is h later = below_not ds look n.level n.kind (is ∙ h)
 
 met_not : (ds : List Digest) (look : Lookup) (root : Digest) → nodes_met look root ≡ Err (missing ds) → ⊥
 met_not ds look root h = go (directory_nodes look 1 root) refl h where
@@ -54,7 +58,8 @@ is_there : (o : Option (List ℕ)) → not (is_some o) ≡ false → is_some o �
 is_there None h = cc
 is_there (Some text) h = refl
 
-pub all_missing : (look : Lookup) (root : Digest) (digests : List Digest) → walk look root ≡ Err (missing digests) → AreMissing look root digests
+pub all_missing : (look : Lookup) (root : Digest) (digests : List Digest) → walk look root ≡ Err (missing digests) →
+    AreMissing look root digests
 all_missing look root digests h = go (nodes_met look root) refl h where
   go : (m : Nodes) → nodes_met look root ≡ m → (m >>= plan_of look root) ≡ Err (missing digests) → AreMissing look root digests
   go (Err e) is h = absurd (met_not digests look root (is ∙ h))
@@ -65,11 +70,14 @@ all_missing look root digests h = go (nodes_met look root) refl h where
         nodes = nodes;
         nodes_are = is;
         each = λ d c. (let f = filter_gives (λ d. not (is_some (look d))) all d (rw are c) in (f.0, none_there (look d) f.1));
-        all = λ d c none. (let no : not (is_some (look d)) ≡ true = rw none refl in rw (← are) (filter_has (λ d. not (is_some (look d))) all d c no));
+        all = λ d c none. (let no : not (is_some (look d)) ≡ true = rw none refl in
+            rw (← are) (filter_has (λ d. not (is_some (look d))) all d c no));
       }
 
-pub nothing_missing : (look : Lookup) (root : Digest) (nodes : List PlanNodeValue) → walk look root ≡ Ok nodes → (d : Digest) → Contains (digests_met root nodes) d → is_some (look d) ≡ true
+pub nothing_missing : (look : Lookup) (root : Digest) (nodes : List PlanNodeValue) → walk look root ≡ Ok nodes → (d : Digest) →
+    Contains (digests_met root nodes) d → is_some (look d) ≡ true
 nothing_missing look root nodes h d c = go (not (is_some (look d))) refl where
   go : (b : Bool) → not (is_some (look d)) ≡ b → is_some (look d) ≡ true
   go false e = is_there (look d) e
-  go true e = absurd (in_none d (let kept = filter_has (λ d. not (is_some (look d))) (digests_met root nodes) d c e in rw (plan_is look root nodes h).1 at kept))
+  go true e = absurd (in_none d (let kept = filter_has (λ d. not (is_some (look d))) (digests_met root nodes) d c e in
+      rw (plan_is look root nodes h).1 at kept))

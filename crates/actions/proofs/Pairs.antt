@@ -13,7 +13,8 @@ pub pairs_all : {X : Type 0} (R : X → X → Type 0) (xs : List X) → Pairs R 
 pairs_all R [] h = λ i j d less short. absurd (omega arith)
 pairs_all R (x ∷ xs) h = AllPairs-cons R x xs (λ k d less. h.0 _ (Contains-get_or xs k d less)) (pairs_all R xs h.1)
 
-pub pairs_joined : {X : Type 0} (R : X → X → Type 0) (xs ys : List X) → Pairs R xs → Pairs R ys → ((x y : X) → Contains xs x → Contains ys y → R x y) → Pairs R (xs ++ ys)
+pub pairs_joined : {X : Type 0} (R : X → X → Type 0) (xs ys : List X) → Pairs R xs → Pairs R ys →
+    ((x y : X) → Contains xs x → Contains ys y → R x y) → Pairs R (xs ++ ys)
 pairs_joined R [] ys h g cross = g
 pairs_joined {X = X} R (x ∷ xs) ys h g cross =
     (λ y c. go y (Contains-append_cases xs ys y c), pairs_joined R xs ys h.1 g (λ a b ca cb. cross a b (later_in x xs a ca) cb)) where
@@ -24,7 +25,8 @@ pairs_joined {X = X} R (x ∷ xs) ys h g cross =
 pub in_map : {X Y : Type 0} (f : X → Y) (xs : List X) (y : Y) → Contains (map f xs) y → (x : X) × Contains xs x × (f x ≡ y)
 in_map f [] y c = absurd (in_none y c)
 in_map {X = X} f (x ∷ xs) y c = go (in_cases (f x) (map f xs) y c) (in_map f xs y) where
-  go : (f x ≡ y) ⊎ Contains (map f xs) y → (Contains (map f xs) y → (z : X) × Contains xs z × (f z ≡ y)) → (z : X) × Contains (x ∷ xs) z × (f z ≡ y)
+  go : (f x ≡ y) ⊎ Contains (map f xs) y → (Contains (map f xs) y → (z : X) × Contains xs z × (f z ≡ y)) →
+      (z : X) × Contains (x ∷ xs) z × (f z ≡ y)
   go (inl is) later = (x, first_in x xs, is)
   go (inr c) later = let found = later c in (found.0, later_in x xs found.0 found.1, found.2)
 
@@ -35,9 +37,13 @@ map_in f (y ∷ ys) x c = go (in_cases y ys x c) (map_in f ys x) where
   go (inl is) later = rw (← is) (first_in (f y) (map f ys))
   go (inr c) later = later_in (f y) (map f ys) (f x) (later c)
 
-pub pairs_map : {X Y : Type 0} (S : X → X → Type 0) (R : Y → Y → Type 0) (f : X → Y) → ((a b : X) → S a b → R (f a) (f b)) → (xs : List X) → Pairs S xs → Pairs R (map f xs)
+pub pairs_map : {X Y : Type 0} (S : X → X → Type 0) (R : Y → Y → Type 0) (f : X → Y) → ((a b : X) → S a b → R (f a) (f b)) → (xs : List X) →
+    Pairs S xs → Pairs R (map f xs)
 pairs_map S R f leads [] h = tt
-pairs_map S R f leads (x ∷ xs) h = (λ y c. (let found = in_map f xs y c in rw (← found.2) (leads x found.0 (h.0 found.0 found.1))), pairs_map S R f leads xs h.1)
+pairs_map S R f leads (x ∷ xs) h = (
+  λ y c. (let found = in_map f xs y c in rw (← found.2) (leads x found.0 (h.0 found.0 found.1))),
+  pairs_map S R f leads xs h.1,
+)
 
 pub pairs_unmap : {X Y : Type 0} (R : Y → Y → Type 0) (f : X → Y) (xs : List X) → Pairs R (map f xs) → Pairs (λ a b. R (f a) (f b)) xs
 pairs_unmap R f [] h = tt

@@ -21,7 +21,8 @@ record IsHead (level : ℕ) (names : List (List ℕ)) (m : PlanNodeValue) : Type
   level_is : m.level ≡ level
   there : Contains names m.name
 
-head_in : (level : ℕ) (nodes : List PlanNodeValue) → (named : Named level nodes) → (m : PlanNodeValue) → Contains nodes m → IsHead level named.names m
+head_in : (level : ℕ) (nodes : List PlanNodeValue) → (named : Named level nodes) → (m : PlanNodeValue) → Contains nodes m →
+    IsHead level named.names m
 head_in level nodes named m c =
     let there : Contains (map (λ t. (t, level)) named.names) (head_of m) = rw (← named.heads) (map_in head_of nodes m c) in
     let found = in_map (λ t. (t, level)) named.names (head_of m) there in
@@ -46,7 +47,8 @@ abbrev last_behind : Path → List PlanNodeValue → Path
 last_behind before [] = before
 last_behind before (n ∷ nodes) = last_behind (path_behind before n) nodes
 
-behind_joined : (before : Path) (xs ys : List PlanNodeValue) → paths_behind before (xs ++ ys) ≡ paths_behind before xs ++ paths_behind (last_behind before xs) ys
+behind_joined : (before : Path) (xs ys : List PlanNodeValue) →
+    paths_behind before (xs ++ ys) ≡ paths_behind before xs ++ paths_behind (last_behind before xs) ys
 behind_joined before [] ys = refl
 behind_joined before (x ∷ xs) ys = ap (λ (ps : List Path). path_behind before x ∷ ps) (behind_joined (path_behind before x) xs ys)
 
@@ -72,7 +74,8 @@ take_less (u ∷ above) t (v ∷ p) h =
     let later = take_less above t p rest in
     cc
 
-path_at : (above before : Path) (n : PlanNodeValue) → n.level ≡ length above + 1 → take (length above) before ≡ above → path_behind before n ≡ above ++ n.name ∷ []
+path_at : (above before : Path) (n : PlanNodeValue) → n.level ≡ length above + 1 → take (length above) before ≡ above →
+    path_behind before n ≡ above ++ n.name ∷ []
 path_at above before n at begins =
     let count : n.level - 1 ≡ length above = omega arith in
     ap (λ (k : ℕ). take k before ++ n.name ∷ []) count ∙ ap (λ (p : Path). p ++ n.name ∷ []) begins
@@ -80,22 +83,26 @@ path_at above before n at begins =
 longer : (above : Path) (n : PlanNodeValue) → n.level ≡ length above + 1 → n.level + 1 ≡ length (above ++ n.name ∷ []) + 1
 longer above n at = ap (λ (k : ℕ). k + 1) (at ∙ sym (length-append above (n.name ∷ [])))
 
-below_at : (look : Lookup) (above : Path) (n : PlanNodeValue) (inside : List PlanNodeValue) → n.level ≡ length above + 1 → nodes_inside look n ≡ Ok inside → AreAt (length (above ++ n.name ∷ []) + 1) inside
+below_at : (look : Lookup) (above : Path) (n : PlanNodeValue) (inside : List PlanNodeValue) → n.level ≡ length above + 1 →
+    nodes_inside look n ≡ Ok inside → AreAt (length (above ++ n.name ∷ []) + 1) inside
 below_at look above n inside at is m c = levels_in (n.level + 1) inside (named_inside look n inside is) m c ∙ longer above n at
 
 -- ---- paths by levels are those of the tree
 
-keeps_front : (look : Lookup) (above before : Path) (next met : List PlanNodeValue) → Meets look next met → AreAt (length above + 1) next → take (length above) before ≡ above → take (length above) (last_behind before met) ≡ above
+keeps_front : (look : Lookup) (above before : Path) (next met : List PlanNodeValue) → Meets look next met → AreAt (length above + 1) next →
+    take (length above) before ≡ above → take (length above) (last_behind before met) ≡ above
 keeps_front look above before [] met none at begins = begins
 keeps_front look above before (n ∷ next) met (met_first m inside below others after is meets later) at begins =
     let p : Path = above ++ n.name ∷ [] in
     let here : n.level ≡ length above + 1 = at n (first_in n next) in
     let inner = keeps_front look p p inside below meets (below_at look above n inside here is) (take_whole p) in
-    let further = keeps_front look above (last_behind p below) next after later (λ m c. at m (later_in n next m c)) (take_less above n.name (last_behind p below) inner) in
+    let further = keeps_front look above (last_behind p below) next after later (λ m c. at m (later_in n next m c))
+    (take_less above n.name (last_behind p below) inner) in
     ap (λ (q : Path). take (length above) (last_behind q (below ++ after))) (path_at above before n here begins)
     ∙ ap (take (length above)) (last_joined p below after) ∙ further
 
-paths_met : (look : Lookup) (above before : Path) (next met : List PlanNodeValue) → Meets look next met → AreAt (length above + 1) next → take (length above) before ≡ above → ArePathsIn look above next (paths_behind before met)
+paths_met : (look : Lookup) (above before : Path) (next met : List PlanNodeValue) → Meets look next met → AreAt (length above + 1) next →
+    take (length above) before ≡ above → ArePathsIn look above next (paths_behind before met)
 paths_met look above before [] met none at begins = no_paths above
 paths_met look above before (n ∷ next) met (met_first m inside below others after is meets later) at begins =
     let p : Path = above ++ n.name ∷ [] in
@@ -103,12 +110,16 @@ paths_met look above before (n ∷ next) met (met_first m inside below others af
     let deeper = below_at look above n inside here is in
     let kept = keeps_front look p p inside below meets deeper (take_whole p) in
     let inner = paths_met look p p inside below meets deeper (take_whole p) in
-    let further = paths_met look above (last_behind p below) next after later (λ m c. at m (later_in n next m c)) (take_less above n.name (last_behind p below) kept) in
+    let further = paths_met look above (last_behind p below) next after later (λ m c. at m (later_in n next m c))
+    (take_less above n.name (last_behind p below) kept) in
     let whole : paths_behind before (n ∷ (below ++ after)) ≡ p ∷ (paths_behind p below ++ paths_behind (last_behind p below) after) =
-    ap (λ (q : Path). q ∷ paths_behind q (below ++ after)) (path_at above before n here begins) ∙ ap (λ (ps : List Path). p ∷ ps) (behind_joined p below after) in
-    subst (λ (ps : List Path). ArePathsIn look above (n ∷ next) ps) (sym whole) (path_first above n inside next (paths_behind p below) (paths_behind (last_behind p below) after) is inner further)
+    ap (λ (q : Path). q ∷ paths_behind q (below ++ after)) (path_at above before n here begins)
+    ∙ ap (λ (ps : List Path). p ∷ ps) (behind_joined p below after) in
+    subst (λ (ps : List Path). ArePathsIn look above (n ∷ next) ps) (sym whole)
+    (path_first above n inside next (paths_behind p below) (paths_behind (last_behind p below) after) is inner further)
 
-pub plan_paths : (look : Lookup) (root : Digest) (top nodes : List PlanNodeValue) → directory_nodes look 1 root ≡ Ok top → walk look root ≡ Ok nodes → ArePathsIn look [] top (paths_of nodes)
+pub plan_paths : (look : Lookup) (root : Digest) (top nodes : List PlanNodeValue) → directory_nodes look 1 root ≡ Ok top →
+    walk look root ≡ Ok nodes → ArePathsIn look [] top (paths_of nodes)
 plan_paths look root top nodes is h =
     let tree = plan_tree look root nodes h in
     let same : tree.top ≡ top = (let e = tree.top_is in cc) in
@@ -130,7 +141,8 @@ begins_less above t q b = record { tail = t ∷ b.tail; is = b.is ∙ append_ass
 
 same_name : (above : Path) (t u : List ℕ) (q : Path) → Begins (above ++ t ∷ []) q → Begins (above ++ u ∷ []) q → t ≡ u
 same_name above t u q b c =
-    let is : t ∷ b.tail ≡ u ∷ c.tail = append_cancel_left above (t ∷ b.tail) (u ∷ c.tail) (sym (append_assoc above (t ∷ []) b.tail) ∙ sym b.is ∙ c.is ∙ append_assoc above (u ∷ []) c.tail) in
+    let is : t ∷ b.tail ≡ u ∷ c.tail = append_cancel_left above (t ∷ b.tail) (u ∷ c.tail)
+    (sym (append_assoc above (t ∷ []) b.tail) ∙ sym b.is ∙ c.is ∙ append_assoc above (u ∷ []) c.tail) in
     cc
 
 record Below (above : Path) (next : List PlanNodeValue) (q : Path) : Type 0 where
@@ -138,15 +150,20 @@ record Below (above : Path) (next : List PlanNodeValue) (q : Path) : Type 0 wher
   there : Contains next node
   begins : Begins (above ++ node.name ∷ []) q
 
-begun : (look : Lookup) (above : Path) (next : List PlanNodeValue) (paths : List Path) → ArePathsIn look above next paths → (q : Path) → Contains paths q → Below above next q
+begun : (look : Lookup) (above : Path) (next : List PlanNodeValue) (paths : List Path) → ArePathsIn look above next paths → (q : Path) →
+    Contains paths q → Below above next q
 begun look above [] paths (no_paths there) q c = absurd (in_none q c)
 begun look above (n ∷ next) paths (path_first there x inside others below after is inner later) q c =
-    go (in_cases (above ++ n.name ∷ []) (below ++ after) q c) (begun look (above ++ n.name ∷ []) inside below inner q) (begun look above next after later q) where
-      rest : Contains below q ⊎ Contains after q → (Contains below q → Below (above ++ n.name ∷ []) inside q) → (Contains after q → Below above next q) → Below above (n ∷ next) q
-      rest (inl c) deeper further = let b = deeper c in record { node = n; there = first_in n next; begins = begins_less (above ++ n.name ∷ []) b.node.name q b.begins }
+    go (in_cases (above ++ n.name ∷ []) (below ++ after) q c) (begun look (above ++ n.name ∷ []) inside below inner q)
+    (begun look above next after later q) where
+      rest : Contains below q ⊎ Contains after q → (Contains below q → Below (above ++ n.name ∷ []) inside q) →
+          (Contains after q → Below above next q) → Below above (n ∷ next) q
+      rest (inl c) deeper further = let b = deeper c in
+          record { node = n; there = first_in n next; begins = begins_less (above ++ n.name ∷ []) b.node.name q b.begins }
       rest (inr c) deeper further = let b = further c in record { node = b.node; there = later_in n next b.node b.there; begins = b.begins }
 
-      go : (above ++ n.name ∷ [] ≡ q) ⊎ Contains (below ++ after) q → (Contains below q → Below (above ++ n.name ∷ []) inside q) → (Contains after q → Below above next q) → Below above (n ∷ next) q
+      go : (above ++ n.name ∷ [] ≡ q) ⊎ Contains (below ++ after) q → (Contains below q → Below (above ++ n.name ∷ []) inside q) →
+          (Contains after q → Below above next q) → Below above (n ∷ next) q
       go (inl same) deeper further = record { node = n; there = first_in n next; begins = rw (← same) (own (above ++ n.name ∷ [])) }
       go (inr c) deeper further = rest (Contains-append_cases below after q c) deeper further
 
@@ -159,21 +176,32 @@ not_its_own p t q b same =
 not_another : (above : Path) (t u : List ℕ) (p q : Path) → t ≢ u → Begins (above ++ t ∷ []) p → Begins (above ++ u ∷ []) q → p ≢ q
 not_another above t u p q ne b c same = ne (same_name above t u q (rw (← same) b) c)
 
-once : (look : Lookup) (above : Path) (next : List PlanNodeValue) (paths : List Path) → ArePathsIn look above next paths → Pairs (λ a b. a.name ≢ b.name) next → Pairs (λ earlier later. earlier ≢ later) paths
+once : (look : Lookup) (above : Path) (next : List PlanNodeValue) (paths : List Path) → ArePathsIn look above next paths →
+    Pairs (λ a b. a.name ≢ b.name) next → Pairs (λ earlier later. earlier ≢ later) paths
 once look above [] paths (no_paths there) apart = tt
 once look above (n ∷ next) paths (path_first there x inside others below after is inner later) apart =
     let p : Path = above ++ n.name ∷ [] in
     let named = names_differ (n.level + 1) inside (named_inside look n inside is) in
-    let cross = λ (a b : Path) (ca : Contains below a) (cb : Contains after b). (let x = begun look p inside below inner a ca in let y = begun look above next after later b cb in not_another above n.name y.node.name a b (apart.0 y.node y.there) (begins_less p x.node.name a x.begins) y.begins) in
-    (λ q c. first q (Contains-append_cases below after q c), pairs_joined (λ earlier later. earlier ≢ later) below after (once look p inside below inner named) (once look above next after later apart.1) cross) where
+    let cross = λ (a b : Path) (ca : Contains below a) (cb : Contains after b).
+    (let x = begun look p inside below inner a ca in let y = begun look above next after later b cb in
+    not_another above n.name y.node.name a b (apart.0 y.node y.there) (begins_less p x.node.name a x.begins) y.begins) in (
+      λ q c. first q (Contains-append_cases below after q c),
+      pairs_joined (λ earlier later. earlier ≢ later) below after
+          (once look p inside below inner named) (once look above next after later apart.1) cross,
+    ) where
       first : (q : Path) → Contains below q ⊎ Contains after q → above ++ n.name ∷ [] ≢ q
-      first q (inl c) = let x = begun look (above ++ n.name ∷ []) inside below inner q c in not_its_own (above ++ n.name ∷ []) x.node.name q x.begins
-      first q (inr c) = let y = begun look above next after later q c in not_another above n.name y.node.name (above ++ n.name ∷ []) q (apart.0 y.node y.there) (own (above ++ n.name ∷ [])) y.begins
+      first q (inl c) = let x = begun look (above ++ n.name ∷ []) inside below inner q c in
+          not_its_own (above ++ n.name ∷ []) x.node.name q x.begins
+      first q (inr c) = let y = begun look above next after later q c in
+          not_another above n.name y.node.name (above ++ n.name ∷ []) q (apart.0 y.node y.there) (own (above ++ n.name ∷ [])) y.begins
 
-pub plan_once : (look : Lookup) (root : Digest) (nodes : List PlanNodeValue) → walk look root ≡ Ok nodes → AllPairs (λ earlier later. earlier ≢ later) (paths_of nodes)
+pub plan_once : (look : Lookup) (root : Digest) (nodes : List PlanNodeValue) → walk look root ≡ Ok nodes →
+    AllPairs (λ earlier later. earlier ≢ later) (paths_of nodes)
 plan_once look root nodes h =
     let tree = plan_tree look root nodes h in
-    pairs_all (λ earlier later. earlier ≢ later) (paths_of nodes) (once look [] tree.top (paths_of nodes) (plan_paths look root tree.top nodes tree.top_is h) (names_differ 1 tree.top (named_directory look 1 root tree.top tree.top_is)))
+    pairs_all (λ earlier later. earlier ≢ later) (paths_of nodes)
+    (once look [] tree.top (paths_of nodes) (plan_paths look root tree.top nodes tree.top_is h)
+    (names_differ 1 tree.top (named_directory look 1 root tree.top tree.top_is)))
 
 -- ---- names
 
@@ -186,12 +214,16 @@ named_names level nodes named m c = named.good m.name (head_in level nodes named
 all_named : (look : Lookup) (next met : List PlanNodeValue) → Meets look next met → AreNamed next → AreNamed met
 all_named look [] met none named m c = absurd (in_none m c)
 all_named look (n ∷ next) met (met_first x inside below others after is meets later) named m c =
-    go (in_cases n (below ++ after) m c) (all_named look inside below meets (named_names (n.level + 1) inside (named_inside look n inside is)) m) (all_named look next after later (λ k d. named k (later_in n next k d)) m) where
-      rest : Contains below m ⊎ Contains after m → (Contains below m → is_name m.name ≡ true) → (Contains after m → is_name m.name ≡ true) → is_name m.name ≡ true
+    go (in_cases n (below ++ after) m c) (all_named look inside below meets
+    (named_names (n.level + 1) inside (named_inside look n inside is)) m)
+    (all_named look next after later (λ k d. named k (later_in n next k d)) m) where
+      rest : Contains below m ⊎ Contains after m → (Contains below m → is_name m.name ≡ true) → (Contains after m → is_name m.name ≡ true) →
+          is_name m.name ≡ true
       rest (inl c) deeper further = deeper c
       rest (inr c) deeper further = further c
 
-      go : (n ≡ m) ⊎ Contains (below ++ after) m → (Contains below m → is_name m.name ≡ true) → (Contains after m → is_name m.name ≡ true) → is_name m.name ≡ true
+      go : (n ≡ m) ⊎ Contains (below ++ after) m → (Contains below m → is_name m.name ≡ true) → (Contains after m → is_name m.name ≡ true) →
+          is_name m.name ≡ true
       go (inl same) deeper further = rw (← same) (named n (first_in n next))
       go (inr c) deeper further = rest (Contains-append_cases below after m c) deeper further
 

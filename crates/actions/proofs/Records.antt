@@ -19,7 +19,9 @@ use Rattle.actions.specs.Texts.{string_in, string_after, each_after, strings_aft
 
 -- ---- records one after another
 
-pub text_is : {A : Type 0} (step : A → Record → Option A) (a : A) (value_of : List Record → Result A MessageError) → ((rs : List Record) → with_all step a rs ≡ readable (value_of rs)) → (text : List ℕ) → with_left step a (records_of text) ≡ readable (value_of_text value_of text)
+pub text_is : {A : Type 0} (step : A → Record → Option A) (a : A) (value_of : List Record → Result A MessageError) →
+    ((rs : List Record) → with_all step a rs ≡ readable (value_of rs)) → (text : List ℕ) →
+    with_left step a (records_of text) ≡ readable (value_of_text value_of text)
 unfolding records_in
 text_is step a value_of h text = go (records_of text) where
   go : (rs : Result (List Record) WireError) → with_left step a rs ≡ readable (of_wire rs >>= value_of)
@@ -41,20 +43,24 @@ module _ {A B : Type 0} (f : A → Record → Option A) (g : B → Record → Op
   pub beside_are : (a : A) (b : B) (rs : List Record) → with_all beside (a, b) rs ≡ both (with_all f a rs) (with_all g b rs)
   beside_are a b [] = refl
   beside_are a b (r ∷ rs) = go (f a r) (g b r) (λ c d. beside_are c d rs) where
-    go : (x : Option A) (y : Option B) → ((c : A) (d : B) → with_all beside (c, d) rs ≡ both (with_all f c rs) (with_all g d rs)) → and_then (both x y) (λ p. with_all beside p rs) ≡ both (and_then x (λ c. with_all f c rs)) (and_then y (λ d. with_all g d rs))
+    go : (x : Option A) (y : Option B) → ((c : A) (d : B) → with_all beside (c, d) rs ≡ both (with_all f c rs) (with_all g d rs)) →
+        and_then (both x y) (λ p. with_all beside p rs) ≡ both (and_then x (λ c. with_all f c rs)) (and_then y (λ d. with_all g d rs))
     go None y later = refl
     go (Some c) None later = sym (none_after (with_all f c rs))
     go (Some c) (Some d) later = later c d
 
 -- ---- a value seen as what it is made of
 
-module _ {P V : Type 0} (seen : P → V) (step : V → Record → Option V) (part_step : P → Record → Option P) (is : (p : P) (r : Record) → step (seen p) r ≡ option_map seen (part_step p r)) where
+module _ {P V : Type 0} (seen : P → V) (step : V → Record → Option V) (part_step : P → Record → Option P)
+    (is : (p : P) (r : Record) → step (seen p) r ≡ option_map seen (part_step p r)) where
   pub seen_along : (p : P) (rs : List Record) → with_all step (seen p) rs ≡ option_map seen (with_all part_step p rs)
   seen_along p [] = refl
-  seen_along p (r ∷ rs) = ap (λ (o : Option V). and_then o (λ v. with_all step v rs)) (is p r) ∙ go (part_step p r) (λ q. seen_along q rs) where
-    go : (o : Option P) → ((q : P) → with_all step (seen q) rs ≡ option_map seen (with_all part_step q rs)) → and_then (option_map seen o) (λ v. with_all step v rs) ≡ option_map seen (and_then o (λ q. with_all part_step q rs))
-    go None later = refl
-    go (Some q) later = later q
+  seen_along p (r ∷ rs) = ap (λ (o : Option V). and_then o (λ v. with_all step v rs)) (is p r)
+      ∙ go (part_step p r) (λ q. seen_along q rs) where
+        go : (o : Option P) → ((q : P) → with_all step (seen q) rs ≡ option_map seen (with_all part_step q rs)) →
+            and_then (option_map seen o) (λ v. with_all step v rs) ≡ option_map seen (and_then o (λ q. with_all part_step q rs))
+        go None later = refl
+        go (Some q) later = later q
 
 -- ---- one field
 
@@ -64,33 +70,48 @@ string_in_is b = go (is_utf8 b) where
   go true = refl
   go false = refl
 
-module _ {V : Type 0} (take : List ℕ → Option V) (read : List ℕ → Result V MessageError) (same : (b : List ℕ) → take b ≡ readable (read b)) (field : ℕ) where
-  each_are : (front : List V) (rs : List Record) → with_all (each_after take field) front rs ≡ readable (after front (each_of read (payloads field rs)))
+module _ {V : Type 0} (take : List ℕ → Option V) (read : List ℕ → Result V MessageError) (same : (b : List ℕ) → take b ≡ readable (read b))
+    (field : ℕ) where
+  each_are : (front : List V) (rs : List Record) →
+      with_all (each_after take field) front rs ≡ readable (after front (each_of read (payloads field rs)))
   unfolding payloads each_of
   each_are front [] = rw (append-nil front) refl
   each_are front (r ∷ rs) = go (payload_in field r) refl (λ vs. each_are vs rs) where
-    value : (x : Result V MessageError) → ((vs : List V) → with_all (each_after take field) vs rs ≡ readable (after vs (each_of read (payloads field rs)))) → and_then (and_then (readable x) (λ v. Some (front ++ v ∷ []))) (λ vs. with_all (each_after take field) vs rs) ≡ readable (after front (x >>= λ v. each_of read (payloads field rs) >>= λ vs. Ok (v ∷ vs)))
+    value : (x : Result V MessageError) → ((vs : List V) →
+        with_all (each_after take field) vs rs ≡ readable (after vs (each_of read (payloads field rs)))) →
+        and_then (and_then (readable x) (λ v. Some (front ++ v ∷ []))) (λ vs. with_all (each_after take field) vs rs)
+        ≡ readable (after front (x >>= λ v. each_of read (payloads field rs) >>= λ vs. Ok (v ∷ vs)))
     value (Err e) later = refl
     value (Ok v) later = later (front ++ v ∷ []) ∙ ap readable (sym (after_next front v (each_of read (payloads field rs))))
 
-    go : (o : Option (List ℕ)) → payload_in field r ≡ o → ((vs : List V) → with_all (each_after take field) vs rs ≡ readable (after vs (each_of read (payloads field rs)))) → with_all (each_after take field) front (r ∷ rs) ≡ readable (after front (each_of read (payloads field (r ∷ rs))))
+    go : (o : Option (List ℕ)) → payload_in field r ≡ o →
+        ((vs : List V) → with_all (each_after take field) vs rs ≡ readable (after vs (each_of read (payloads field rs)))) →
+        with_all (each_after take field) front (r ∷ rs) ≡ readable (after front (each_of read (payloads field (r ∷ rs))))
     go None at later = rw at (later front)
-    go (Some b) at later = rw at (ap (λ (o : Option V). and_then (and_then o (λ v. Some (front ++ v ∷ []))) (λ vs. with_all (each_after take field) vs rs)) (same b) ∙ value (read b) later)
+    go (Some b) at later = rw at (ap (λ (o : Option V). and_then (and_then o (λ v. Some (front ++ v ∷ [])))
+        (λ vs. with_all (each_after take field) vs rs)) (same b) ∙ value (read b) later)
 
   all_are : (rs : List Record) → with_all (each_after take field) [] rs ≡ readable (each_of read (payloads field rs))
   all_are rs = each_are [] rs ∙ ap readable (after_none (each_of read (payloads field rs)))
 
-last_is : (field : ℕ) (last : List ℕ) (rs : List Record) → with_all (string_after field) last rs ≡ readable (last_after last (repeated_string field rs))
+last_is : (field : ℕ) (last : List ℕ) (rs : List Record) →
+    with_all (string_after field) last rs ≡ readable (last_after last (repeated_string field rs))
 unfolding payloads each_of last_or
 last_is field last [] = refl
 last_is field last (r ∷ rs) = go (payload_in field r) refl (λ text. last_is field text rs) where
-  value : (x : Result (List ℕ) MessageError) → ((text : List ℕ) → with_all (string_after field) text rs ≡ readable (last_after text (repeated_string field rs))) → and_then (readable x) (λ text. with_all (string_after field) text rs) ≡ readable (last_after last (x >>= λ y. repeated_string field rs >>= λ ys. Ok (y ∷ ys)))
+  value : (x : Result (List ℕ) MessageError) → ((text : List ℕ) →
+      with_all (string_after field) text rs ≡ readable (last_after text (repeated_string field rs))) →
+      and_then (readable x) (λ text. with_all (string_after field) text rs)
+      ≡ readable (last_after last (x >>= λ y. repeated_string field rs >>= λ ys. Ok (y ∷ ys)))
   value (Err e) later = refl
   value (Ok b) later = later b ∙ ap readable (sym (last_after_next last b (repeated_string field rs)))
 
-  go : (o : Option (List ℕ)) → payload_in field r ≡ o → ((text : List ℕ) → with_all (string_after field) text rs ≡ readable (last_after text (repeated_string field rs))) → with_all (string_after field) last (r ∷ rs) ≡ readable (last_after last (repeated_string field (r ∷ rs)))
+  go : (o : Option (List ℕ)) → payload_in field r ≡ o →
+      ((text : List ℕ) → with_all (string_after field) text rs ≡ readable (last_after text (repeated_string field rs))) →
+      with_all (string_after field) last (r ∷ rs) ≡ readable (last_after last (repeated_string field (r ∷ rs)))
   go None at later = rw at (later last)
-  go (Some b) at later = rw at (ap (λ (o : Option (List ℕ)). and_then o (λ text. with_all (string_after field) text rs)) (string_in_is b) ∙ value (utf8 b) later)
+  go (Some b) at later = rw at (ap (λ (o : Option (List ℕ)). and_then o (λ text. with_all (string_after field) text rs)) (string_in_is b)
+      ∙ value (utf8 b) later)
 
 pub string_is : (field : ℕ) (rs : List Record) → with_all (string_after field) [] rs ≡ readable (string field rs)
 string_is field rs = last_is field [] rs
@@ -103,7 +124,8 @@ variable_of_pair p = record { name = p.0; value = p.1 }
 abbrev variable_step : List ℕ × List ℕ → Record → Option (List ℕ × List ℕ)
 variable_step = beside (string_after 1) (string_after 2)
 
-variable_with : (x y : Option (List ℕ)) → and_then x (λ name. and_then y (λ value. Some (variable_of_pair (name, value)))) ≡ option_map variable_of_pair (both x y)
+variable_with : (x y : Option (List ℕ)) → and_then x (λ name. and_then y (λ value. Some (variable_of_pair (name, value))))
+    ≡ option_map variable_of_pair (both x y)
 variable_with None y = refl
 variable_with (Some name) None = refl
 variable_with (Some name) (Some value) = refl
@@ -111,15 +133,18 @@ variable_with (Some name) (Some value) = refl
 variables_are : (rs : List Record) → with_all variable_step ([], []) rs ≡ both (readable (string 1 rs)) (readable (string 2 rs))
 variables_are rs =
     beside_are (string_after 1) (string_after 2) [] [] rs
-    ∙ both_same (with_all (string_after 1) [] rs) (readable (string 1 rs)) (with_all (string_after 2) [] rs) (readable (string 2 rs)) (string_is 1 rs) (string_is 2 rs)
+    ∙ both_same (with_all (string_after 1) [] rs) (readable (string 1 rs)) (with_all (string_after 2) [] rs) (readable (string 2 rs))
+    (string_is 1 rs) (string_is 2 rs)
 
 variable_is : (rs : List Record) → with_all variable_after no_variable rs ≡ readable (environment_variable_of rs)
 unfolding environment_variable_of
 variable_is rs =
-    seen_along variable_of_pair variable_after variable_step (λ p r. variable_with (string_after 1 p.0 r) (string_after 2 p.1 r)) ([], []) rs
+    seen_along variable_of_pair variable_after variable_step (λ p r. variable_with (string_after 1 p.0 r) (string_after 2 p.1 r))
+    ([], []) rs
     ∙ ap (option_map variable_of_pair) (variables_are rs)
     ∙ go (string 1 rs) (string 2 rs) where
-      go : (x y : Result (List ℕ) MessageError) → option_map variable_of_pair (both (readable x) (readable y)) ≡ readable (x >>= λ name. y >>= λ value. Ok (variable_of_pair (name, value)))
+      go : (x y : Result (List ℕ) MessageError) → option_map variable_of_pair (both (readable x) (readable y))
+          ≡ readable (x >>= λ name. y >>= λ value. Ok (variable_of_pair (name, value)))
       go (Err e) y = refl
       go (Ok name) (Err e) = refl
       go (Ok name) (Ok value) = refl
@@ -154,13 +179,15 @@ from_directories = beside (strings_after 4) from_place
 abbrev from_files : Texts × (Texts × (List ℕ × Texts)) → Record → Option (Texts × (Texts × (List ℕ × Texts)))
 from_files = beside (strings_after 3) from_directories
 
-abbrev from_variables : List EnvironmentVariableValue × (Texts × (Texts × (List ℕ × Texts))) → Record → Option (List EnvironmentVariableValue × (Texts × (Texts × (List ℕ × Texts))))
+abbrev from_variables : List EnvironmentVariableValue × (Texts × (Texts × (List ℕ × Texts))) → Record →
+    Option (List EnvironmentVariableValue × (Texts × (Texts × (List ℕ × Texts))))
 from_variables = beside (each_after variable_in 2) from_files
 
 abbrev part_step : Parts → Record → Option Parts
 part_step = beside (strings_after 1) from_variables
 
-parts_with : (a : Option Texts) (b : Option (List EnvironmentVariableValue)) (c d : Option Texts) (e : Option (List ℕ)) (f : Option Texts) → command_with a b c d e f ≡ option_map of_parts (both a (both b (both c (both d (both e f)))))
+parts_with : (a : Option Texts) (b : Option (List EnvironmentVariableValue)) (c d : Option Texts) (e : Option (List ℕ)) (f : Option Texts) →
+    command_with a b c d e f ≡ option_map of_parts (both a (both b (both c (both d (both e f)))))
 parts_with None b c d e f = refl
 parts_with (Some a) None c d e f = refl
 parts_with (Some a) (Some b) None d e f = refl
@@ -179,36 +206,56 @@ module _ (rs : List Record) where
   place_are : with_all from_place ([], []) rs ≡ both (readable (string 6 rs)) (texts_read 7)
   place_are =
       beside_are (string_after 6) (strings_after 7) [] [] rs
-      ∙ both_same (with_all (string_after 6) [] rs) (readable (string 6 rs)) (texts_in 7) (texts_read 7) (string_is 6 rs) (all_are string_in utf8 string_in_is 7 rs)
+      ∙ both_same (with_all (string_after 6) [] rs) (readable (string 6 rs)) (texts_in 7) (texts_read 7) (string_is 6 rs)
+      (all_are string_in utf8 string_in_is 7 rs)
 
   directories_are : with_all from_directories ([], ([], [])) rs ≡ both (texts_read 4) (both (readable (string 6 rs)) (texts_read 7))
   directories_are =
       beside_are (strings_after 4) from_place [] ([], []) rs
-      ∙ both_same (texts_in 4) (texts_read 4) (with_all from_place ([], []) rs) (both (readable (string 6 rs)) (texts_read 7)) (all_are string_in utf8 string_in_is 4 rs) place_are
+      ∙ both_same (texts_in 4) (texts_read 4) (with_all from_place ([], []) rs) (both (readable (string 6 rs)) (texts_read 7))
+      (all_are string_in utf8 string_in_is 4 rs) place_are
 
-  files_are : with_all from_files ([], ([], ([], []))) rs ≡ both (texts_read 3) (both (texts_read 4) (both (readable (string 6 rs)) (texts_read 7)))
+  files_are : with_all from_files ([], ([], ([], []))) rs
+      ≡ both (texts_read 3) (both (texts_read 4) (both (readable (string 6 rs)) (texts_read 7)))
   files_are =
       beside_are (strings_after 3) from_directories [] ([], ([], [])) rs
-      ∙ both_same (texts_in 3) (texts_read 3) (with_all from_directories ([], ([], [])) rs) (both (texts_read 4) (both (readable (string 6 rs)) (texts_read 7))) (all_are string_in utf8 string_in_is 3 rs) directories_are
+      ∙ both_same (texts_in 3) (texts_read 3) (with_all from_directories ([], ([], [])) rs)
+      (both (texts_read 4) (both (readable (string 6 rs)) (texts_read 7))) (all_are string_in utf8 string_in_is 3 rs) directories_are
 
-  all_variables_are : with_all from_variables ([], ([], ([], ([], [])))) rs ≡ both (readable (repeated_values environment_variable_of 2 rs)) (both (texts_read 3) (both (texts_read 4) (both (readable (string 6 rs)) (texts_read 7))))
+  all_variables_are : with_all from_variables ([], ([], ([], ([], [])))) rs
+      ≡ both (readable (repeated_values environment_variable_of 2 rs))
+      (both (texts_read 3) (both (texts_read 4) (both (readable (string 6 rs)) (texts_read 7))))
   all_variables_are =
       beside_are (each_after variable_in 2) from_files [] ([], ([], ([], []))) rs
-      ∙ both_same (with_all (each_after variable_in 2) [] rs) (readable (repeated_values environment_variable_of 2 rs)) (with_all from_files ([], ([], ([], []))) rs) (both (texts_read 3) (both (texts_read 4) (both (readable (string 6 rs)) (texts_read 7)))) (all_are variable_in (value_of_text environment_variable_of) (λ b. refl) 2 rs) files_are
+      ∙ both_same (with_all (each_after variable_in 2) [] rs) (readable (repeated_values environment_variable_of 2 rs))
+      (with_all from_files ([], ([], ([], []))) rs)
+      (both (texts_read 3) (both (texts_read 4) (both (readable (string 6 rs)) (texts_read 7))))
+      (all_are variable_in (value_of_text environment_variable_of) (λ b. refl) 2 rs) files_are
 
-  parts_are : with_all part_step ([], ([], ([], ([], ([], []))))) rs ≡ both (texts_read 1) (both (readable (repeated_values environment_variable_of 2 rs)) (both (texts_read 3) (both (texts_read 4) (both (readable (string 6 rs)) (texts_read 7)))))
+  parts_are : with_all part_step ([], ([], ([], ([], ([], []))))) rs
+      ≡ both (texts_read 1) (both (readable (repeated_values environment_variable_of 2 rs))
+      (both (texts_read 3) (both (texts_read 4) (both (readable (string 6 rs)) (texts_read 7)))))
   parts_are =
       beside_are (strings_after 1) from_variables [] ([], ([], ([], ([], [])))) rs
-      ∙ both_same (texts_in 1) (texts_read 1) (with_all from_variables ([], ([], ([], ([], [])))) rs) (both (readable (repeated_values environment_variable_of 2 rs)) (both (texts_read 3) (both (texts_read 4) (both (readable (string 6 rs)) (texts_read 7))))) (all_are string_in utf8 string_in_is 1 rs) all_variables_are
+      ∙ both_same (texts_in 1) (texts_read 1) (with_all from_variables ([], ([], ([], ([], [])))) rs)
+      (both (readable (repeated_values environment_variable_of 2 rs))
+      (both (texts_read 3) (both (texts_read 4) (both (readable (string 6 rs)) (texts_read 7)))))
+      (all_are string_in utf8 string_in_is 1 rs) all_variables_are
 
 command_is : (rs : List Record) → with_all command_after no_command rs ≡ readable (command_of rs)
 unfolding command_of
 command_is rs =
-    seen_along of_parts command_after part_step (λ p r. parts_with (strings_after 1 p.0 r) (each_after variable_in 2 p.1.0 r) (strings_after 3 p.1.1.0 r) (strings_after 4 p.1.1.1.0 r) (string_after 6 p.1.1.1.1.0 r) (strings_after 7 p.1.1.1.1.1 r)) ([], ([], ([], ([], ([], []))))) rs
+    seen_along of_parts command_after part_step (λ p r. parts_with (strings_after 1 p.0 r) (each_after variable_in 2 p.1.0 r)
+    (strings_after 3 p.1.1.0 r) (strings_after 4 p.1.1.1.0 r) (string_after 6 p.1.1.1.1.0 r) (strings_after 7 p.1.1.1.1.1 r))
+    ([], ([], ([], ([], ([], []))))) rs
     ∙ ap (option_map of_parts) (parts_are rs)
-    ∙ go (repeated_string 1 rs) (repeated_values environment_variable_of 2 rs) (repeated_string 3 rs) (repeated_string 4 rs) (string 6 rs) (repeated_string 7 rs) where
-      go : (a : Result Texts MessageError) (b : Result (List EnvironmentVariableValue) MessageError) (c d : Result Texts MessageError) (e : Result (List ℕ) MessageError) (f : Result Texts MessageError)
-          → option_map of_parts (both (readable a) (both (readable b) (both (readable c) (both (readable d) (both (readable e) (readable f)))))) ≡ readable (a >>= λ u. b >>= λ v. c >>= λ w. d >>= λ x. e >>= λ y. f >>= λ z. Ok (of_parts (u, (v, (w, (x, (y, z)))))))
+    ∙ go (repeated_string 1 rs) (repeated_values environment_variable_of 2 rs) (repeated_string 3 rs) (repeated_string 4 rs) (string 6 rs)
+    (repeated_string 7 rs) where
+      go : (a : Result Texts MessageError) (b : Result (List EnvironmentVariableValue) MessageError) (c d : Result Texts MessageError)
+          (e : Result (List ℕ) MessageError) (f : Result Texts MessageError)
+          → option_map of_parts (both (readable a) (both (readable b)
+          (both (readable c) (both (readable d) (both (readable e) (readable f))))))
+          ≡ readable (a >>= λ u. b >>= λ v. c >>= λ w. d >>= λ x. e >>= λ y. f >>= λ z. Ok (of_parts (u, (v, (w, (x, (y, z)))))))
       go (Err u) b c d e f = refl
       go (Ok u) (Err v) c d e f = refl
       go (Ok u) (Ok v) (Err w) d e f = refl
@@ -217,8 +264,10 @@ command_is rs =
       go (Ok u) (Ok v) (Ok w) (Ok x) (Ok y) (Err z) = refl
       go (Ok u) (Ok v) (Ok w) (Ok x) (Ok y) (Ok z) = refl
 
-pub command_taken_is : (text : List ℕ) → taken_command (with_left command_after no_command (records_of text)) ≡ valid_command (value_of_text command_of text)
-command_taken_is text = ap taken_command (text_is command_after no_command command_of command_is text) ∙ go (value_of_text command_of text) where
-  go : (x : Result CommandValue MessageError) → taken_command (readable x) ≡ valid_command x
-  go (Err e) = refl
-  go (Ok v) = refl
+pub command_taken_is : (text : List ℕ) → taken_command (with_left command_after no_command (records_of text))
+    ≡ valid_command (value_of_text command_of text)
+command_taken_is text = ap taken_command (text_is command_after no_command command_of command_is text)
+    ∙ go (value_of_text command_of text) where
+      go : (x : Result CommandValue MessageError) → taken_command (readable x) ≡ valid_command x
+      go (Err e) = refl
+      go (Ok v) = refl

@@ -17,18 +17,21 @@ record Splits (look : Lookup) (front rest met : List PlanNodeValue) : Type 0 whe
   front_meets : Meets look front below
   rest_meets : Meets look rest after
 
-with_first : (look : Lookup) (n : PlanNodeValue) (inside below front rest later : List PlanNodeValue) → nodes_inside look n ≡ Ok inside → Meets look inside below → Splits look front rest later → Splits look (n ∷ front) rest (n ∷ (below ++ later))
+with_first : (look : Lookup) (n : PlanNodeValue) (inside below front rest later : List PlanNodeValue) → nodes_inside look n ≡ Ok inside →
+    Meets look inside below → Splits look front rest later → Splits look (n ∷ front) rest (n ∷ (below ++ later))
 with_first look n inside below front rest later is meets s = record {
   below = n ∷ (below ++ s.below);
   after = s.after;
-  is = ap (λ (ns : List PlanNodeValue). n ∷ ns) (ap (λ (ns : List PlanNodeValue). below ++ ns) s.is ∙ sym (append_assoc below s.below s.after));
+  is = ap (λ (ns : List PlanNodeValue). n ∷ ns) (ap (λ (ns : List PlanNodeValue). below ++ ns) s.is
+      ∙ sym (append_assoc below s.below s.after));
   front_meets = met_first n inside below front s.below is meets s.front_meets;
   rest_meets = s.rest_meets;
 }
 
 splits : (look : Lookup) (front rest met : List PlanNodeValue) → Meets look (front ++ rest) met → Splits look front rest met
 splits look [] rest met h = record { below = []; after = met; is = refl; front_meets = none; rest_meets = h }
-splits look (x ∷ front) rest met (met_first n inside below next after is meets later) = with_first look n inside below front rest after is meets (splits look front rest after later)
+splits look (x ∷ front) rest met (met_first n inside below next after is meets later) =
+    with_first look n inside below front rest after is meets (splits look front rest after later)
 
 -- the nodes that were met, and those that are met from what comes next
 record Continues (look : Lookup) (next met nodes : List PlanNodeValue) : Type 0 where
@@ -36,7 +39,8 @@ record Continues (look : Lookup) (next met nodes : List PlanNodeValue) : Type 0 
   is : nodes ≡ met ++ after
   meets : Meets look next after
 
-continued : (look : Lookup) (n : PlanNodeValue) (inside next met nodes : List PlanNodeValue) → nodes_inside look n ≡ Ok inside → Continues look (inside ++ next) (met ++ n ∷ []) nodes → Continues look (n ∷ next) met nodes
+continued : (look : Lookup) (n : PlanNodeValue) (inside next met nodes : List PlanNodeValue) → nodes_inside look n ≡ Ok inside →
+    Continues look (inside ++ next) (met ++ n ∷ []) nodes → Continues look (n ∷ next) met nodes
 continued look n inside next met nodes is c =
     let s = splits look inside next c.after c.meets in
     record {
@@ -45,37 +49,50 @@ continued look n inside next met nodes is c =
       meets = met_first n inside s.below next s.after is s.front_meets s.rest_meets;
     }
 
-continues : (most : ℕ) (look : Lookup) (next met nodes : List PlanNodeValue) → walk_along most look next met ≡ Ok nodes → Continues look next met nodes
+continues : (most : ℕ) (look : Lookup) (next met nodes : List PlanNodeValue) → walk_along most look next met ≡ Ok nodes →
+    Continues look next met nodes
 unfolding walk_along
 continues zero look [] met nodes h = record { after = []; is = (let e : met ≡ nodes = cc in sym e) ∙ sym (append-nil met); meets = none }
-continues (suc most) look [] met nodes h = record { after = []; is = (let e : met ≡ nodes = cc in sym e) ∙ sym (append-nil met); meets = none }
+continues (suc most) look [] met nodes h = record
+    { after = []; is = (let e : met ≡ nodes = cc in sym e) ∙ sym (append-nil met); meets = none }
 continues zero look (n ∷ next) met nodes h = cc
-continues (suc most) look (n ∷ next) met nodes h = go (nodes_inside look n) refl h (λ inside. continues most look (inside ++ next) (met ++ n ∷ []) nodes) where
-  go : (m : Nodes) → nodes_inside look n ≡ m → (m >>= (λ inside. walk_along most look (inside ++ next) (met ++ n ∷ []))) ≡ Ok nodes → ((inside : List PlanNodeValue) → walk_along most look (inside ++ next) (met ++ n ∷ []) ≡ Ok nodes → Continues look (inside ++ next) (met ++ n ∷ []) nodes) → Continues look (n ∷ next) met nodes
-  go (Ok inside) is h later = continued look n inside next met nodes is (later inside h)
-  go (Err e) is h later = cc
+continues (suc most) look (n ∷ next) met nodes h =
+    go (nodes_inside look n) refl h (λ inside. continues most look (inside ++ next) (met ++ n ∷ []) nodes) where
+      go : (m : Nodes) → nodes_inside look n ≡ m → (m >>= (λ inside. walk_along most look (inside ++ next) (met ++ n ∷ []))) ≡ Ok nodes →
+          ((inside : List PlanNodeValue) → walk_along most look (inside ++ next) (met ++ n ∷ []) ≡ Ok nodes →
+          Continues look (inside ++ next) (met ++ n ∷ []) nodes) → Continues look (n ∷ next) met nodes
+      go (Ok inside) is h later = continued look n inside next met nodes is (later inside h)
+      go (Err e) is h later = cc
 
 -- what was met is among the nodes in the end
-pub met_stays : (most : ℕ) (look : Lookup) (next met nodes : List PlanNodeValue) (n : PlanNodeValue) → walk_along most look next met ≡ Ok nodes → Contains met n → Contains nodes n
+pub met_stays : (most : ℕ) (look : Lookup) (next met nodes : List PlanNodeValue) (n : PlanNodeValue) →
+    walk_along most look next met ≡ Ok nodes → Contains met n → Contains nodes n
 met_stays most look next met nodes n h c = let k = continues most look next met nodes h in rw (k.is) (Contains-append_left met k.after n c)
 
 -- ---- what a plan says of the walk
 
-none_missing_ok : (nodes plan : List PlanNodeValue) (ds : List Digest) → nodes_unless_missing nodes ds ≡ Ok plan → (nodes ≡ plan) × (ds ≡ [])
+none_missing_ok : (nodes plan : List PlanNodeValue) (ds : List Digest) → nodes_unless_missing nodes ds ≡ Ok plan →
+    (nodes ≡ plan) × (ds ≡ [])
 none_missing_ok nodes plan [] h = (cc, refl)
 none_missing_ok nodes plan (d ∷ ds) h = cc
 
-pub none_missing_err : (nodes : List PlanNodeValue) (ds digests : List Digest) → nodes_unless_missing nodes ds ≡ Err (missing digests) → ds ≡ digests
+pub none_missing_err : (nodes : List PlanNodeValue) (ds digests : List Digest) → nodes_unless_missing nodes ds ≡ Err (missing digests) →
+    ds ≡ digests
 none_missing_err nodes [] digests h = cc
 none_missing_err nodes (d ∷ ds) digests h = cc
 
 -- a plan's nodes are those met, and nothing is missing among them
-pub plan_is : (look : Lookup) (root : Digest) (plan : List PlanNodeValue) → walk look root ≡ Ok plan → (nodes_met look root ≡ Ok plan) × (missing_among look (digests_met root plan) ≡ [])
+pub plan_is : (look : Lookup) (root : Digest) (plan : List PlanNodeValue) → walk look root ≡ Ok plan →
+    (nodes_met look root ≡ Ok plan) × (missing_among look (digests_met root plan) ≡ [])
 plan_is look root plan h = go (nodes_met look root) refl h where
-  go : (m : Nodes) → nodes_met look root ≡ m → (m >>= plan_of look root) ≡ Ok plan → (nodes_met look root ≡ Ok plan) × (missing_among look (digests_met root plan) ≡ [])
+  go : (m : Nodes) → nodes_met look root ≡ m → (m >>= plan_of look root) ≡ Ok plan →
+      (nodes_met look root ≡ Ok plan) × (missing_among look (digests_met root plan) ≡ [])
   go (Ok nodes) is h =
-      let parts = none_missing_ok nodes plan (missing_among look (digests_met root nodes)) h in
-      (is ∙ ap (λ (ns : List PlanNodeValue). Ok ns) parts.0, ap (λ (ns : List PlanNodeValue). missing_among look (digests_met root ns)) (sym parts.0) ∙ parts.1)
+      let parts = none_missing_ok nodes plan (missing_among look (digests_met root nodes)) h in (
+        is ∙ ap (λ (ns : List PlanNodeValue). Ok ns) parts.0,
+        ap (λ (ns : List PlanNodeValue). missing_among look (digests_met root ns))
+            (sym parts.0) ∙ parts.1,
+      )
   go (Err e) is h = cc
 
 met_tree : (look : Lookup) (root : Digest) (nodes : List PlanNodeValue) → nodes_met look root ≡ Ok nodes → IsTree look root nodes

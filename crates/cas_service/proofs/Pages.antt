@@ -11,11 +11,13 @@ cut_whole t page most count cut is same =
     let as_cut : length page ≡ length (take most t) = ap (length {A = ℕ}) cut in
     cut ∙ take_all most t (omega arith)
 
-pub whole_page : (t page : List ℕ) (size most count : ℕ) → page ≡ take (min most (size - 0 % size)) (drop 0 t) → count ≡ length t → length page ≡ count → page ≡ t
+pub whole_page : (t page : List ℕ) (size most count : ℕ) → page ≡ take (min most (size - 0 % size)) (drop 0 t) → count ≡ length t →
+    length page ≡ count → page ≡ t
 whole_page t page size most count cut is same = cut_whole t page (min most (size - 0 % size)) count cut is same
 
 -- one page more
-pub page_added : {A : Type 0} (bytes : A → List ℕ) (pages : List A) (page : A) (t : List ℕ) (from count : ℕ) → bytes page ≡ take count (drop from t)
+pub page_added : {A : Type 0} (bytes : A → List ℕ) (pages : List A) (page : A) (t : List ℕ) (from count : ℕ) →
+    bytes page ≡ take count (drop from t)
     → flat_map bytes pages ++ drop from t ≡ t → flat_map bytes (pages ++ page ∷ []) ++ drop (from + length (bytes page)) t ≡ t
 page_added bytes pages page t from count cut h =
     let last : flat_map bytes (page ∷ []) ≡ bytes page = append-nil (bytes page) in

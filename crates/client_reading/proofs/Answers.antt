@@ -63,9 +63,22 @@ Fit r = OkThen AreFit r
 data_fit : (v : Standing) (n s : ℕ) (e : Bool) (bytes : List ℕ) → n ≤ 16384 → IsStream s → Fit (on_data v n s e bytes)
 data_fit v n s e bytes small is =
     choose Fit (is_idle v s) _ _ (λ _. tt)
-    (λ _. choose Fit (is_receiving v s) _ _ (λ _. record { acknowledgement = tt; connection_update = update_fit 0 n (omega arith) small; stream_update = choose (IfFrame IsFit) e None (window_update s n) (λ _. tt) (λ _. update_fit s n is.1 small); reset = tt })
-    (λ _. choose Fit (is_remembered v s) _ _ (λ _. record { acknowledgement = tt; connection_update = update_fit 0 n (omega arith) small; stream_update = tt; reset = tt })
-    (λ _. record { acknowledgement = tt; connection_update = update_fit 0 n (omega arith) small; stream_update = tt; reset = (is, code_low StreamClosed) })))
+    (λ _. choose Fit (is_receiving v s) _ _ (λ _. record {
+      acknowledgement = tt;
+      connection_update = update_fit 0 n (omega arith) small;
+      stream_update =
+          choose (IfFrame IsFit) e None (window_update s n) (λ _. tt) (λ _. update_fit s n is.1 small);
+      reset = tt;
+    })
+    (λ _. choose Fit (is_remembered v s) _ _ (λ _. record
+    { acknowledgement = tt; connection_update = update_fit 0 n (omega arith) small; stream_update = tt; reset = tt })
+    (λ _. record {
+      acknowledgement = tt;
+      connection_update = update_fit 0 n (omega arith) small;
+      stream_update = tt;
+      reset =
+          (is, code_low StreamClosed);
+    })))
 
 request_fit : (v : Standing) (block : HeaderList) → IsStream block.stream → AreFit (on_request v block)
 request_fit v block is =
@@ -92,7 +105,8 @@ block_given table t b is =
     choose Given (is_excessive b) _ _ (λ _. tt)
     (λ _. choose Given t _ _ (λ _. list_given b.stream b.end_stream (step table b.fragment).0 is) (λ _. tt))
 
-next_given : (table : Option Table) (u : Option HeaderBlock) (t : Bool) (fragment : List ℕ) → IsNumberedBlock u → Given (list_of_continuation table u t fragment)
+next_given : (table : Option Table) (u : Option HeaderBlock) (t : Bool) (fragment : List ℕ) → IsNumberedBlock u →
+    Given (list_of_continuation table u t fragment)
 next_given table None t fragment is = tt
 next_given table (Some b) t fragment is = block_given table t (with_continuation fragment b) is
 
@@ -105,7 +119,8 @@ given_fit v (Ok (Some block)) is =
     (λ _. choose Fit (is_receiving v block.stream) _ _ (λ _. trailers_fit v block.stream block.end_stream is)
     (λ _. choose Fit (is_remembered v block.stream) _ _ (λ _. event_fit Nothing) (λ _. tt))))
 
-settings_by : (fault : Option ErrorCode) → Fit (option_map_or Err fault (Ok (record no_effect { acknowledgement = Some (Settings true []) })))
+settings_by : (fault : Option ErrorCode) → Fit
+    (option_map_or Err fault (Ok (record no_effect { acknowledgement = Some (Settings true []) })))
 settings_by None = record { acknowledgement = tt; connection_update = tt; stream_update = tt; reset = tt }
 settings_by (Some code) = tt
 
@@ -125,25 +140,30 @@ stream_update_fit v s n is =
     (λ _. choose Fit (list_any (overflows s n) v.live) _ _ (λ _. error_fit v s FlowControlError is) (λ _. event_fit Nothing))))
 
 connection_update_fit : (v : Standing) (n : ℕ) → Fit (on_connection_update v n)
-connection_update_fit v n = choose Fit (n == 0) _ _ (λ _. tt) (λ _. choose Fit (may_grow n v.connection_window) _ _ (λ _. event_fit Nothing) (λ _. tt))
+connection_update_fit v n = choose Fit (n == 0) _ _ (λ _. tt)
+    (λ _. choose Fit (may_grow n v.connection_window) _ _ (λ _. event_fit Nothing) (λ _. tt))
 
 above_none : (n : ℕ) → (n == 0) ≡ false → 0 < n
 above_none n h = grind (arith, nat_tests)
 
 content_fit : (v : Standing) (n : ℕ) (g : Frame) → n ≤ 16384 → IsNumberedBlock v.unfinished → IsNumbered g → Fit (on_content v n g)
 content_fit v n (Data s e bytes) small u is = data_fit v n s e bytes small is
-content_fit v n (Headers s e t fragment) small u is = given_fit v (list_of_block v.table t (new_block s e fragment)) (block_given v.table t (new_block s e fragment) is)
+content_fit v n (Headers s e t fragment) small u is =
+    given_fit v (list_of_block v.table t (new_block s e fragment)) (block_given v.table t (new_block s e fragment) is)
 content_fit v n (Priority s p) small u is = event_fit Nothing
 content_fit v n (RstStream s code) small u is = choose Fit (is_idle v s) _ _ (λ _. tt) (λ _. event_fit _)
 content_fit v n (Settings ack settings) small u is = settings_fit v ack settings
 content_fit v n (PushPromise flags s payload) small u is = tt
 content_fit v n (Ping ack o) small u is = ping_fit ack o
 content_fit v n (GoAway s code b) small u is = event_fit Nothing
-content_fit v n (WindowUpdate s m) small u is = choose Fit (s == 0) _ _ (λ _. connection_update_fit v m) (λ some. stream_update_fit v s m (above_none s some, is))
-content_fit v n (Continuation s t fragment) small u is = given_fit v (list_of_continuation v.table v.unfinished t fragment) (next_given v.table v.unfinished t fragment u)
+content_fit v n (WindowUpdate s m) small u is =
+    choose Fit (s == 0) _ _ (λ _. connection_update_fit v m) (λ some. stream_update_fit v s m (above_none s some, is))
+content_fit v n (Continuation s t fragment) small u is =
+    given_fit v (list_of_continuation v.table v.unfinished t fragment) (next_given v.table v.unfinished t fragment u)
 content_fit v n (Unknown k f s p) small u is = event_fit Nothing
 
-frame_fit : (v : Standing) (n : ℕ) (r : Result Frame ErrorCode) → n ≤ 16384 → IsNumberedBlock v.unfinished → OkThen IsNumbered r → Fit (on_frame_of v n r)
+frame_fit : (v : Standing) (n : ℕ) (r : Result Frame ErrorCode) → n ≤ 16384 → IsNumberedBlock v.unfinished → OkThen IsNumbered r →
+    Fit (on_frame_of v n r)
 frame_fit v n (Ok g) small u is = content_fit v n g small u is
 frame_fit v n (Err code) small u is = tt
 
@@ -155,9 +175,12 @@ answer_fit v f is u =
 -- ---- answers are written
 
 answer_writable : (g : Frame) → IsControlAnswer g → IsFit g → IsWritable g
-answer_writable = answer_elim (λ g. IsFit g → IsWritable g) (λ ack settings h fit. rw h.1 (tt, omega arith, λ (e : ack ≡ true). refl)) (λ ack o h fit. h.1) (λ s n fit. fit) (λ s code fit. fit)
+answer_writable = answer_elim (λ g. IsFit g → IsWritable g) (λ ack settings h fit. rw h.1 (tt, omega arith, λ (e : ack ≡ true). refl))
+    (λ ack o h fit. h.1) (λ s n fit. fit) (λ s code fit. fit)
 
-pub answers_writable : (d : List Entry) (f : RawFrame) (a : StreamEvent) → AllByRecursion IsFramed d → IsReceivable f → answer_after d f ≡ Ok a → AllByRecursion IsWritable (control_frames a)
+pub answers_writable : (d : List Entry) (f : RawFrame) (a : StreamEvent) → AllByRecursion IsFramed d → IsReceivable f →
+    answer_after d f ≡ Ok a → AllByRecursion IsWritable (control_frames a)
 answers_writable d f a framed is h =
     let fit : AreFit a = subst Fit h (answer_fit (standing d) f is (unfinished_numbered d framed)) in
-    all_both IsControlAnswer IsFit IsWritable (control_frames a) answer_writable (answers_are_control (standing d) f a h) (each_answer IsFit a fit)
+    all_both IsControlAnswer IsFit IsWritable (control_frames a) answer_writable (answers_are_control (standing d) f a h)
+    (each_answer IsFit a fit)

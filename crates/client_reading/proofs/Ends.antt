@@ -40,8 +40,10 @@ neither : (b c : Bool) → b ≡ false → c ≡ false → (b || c) ≡ false
 neither true c h k = cc
 neither false c h k = k
 
-more : (d es : List Entry) → ((s : ℕ) → is_not_closed (d ++ es) s ≡ true → list_any (ends s) (sent_frames es) ≡ false) → EndsLive d → EndsLive (d ++ es)
-more d es none h s lives = ended_more d es s ∙ neither (is_ended_by_server d s) (list_any (ends s) (sent_frames es)) (h s (live_falls d es s lives)) (none s lives)
+more : (d es : List Entry) → ((s : ℕ) → is_not_closed (d ++ es) s ≡ true → list_any (ends s) (sent_frames es) ≡ false) → EndsLive d →
+    EndsLive (d ++ es)
+more d es none h s lives = ended_more d es s ∙ neither (is_ended_by_server d s) (list_any (ends s) (sent_frames es))
+    (h s (live_falls d es s lives)) (none s lives)
 
 control_ends : (s : ℕ) (f : Frame) → IsControl f → ends s f ≡ false
 control_ends s (Data t e b) h = cc
@@ -52,8 +54,10 @@ controls_end : (s : ℕ) (fs : List Frame) → AllByRecursion IsControl fs → l
 controls_end s [] h = refl
 controls_end s (f ∷ fs) h = neither (ends s f) (list_any (ends s) fs) (control_ends s f h.0) (controls_end s fs h.1)
 
-behind : (d : List Entry) (e : Entry) (fs : List Frame) → sent_frames (e ∷ map Out fs) ≡ sent_frames (map Out fs) → AllByRecursion IsControl fs → EndsLive d → EndsLive (d ++ e ∷ map Out fs)
-behind d e fs silent all h = more d (e ∷ map Out fs) (λ s lives. ap (λ (gs : List Frame). list_any (ends s) gs) (silent ∙ out_sent fs) ∙ controls_end s fs all) h
+behind : (d : List Entry) (e : Entry) (fs : List Frame) → sent_frames (e ∷ map Out fs) ≡ sent_frames (map Out fs) →
+    AllByRecursion IsControl fs → EndsLive d → EndsLive (d ++ e ∷ map Out fs)
+behind d e fs silent all h = more d (e ∷ map Out fs)
+    (λ s lives. ap (λ (gs : List Frame). list_any (ends s) gs) (silent ∙ out_sent fs) ∙ controls_end s fs all) h
 
 -- ---- a block that ends a stream
 
@@ -74,25 +78,32 @@ client_same : (d : List Entry) (fs : List Frame) (s : ℕ) → is_ended_by_clien
 client_same d fs s = ap (λ (rs : List Frame). ended_c rs s) (received_more d fs)
 
 server_put : (d : List Entry) (fs : List Frame) (s : ℕ) → list_any (ends s) fs ≡ true → is_ended_by_server (d ++ map Out fs) s ≡ true
-server_put d fs s h = ended_more d (map Out fs) s ∙ any_later (is_ended_by_server d s) (list_any (ends s) (sent_frames (map Out fs))) (ap (λ (gs : List Frame). list_any (ends s) gs) (out_sent fs) ∙ h)
+server_put d fs s h = ended_more d (map Out fs) s
+    ∙ any_later (is_ended_by_server d s) (list_any (ends s) (sent_frames (map Out fs)))
+    (ap (λ (gs : List Frame). list_any (ends s) gs) (out_sent fs) ∙ h)
 
 reset_put : (d : List Entry) (fs : List Frame) (s : ℕ) → list_any (resets s) fs ≡ true → is_reset (d ++ map Out fs) s ≡ true
 reset_put d fs s h =
-    let put : list_any (resets s) (sent_frames (d ++ map Out fs)) ≡ true = ap (λ (gs : List Frame). list_any (resets s) gs) (sent_more d fs) ∙ list_any-append (resets s) (sent_frames d) fs ∙ any_later (list_any (resets s) (sent_frames d)) (list_any (resets s) fs) h in
+    let put : list_any (resets s) (sent_frames (d ++ map Out fs)) ≡ true =
+    ap (λ (gs : List Frame). list_any (resets s) gs) (sent_more d fs) ∙ list_any-append (resets s) (sent_frames d) fs
+    ∙ any_later (list_any (resets s) (sent_frames d)) (list_any (resets s) fs) h in
     any_later (list_any (resets s) (received_frames (d ++ map Out fs))) (list_any (resets s) (sent_frames (d ++ map Out fs))) put
 
 -- while the stream is live, the block behind which these frames were put did not end it
-ends_none : (d : List Entry) (s : ℕ) (e x c : Bool) (fragment : List ℕ) → is_ended_by_client d s ≡ c → is_not_closed (d ++ map Out (Headers s e x fragment ∷ reset_after s (e && not c))) s ≡ true → e ≡ false
+ends_none : (d : List Entry) (s : ℕ) (e x c : Bool) (fragment : List ℕ) → is_ended_by_client d s ≡ c →
+    is_not_closed (d ++ map Out (Headers s e x fragment ∷ reset_after s (e && not c))) s ≡ true → e ≡ false
 ends_none d s false x c fragment is lives = refl
 ends_none d s true x true fragment is lives =
     let fs : List Frame = Headers s true x fragment ∷ [] in
     let here : (true && s == s || false) ≡ true = rw (same_number s) refl in
-    let open' = live_unended (is_reset (d ++ map Out fs) s) (is_ended_by_client (d ++ map Out fs) s) (is_ended_by_server (d ++ map Out fs) s) lives (client_same d fs s ∙ is) in
+    let open' = live_unended (is_reset (d ++ map Out fs) s) (is_ended_by_client (d ++ map Out fs) s)
+    (is_ended_by_server (d ++ map Out fs) s) lives (client_same d fs s ∙ is) in
     absurd (true≢false (sym (server_put d fs s here) ∙ open'))
 ends_none d s true x false fragment is lives =
     let fs : List Frame = Headers s true x fragment ∷ RstStream s (code_number NoError) ∷ [] in
     let here : (false || (s == s || false)) ≡ true = rw (same_number s) refl in
-    let unreset = live_unreset (is_reset (d ++ map Out fs) s) (is_ended_by_client (d ++ map Out fs) s) (is_ended_by_server (d ++ map Out fs) s) lives in
+    let unreset = live_unreset (is_reset (d ++ map Out fs) s) (is_ended_by_client (d ++ map Out fs) s)
+    (is_ended_by_server (d ++ map Out fs) s) lives in
     absurd (true≢false (sym (reset_put d fs s here) ∙ unreset))
 
 no_end : (e : Bool) (s t : ℕ) → ((s == t) ≡ true → e ≡ false) → (e && s == t) ≡ false
@@ -102,19 +113,24 @@ no_end true s t h = elim (cases_Bool (s == t)) [
   | inr other ↦ other
 ]
 
-last_block : (d : List Entry) (s : ℕ) (e x c : Bool) (fragment : List ℕ) → is_ended_by_client d s ≡ c → EndsLive d → EndsLive (d ++ map Out (Headers s e x fragment ∷ reset_after s (e && not c)))
+last_block : (d : List Entry) (s : ℕ) (e x c : Bool) (fragment : List ℕ) → is_ended_by_client d s ≡ c → EndsLive d →
+    EndsLive (d ++ map Out (Headers s e x fragment ∷ reset_after s (e && not c)))
 last_block d s e x c fragment is h =
     let fs : List Frame = Headers s e x fragment ∷ reset_after s (e && not c) in
     more d (map Out fs) (λ t lives.
     ap (λ (gs : List Frame). list_any (ends t) gs) (out_sent fs)
-    ∙ neither (e && s == t) (list_any (ends t) (reset_after s (e && not c))) (no_end e s t (λ same. ends_none d s e x c fragment is (subst (λ (u : ℕ). is_not_closed (d ++ map Out fs) u ≡ true) (sym (eqb-true s t same)) lives)))
+    ∙ neither (e && s == t) (list_any (ends t) (reset_after s (e && not c)))
+    (no_end e s t (λ same. ends_none d s e x c fragment is
+    (subst (λ (u : ℕ). is_not_closed (d ++ map Out fs) u ≡ true) (sym (eqb-true s t same)) lives)))
     (controls_end t (reset_after s (e && not c)) (reset_control s (e && not c)))) h
 
 -- ---- the pump
 
 front_ends : (d : List Entry) (s : ℕ) (ps : List Piece) (fs : List Frame) → IsFront d s ps fs → EndsLive d → EndsLive (d ++ map Out fs)
-front_ends d s ps fs (inl b) h = subst (λ (gs : List Frame). EndsLive (d ++ map Out gs)) (sym b.put) (last_block d s (is_last b.block) true (is_ended_by_client d s) (block_text (position d) (fields_of b.block)) refl h)
-front_ends d s ps fs (inr p) h = subst (λ (gs : List Frame). EndsLive (d ++ map Out gs)) (sym p.put) (more d (Out (Data s false (take (portion d s p.bytes) p.bytes)) ∷ []) (λ t lives. refl) h)
+front_ends d s ps fs (inl b) h = subst (λ (gs : List Frame). EndsLive (d ++ map Out gs)) (sym b.put)
+    (last_block d s (is_last b.block) true (is_ended_by_client d s) (block_text (position d) (fields_of b.block)) refl h)
+front_ends d s ps fs (inr p) h = subst (λ (gs : List Frame). EndsLive (d ++ map Out gs)) (sym p.put)
+    (more d (Out (Data s false (take (portion d s p.bytes) p.bytes)) ∷ []) (λ t lives. refl) h)
 
 turn_ends : (os : List OwedItem) (d : List Entry) (fs : List Frame) → Next d os fs → EndsLive d → EndsLive (d ++ map Out fs)
 turn_ends os d fs n h = front_ends d n.stream (pieces_left_on d os n.stream) fs n.front h
@@ -127,7 +143,9 @@ ends_frame d f h = behind d (In f) (outcome d f).put refl (outcome_control d f) 
 ends_change : (p : Past) (c : PastChange) → IsChange c → EndsLive p.history → EndsLive (past_after_change p c).history
 ends_change p (BytesReceived bytes) is h = h
 ends_change p (FrameRead f) is h = ends_frame p.history f h
-ends_change p (FaultMet e code) is h = behind p.history (Unreadable e) (fault_frames (has_failed p.history) (highest_stream p.history) code) refl (fault_control (has_failed p.history) (highest_stream p.history) code) h
+ends_change p (FaultMet e code) is h = behind p.history (Unreadable e)
+    (fault_frames (has_failed p.history) (highest_stream p.history) code) refl
+    (fault_control (has_failed p.history) (highest_stream p.history) code) h
 ends_change p (ItemGiven t item) is h = h
 ends_change p (BytesTaken n) is h = more p.history (Took n ∷ []) (λ s lives. refl) h
 ends_change p FramesPut is h = pump_keeps EndsLive p.owed (turn_ends p.owed) p.history h
@@ -135,4 +153,5 @@ ends_change p (EventsGiven left) is h = h
 
 pub ends_past : (window : ℕ) (cs : List PastChange) → AllByRecursion IsChange cs → EndsLive (past_of window cs).history
 ends_past window cs all =
-    fold_keeps (λ (p : Past). EndsLive p.history) IsChange past_after_change (new_past window) cs ends_change all (greeted EndsLive window (λ s lives. refl) (λ s lives. refl))
+    fold_keeps (λ (p : Past). EndsLive p.history) IsChange past_after_change (new_past window) cs ends_change all
+    (greeted EndsLive window (λ s lives. refl) (λ s lives. refl))

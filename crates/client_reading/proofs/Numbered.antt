@@ -42,7 +42,8 @@ first_of_two false false c d e z h k = cc
 headers_addressed : (f : RawFrame) → is_misaddressed f ≡ false → (f.kind == HEADERS) ≡ true → 0 < f.stream
 headers_addressed f fine kind =
     let own : (is_of_a_stream f && (f.stream == 0)) ≡ false = (or_none _ _ fine).0 in
-    above_none f.stream (first_of_two (f.kind == DATA) (f.kind == HEADERS) (f.kind == PRIORITY) (f.kind == RST_STREAM) (f.kind == CONTINUATION) (f.stream == 0) kind own)
+    above_none f.stream (first_of_two (f.kind == DATA) (f.kind == HEADERS) (f.kind == PRIORITY) (f.kind == RST_STREAM)
+    (f.kind == CONTINUATION) (f.stream == 0) kind own)
 
 content_numbered : (f : RawFrame) → f.stream < 2 ^ 31 → is_misaddressed f ≡ false → IsNumbered (content_of f)
 content_numbered f low fine =
@@ -84,7 +85,8 @@ says (Err e) h = tt
 
 received_numbered : (d : List Entry) → AllByRecursion IsFramed d → AllByRecursion IsNumbered (received_frames d)
 received_numbered [] h = tt
-received_numbered (In f ∷ d) h = said (frame_in (In f)) (received_frames d) (says (frame_of f) (frame_numbered f h.0.1)) (received_numbered d h.1)
+received_numbered (In f ∷ d) h = said (frame_in (In f)) (received_frames d) (says (frame_of f) (frame_numbered f h.0.1))
+    (received_numbered d h.1)
 received_numbered (Unreadable e ∷ d) h = received_numbered d h.1
 received_numbered (Out f ∷ d) h = received_numbered d h.1
 received_numbered (Took n ∷ d) h = received_numbered d h.1
@@ -102,11 +104,13 @@ record AreNumbered (bs : Blocks) : Type 0 where
   finished : AllByRecursion HasStream bs.finished
   unfinished : IsNumberedBlock bs.unfinished
 
-placed_numbered : (bs : List HeaderBlock) (end_headers : Bool) (b : HeaderBlock) → AllByRecursion HasStream bs → IsStream b.stream → AreNumbered (blocks_with bs end_headers b)
+placed_numbered : (bs : List HeaderBlock) (end_headers : Bool) (b : HeaderBlock) → AllByRecursion HasStream bs → IsStream b.stream →
+    AreNumbered (blocks_with bs end_headers b)
 placed_numbered bs true b h k = record { finished = all_append HasStream bs (b ∷ []) h (k, tt); unfinished = tt }
 placed_numbered bs false b h k = record { finished = h; unfinished = k }
 
-continued_numbered : (bs : Blocks) (u : Option HeaderBlock) (end_headers : Bool) (fragment : List ℕ) → AreNumbered bs → IsNumberedBlock u → AreNumbered (option_map_or (λ b. blocks_with bs.finished end_headers (with_continuation fragment b)) u bs)
+continued_numbered : (bs : Blocks) (u : Option HeaderBlock) (end_headers : Bool) (fragment : List ℕ) → AreNumbered bs → IsNumberedBlock u →
+    AreNumbered (option_map_or (λ b. blocks_with bs.finished end_headers (with_continuation fragment b)) u bs)
 continued_numbered bs None t fragment h k = h
 continued_numbered bs (Some b) t fragment h k = placed_numbered bs.finished t (with_continuation fragment b) h.finished k
 
@@ -141,7 +145,10 @@ highest_low d h = lower 0 (map stream_of (blocks_of d).finished) (numbers_of d h
 
 rising_numbered : (m : ℕ) (xs : List ℕ) → AllByRecursion IsStream xs → AllByRecursion IsStream (rising_numbers m xs)
 rising_numbered m [] h = tt
-rising_numbered m (x ∷ xs) h = choose (AllByRecursion IsStream) (nat_lt m x) (x ∷ rising_numbers x xs) (rising_numbers m xs) (λ _. (h.0, rising_numbered x xs h.1)) (λ _. rising_numbered m xs h.1)
+rising_numbered m (x ∷ xs) h = choose (AllByRecursion IsStream) (nat_lt m x) (x ∷ rising_numbers x xs) (rising_numbers m xs)
+    (λ _. (h.0, rising_numbered x xs h.1)) (λ _. rising_numbered m xs h.1)
 
 pub live_numbered : (d : List Entry) (s : ℕ) → AllByRecursion IsFramed d → list_any (λ t. t == s) (live_streams d) ≡ true → IsStream s
-live_numbered d s h lives = of_all IsStream s (live_streams d) (all_filter IsStream (is_not_closed d) (opened_streams d) (rising_numbered 0 (map stream_of (blocks_of d).finished) (numbers_of d h))) lives
+live_numbered d s h lives = of_all IsStream s (live_streams d)
+    (all_filter IsStream (is_not_closed d) (opened_streams d) (rising_numbered 0 (map stream_of (blocks_of d).finished) (numbers_of d h)))
+    lives

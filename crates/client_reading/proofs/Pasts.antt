@@ -32,7 +32,12 @@ pub first_past : (window : ℕ) → IsPast window (new_past window)
 first_past window = ([], tt, refl)
 
 pub next_past : (window : ℕ) (p : Past) (c : PastChange) → IsChange c → IsPast window p → IsPast window (past_after_change p c)
-next_past window p c is h = (h.0 ++ c ∷ [], all_append IsChange h.0 (c ∷ []) h.1 (is, tt), ap (λ (q : Past). past_after_change q c) h.2 ∙ sym (fold-append past_after_change (new_past window) h.0 (c ∷ [])))
+next_past window p c is h = (
+  h.0 ++ c ∷ [],
+  all_append IsChange h.0 (c ∷ []) h.1 (is, tt),
+  ap (λ (q : Past). past_after_change q c) h.2
+      ∙ sym (fold-append past_after_change (new_past window) h.0 (c ∷ [])),
+)
 
 pub past_read : (window : ℕ) (p : Past) → window < 2 ^ 31 → IsPast window p → IsReadByClient window p
 past_read window p most h = subst (λ (q : Past). IsReadByClient window q) (sym h.2) (reads_past window h.0 most h.1)

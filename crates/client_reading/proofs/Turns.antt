@@ -34,7 +34,11 @@ KeepsFrom before (e ∷ es) = KeepsAt before e × KeepsFrom (before ++ e ∷ [])
 
 keeps_more : (before xs ys : List Entry) → KeepsFrom before xs → KeepsFrom (before ++ xs) ys → KeepsFrom before (xs ++ ys)
 keeps_more before [] ys h k = subst (λ (b : List Entry). KeepsFrom b ys) (append-nil before) k
-keeps_more before (x ∷ xs) ys h k = (h.0, keeps_more (before ++ x ∷ []) xs ys h.1 (subst (λ (b : List Entry). KeepsFrom b ys) (sym (append_assoc before (x ∷ []) xs)) k))
+keeps_more before (x ∷ xs) ys h k = (
+  h.0,
+  keeps_more (before ++ x ∷ []) xs ys h.1
+      (subst (λ (b : List Entry). KeepsFrom b ys) (sym (append_assoc before (x ∷ []) xs)) k),
+)
 
 control_at : (before : List Entry) (f : Frame) → IsControl f → KeepsAt before (Out f)
 control_at before (Data s e b) h = cc
@@ -51,7 +55,8 @@ at_most : (n : ℕ) (z : ℤ) → 0 < n → n ≤ natural_part z → pos n ≤�
 at_most n (pos m) some h = omega (arith, ints)
 at_most n (negsuc m) some h = omega (arith, ints)
 
-some_in_turn : (before : List Entry) (s : ℕ) (bytes : List ℕ) (n : ℕ) → has_stream (live_streams before) s ≡ true → n ≡ portion before s bytes → (n == 0) ≡ false → IsDataInTurn before s (take n bytes)
+some_in_turn : (before : List Entry) (s : ℕ) (bytes : List ℕ) (n : ℕ) → has_stream (live_streams before) s ≡ true →
+    n ≡ portion before s bytes → (n == 0) ≡ false → IsDataInTurn before s (take n bytes)
 some_in_turn before s bytes n lives is some' =
     let some : 0 < n = grind (arith, nat_tests) in
     let size : length (take n bytes) ≡ n = length-take n bytes ∙ omega (arith, is) in
@@ -59,12 +64,19 @@ some_in_turn before s bytes n lives is some' =
       stream = lives;
       some = omega (arith, size, some);
       stream_window = at_most (length (take n bytes)) (window_left (window before s)) (omega (arith, size, some)) (omega (arith, size, is));
-      connection_window = at_most (length (take n bytes)) (window_left (connection_window before)) (omega (arith, size, some)) (omega (arith, size, is));
+      connection_window = at_most (length (take n bytes)) (window_left (connection_window before)) (omega (arith, size, some))
+          (omega (arith, size, is));
     }
 
-front_in_turn : (d : List Entry) (s : ℕ) (ps : List Piece) (fs : List Frame) → has_stream (live_streams d) s ≡ true → IsFront d s ps fs → KeepsFrom d (map Out fs)
-front_in_turn d s ps fs lives (inl b) = subst (λ (gs : List Frame). KeepsFrom d (map Out gs)) (sym b.put) (lives, control_from _ (reset_after s (is_last b.block && not (is_ended_by_client d s))) (reset_control s (is_last b.block && not (is_ended_by_client d s))))
-front_in_turn d s ps fs lives (inr p) = subst (λ (gs : List Frame). KeepsFrom d (map Out gs)) (sym p.put) (some_in_turn d s p.bytes (portion d s p.bytes) lives refl p.some, tt)
+front_in_turn : (d : List Entry) (s : ℕ) (ps : List Piece) (fs : List Frame) → has_stream (live_streams d) s ≡ true → IsFront d s ps fs →
+    KeepsFrom d (map Out fs)
+front_in_turn d s ps fs lives (inl b) = subst (λ (gs : List Frame). KeepsFrom d (map Out gs)) (sym b.put) (
+  lives,
+  control_from _ (reset_after s (is_last b.block && not (is_ended_by_client d s)))
+      (reset_control s (is_last b.block && not (is_ended_by_client d s))),
+)
+front_in_turn d s ps fs lives (inr p) = subst (λ (gs : List Frame). KeepsFrom d (map Out gs)) (sym p.put)
+    (some_in_turn d s p.bytes (portion d s p.bytes) lives refl p.some, tt)
 
 abbrev Keeps : List Entry → Type 0
 Keeps d = KeepsFrom [] d
@@ -76,8 +88,13 @@ keeps_turn os d fs n h = keeps_more [] d (map Out fs) h (front_in_turn d n.strea
 
 keeps_change : (p : Past) (c : PastChange) → Unit {0} → Keeps p.history → Keeps (past_after_change p c).history
 keeps_change p (BytesReceived bytes) u h = h
-keeps_change p (FrameRead f) u h = keeps_more [] p.history (frame_entries p.history f) h (tt, control_from (p.history ++ In f ∷ []) (outcome p.history f).put (outcome_control p.history f))
-keeps_change p (FaultMet e code) u h = keeps_more [] p.history (fault_entries p.history e code) h (tt, control_from (p.history ++ Unreadable e ∷ []) (fault_frames (has_failed p.history) (highest_stream p.history) code) (fault_control (has_failed p.history) (highest_stream p.history) code))
+keeps_change p (FrameRead f) u h = keeps_more [] p.history (frame_entries p.history f) h
+    (tt, control_from (p.history ++ In f ∷ []) (outcome p.history f).put (outcome_control p.history f))
+keeps_change p (FaultMet e code) u h = keeps_more [] p.history (fault_entries p.history e code) h (
+  tt,
+  control_from (p.history ++ Unreadable e ∷ []) (fault_frames (has_failed p.history) (highest_stream p.history) code)
+      (fault_control (has_failed p.history) (highest_stream p.history) code),
+)
 keeps_change p (ItemGiven t item) u h = h
 keeps_change p (BytesTaken n) u h = keeps_more [] p.history (Took n ∷ []) h (tt, tt)
 keeps_change p FramesPut u h = pump_keeps Keeps p.owed (keeps_turn p.owed) p.history h
@@ -89,9 +106,11 @@ any_changes (c ∷ cs) = (tt, any_changes cs)
 
 keeps_at : (b0 before after : List Entry) (x : Entry) → KeepsFrom b0 (before ++ x ∷ after) → KeepsAt (b0 ++ before) x
 keeps_at b0 [] after x h = subst (λ (b : List Entry). KeepsAt b x) (sym (append-nil b0)) h.0
-keeps_at b0 (y ∷ before) after x h = subst (λ (b : List Entry). KeepsAt b x) (append_assoc b0 (y ∷ []) before) (keeps_at (b0 ++ y ∷ []) before after x h.1)
+keeps_at b0 (y ∷ before) after x h = subst (λ (b : List Entry). KeepsAt b x) (append_assoc b0 (y ∷ []) before)
+    (keeps_at (b0 ++ y ∷ []) before after x h.1)
 
 pub turns_past : (window : ℕ) (cs : List PastChange) → ReadsInTurn (past_of window cs).history
 turns_past window cs before after f is =
-    let h = fold_keeps (λ (p : Past). Keeps p.history) (λ (c : PastChange). Unit {0}) past_after_change (new_past window) cs keeps_change (any_changes cs) (greeted Keeps window (tt, (tt, tt)) (tt, tt)) in
+    let h = fold_keeps (λ (p : Past). Keeps p.history) (λ (c : PastChange). Unit {0}) past_after_change (new_past window) cs keeps_change
+    (any_changes cs) (greeted Keeps window (tt, (tt, tt)) (tt, tt)) in
     keeps_at [] before after (Out f) (subst Keeps is h)

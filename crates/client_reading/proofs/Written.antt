@@ -48,7 +48,8 @@ outs_framed (f ∷ fs) = (tt, outs_framed fs)
 pub sound_put : (d : List Entry) (fs : List Frame) → AllByRecursion IsWritable fs → Sound d → Sound (d ++ map Out fs)
 sound_put d fs h s = record {
   framed = all_append IsFramed d (map Out fs) s.framed (outs_framed fs);
-  written = subst (λ (gs : List Frame). AllByRecursion IsWritable gs) (sym (sent_more d fs)) (all_append IsWritable (sent_frames d) fs s.written h);
+  written = subst (λ (gs : List Frame). AllByRecursion IsWritable gs) (sym (sent_more d fs))
+      (all_append IsWritable (sent_frames d) fs s.written h);
 }
 
 -- an entry that puts nothing
@@ -58,7 +59,9 @@ IsSilent e = sent_frames (e ∷ []) ≡ []
 sound_entry : (d : List Entry) (e : Entry) → IsSilent e → IsFramed e → Sound d → Sound (d ++ e ∷ [])
 sound_entry d e silent framed s = record {
   framed = all_append IsFramed d (e ∷ []) s.framed (framed, tt);
-  written = subst (λ (gs : List Frame). AllByRecursion IsWritable gs) (sym (filter_map-append frame_out d (e ∷ []))) (all_append IsWritable (sent_frames d) (sent_frames (e ∷ [])) s.written (subst (λ (gs : List Frame). AllByRecursion IsWritable gs) (sym silent) tt));
+  written = subst (λ (gs : List Frame). AllByRecursion IsWritable gs) (sym (filter_map-append frame_out d (e ∷ [])))
+      (all_append IsWritable (sent_frames d) (sent_frames (e ∷ [])) s.written
+      (subst (λ (gs : List Frame). AllByRecursion IsWritable gs) (sym silent) tt));
 }
 
 -- ---- what is put for a frame
@@ -68,20 +71,25 @@ goaway_writable last code low = (low, code_low code, omega arith)
 
 fitting_writable : (n : ℕ) (fs : List Frame) → AllByRecursion IsWritable fs → AllByRecursion IsWritable (frames_to_put n fs)
 fitting_writable n [] h = tt
-fitting_writable n (f ∷ fs) h = choose (AllByRecursion IsWritable) (may_put n f) (f ∷ frames_to_put (n + length (text_of f)) fs) [] (λ _. (h.0, fitting_writable (n + length (text_of f)) fs h.1)) (λ _. tt)
+fitting_writable n (f ∷ fs) h = choose (AllByRecursion IsWritable) (may_put n f) (f ∷ frames_to_put (n + length (text_of f)) fs) []
+    (λ _. (h.0, fitting_writable (n + length (text_of f)) fs h.1)) (λ _. tt)
 
 abbrev IsWrittenOutcome : Outcome → Type 0
 IsWrittenOutcome o = AllByRecursion IsWritable o.put
 
-outcome_by : (flood : Bool) (n before after : ℕ) (r : _) → before < 2 ^ 31 → after < 2 ^ 31 → ((a : StreamEvent) → r ≡ Ok a → AllByRecursion IsWritable (control_frames a)) → IsWrittenOutcome (outcome_of flood n before after r)
+outcome_by : (flood : Bool) (n before after : ℕ) (r : _) → before < 2 ^ 31 → after < 2 ^ 31 →
+    ((a : StreamEvent) → r ≡ Ok a → AllByRecursion IsWritable (control_frames a)) → IsWrittenOutcome (outcome_of flood n before after r)
 outcome_by flood n before after (Err code) low high h = (goaway_writable before code low, tt)
 outcome_by flood n before after (Ok a) low high h =
     choose IsWrittenOutcome (fits flood n a) _ _ (λ _. h a refl)
-    (λ _. all_append IsWritable (frames_to_put n (control_frames a)) (goaway_frame after EnhanceYourCalm ∷ []) (fitting_writable n (control_frames a) (h a refl)) (goaway_writable after EnhanceYourCalm high, tt))
+    (λ _. all_append IsWritable (frames_to_put n (control_frames a)) (goaway_frame after EnhanceYourCalm ∷ [])
+    (fitting_writable n (control_frames a) (h a refl)) (goaway_writable after EnhanceYourCalm high, tt))
 
-outcome_writable : (d : List Entry) (f : RawFrame) → AllByRecursion IsFramed d → IsReceivable f → AllByRecursion IsWritable (outcome d f).put
+outcome_writable : (d : List Entry) (f : RawFrame) → AllByRecursion IsFramed d → IsReceivable f →
+    AllByRecursion IsWritable (outcome d f).put
 outcome_writable d f framed is =
-    outcome_by (is_flood d f) (untaken_count d) (highest_stream d) (highest_stream (d ++ In f ∷ [])) (answer_after d f) (highest_low d framed)
+    outcome_by (is_flood d f) (untaken_count d) (highest_stream d) (highest_stream (d ++ In f ∷ [])) (answer_after d f)
+    (highest_low d framed)
     (highest_low (d ++ In f ∷ []) (all_append IsFramed d (In f ∷ []) framed (is, tt))) (λ a h. answers_writable d f a framed is h)
 
 two_steps : (d : List Entry) (e : Entry) (fs : List Frame) → (d ++ e ∷ []) ++ map Out fs ≡ d ++ e ∷ map Out fs
@@ -89,14 +97,17 @@ two_steps [] e fs = refl
 two_steps (x ∷ d) e fs = ap (λ (es : List Entry). x ∷ es) (two_steps d e fs)
 
 sound_frame : (d : List Entry) (f : RawFrame) → IsReceivable f → Sound d → Sound (d ++ frame_entries d f)
-sound_frame d f is s = subst Sound (two_steps d (In f) (outcome d f).put) (sound_put (d ++ In f ∷ []) (outcome d f).put (outcome_writable d f s.framed is) (sound_entry d (In f) refl is s))
+sound_frame d f is s = subst Sound (two_steps d (In f) (outcome d f).put)
+    (sound_put (d ++ In f ∷ []) (outcome d f).put (outcome_writable d f s.framed is) (sound_entry d (In f) refl is s))
 
 fault_writable : (failed : Bool) (last : ℕ) (code : ErrorCode) → last < 2 ^ 31 → AllByRecursion IsWritable (fault_frames failed last code)
 fault_writable true last code low = tt
 fault_writable false last code low = (goaway_writable last code low, tt)
 
 sound_fault : (d : List Entry) (e : FrameError) (code : ErrorCode) → Sound d → Sound (d ++ fault_entries d e code)
-sound_fault d e code s = subst Sound (two_steps d (Unreadable e) (fault_frames (has_failed d) (highest_stream d) code)) (sound_put (d ++ Unreadable e ∷ []) (fault_frames (has_failed d) (highest_stream d) code) (fault_writable (has_failed d) (highest_stream d) code (highest_low d s.framed)) (sound_entry d (Unreadable e) refl tt s))
+sound_fault d e code s = subst Sound (two_steps d (Unreadable e) (fault_frames (has_failed d) (highest_stream d) code))
+    (sound_put (d ++ Unreadable e ∷ []) (fault_frames (has_failed d) (highest_stream d) code)
+    (fault_writable (has_failed d) (highest_stream d) code (highest_low d s.framed)) (sound_entry d (Unreadable e) refl tt s))
 
 -- ---- what the pump puts
 
@@ -110,11 +121,13 @@ part_low size a b = omega arith
 taken_low : (n : ℕ) (xs : List ℕ) → length (take n xs) ≤ n
 taken_low n xs = omega (arith, length-take n xs)
 
-front_writable : (d : List Entry) (s : ℕ) (ps : List Piece) (fs : List Frame) → IsStream s → IsFront d s ps fs → AllByRecursion IsWritable fs
+front_writable : (d : List Entry) (s : ℕ) (ps : List Piece) (fs : List Frame) → IsStream s → IsFront d s ps fs →
+    AllByRecursion IsWritable fs
 front_writable d s ps fs is (inl b) =
     let short' = short (position d) b.block in
     let here : IsWritable (block_frame d s b.block) = (is, omega (arith, short')) in
-    subst (λ (gs : List Frame). AllByRecursion IsWritable gs) (sym b.put) (here, reset_writable s (is_last b.block && not (is_ended_by_client d s)) is)
+    subst (λ (gs : List Frame). AllByRecursion IsWritable gs) (sym b.put)
+    (here, reset_writable s (is_last b.block && not (is_ended_by_client d s)) is)
 front_writable d s ps fs is (inr p) =
     let low = part_low (length p.bytes) (natural_part (window_left (window d s))) (natural_part (window_left (connection_window d))) in
     let less = taken_low (portion d s p.bytes) p.bytes in
@@ -122,7 +135,8 @@ front_writable d s ps fs is (inr p) =
     subst (λ (gs : List Frame). AllByRecursion IsWritable gs) (sym p.put) (here, tt)
 
 sound_turn : (os : List OwedItem) (d : List Entry) (fs : List Frame) → Next d os fs → Sound d → Sound (d ++ map Out fs)
-sound_turn os d fs n s = sound_put d fs (front_writable d n.stream (pieces_left_on d os n.stream) fs (live_numbered d n.stream s.framed n.lives) n.front) s
+sound_turn os d fs n s = sound_put d fs (front_writable d n.stream (pieces_left_on d os n.stream) fs
+    (live_numbered d n.stream s.framed n.lives) n.front) s
 
 pub sound_pumped : (d : List Entry) (os : List OwedItem) → Sound d → Sound (history_after_pump d os)
 sound_pumped d os s = pump_keeps Sound os (sound_turn os) d s
@@ -140,14 +154,24 @@ sound_change p (EventsGiven left) is s = s
 
 sound_opening : (window : ℕ) → window < 2 ^ 31 → Sound (new_past window).history
 sound_opening window most =
-    greeted Sound window (record { framed = (tt, (tt, tt)); written = ((((omega arith, omega arith), ((omega arith, omega arith), tt)), omega arith, λ h. cc), ((omega arith, omega arith), tt)) })
+    greeted Sound window (record {
+      framed = (tt, (tt, tt));
+      written =
+          ((((omega arith, omega arith), ((omega arith, omega arith), tt)), omega arith, λ h. cc), ((omega arith, omega arith), tt));
+    })
     (record { framed = (tt, tt); written = ((((omega arith, omega arith), tt), omega arith, λ h. cc), tt) })
 
 pub sound_past : (window : ℕ) (cs : List PastChange) → window < 2 ^ 31 → AllByRecursion IsChange cs → Sound (past_of window cs).history
-sound_past window cs most all = fold_keeps (λ (p : Past). Sound p.history) IsChange past_after_change (new_past window) cs sound_change all (sound_opening window most)
+sound_past window cs most all = fold_keeps (λ (p : Past). Sound p.history) IsChange past_after_change (new_past window) cs sound_change all
+    (sound_opening window most)
 
 pub sound_reads : (d : List Entry) → Sound d → ReadsFrames d
-sound_reads d s = record { divided = texts_again [] (sent_frames d) s.written; understood = all_by IsWritable (λ f. frame_of (raw_of f) ≡ Ok f) (sent_frames d) again s.written }
+sound_reads d s = record {
+  divided = texts_again [] (sent_frames d) s.written;
+  understood =
+      all_by IsWritable (λ f. frame_of (raw_of f) ≡ Ok f) (sent_frames d) again s.written;
+}
 
-pub frames_read : (window : ℕ) (cs : List PastChange) → window < 2 ^ 31 → AllByRecursion IsChange cs → ReadsFrames (past_of window cs).history
+pub frames_read : (window : ℕ) (cs : List PastChange) → window < 2 ^ 31 → AllByRecursion IsChange cs →
+    ReadsFrames (past_of window cs).history
 frames_read window cs most all = sound_reads (past_of window cs).history (sound_past window cs most all)

@@ -31,13 +31,17 @@ some_from : (digits : List ℕ) → not (length digits == 0) ≡ true → 0 < le
 some_from digits pass = grind (arith, nat_tests)
 
 -- what is parsed is the number that the text writes
-number_parsed : {E : Type 0} (bits : ℕ) (text : List ℕ) (r : Result ℕ E) → ParsesUnsigned bits 10 text r → result_ok r ≡ number_below (2 ^ bits) text
+number_parsed : {E : Type 0} (bits : ℕ) (text : List ℕ) (r : Result ℕ E) → ParsesUnsigned bits 10 text r →
+    result_ok r ≡ number_below (2 ^ bits) text
 number_parsed bits text (Ok n) parsed =
     let digits = without_leading_plus text in
-    rw (some_pass digits parsed.0.0.0, digits_pass digits parsed.0.0.1, lt-ltb (decimal_value digits) (2 ^ bits) parsed.0.1) (ap (λ (x : ℕ). Some x) parsed.1)
-number_parsed bits text (Err e) parsed = go (is_decimal (without_leading_plus text) && nat_lt (decimal_value (without_leading_plus text)) (2 ^ bits)) refl
+    rw (some_pass digits parsed.0.0.0, digits_pass digits parsed.0.0.1, lt-ltb (decimal_value digits) (2 ^ bits) parsed.0.1)
+    (ap (λ (x : ℕ). Some x) parsed.1)
+number_parsed bits text (Err e) parsed = go (is_decimal (without_leading_plus text)
+    && nat_lt (decimal_value (without_leading_plus text)) (2 ^ bits)) refl
   where
-    go : (b : Bool) → (is_decimal (without_leading_plus text) && nat_lt (decimal_value (without_leading_plus text)) (2 ^ bits)) ≡ b → None ≡ number_below (2 ^ bits) text
+    go : (b : Bool) → (is_decimal (without_leading_plus text) && nat_lt (decimal_value (without_leading_plus text)) (2 ^ bits)) ≡ b →
+        None ≡ number_below (2 ^ bits) text
     go false test = rw test refl
     go true test =
         let outer = both _ _ test in

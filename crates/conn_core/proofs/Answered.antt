@@ -49,14 +49,20 @@ good a = record { put = control_frames a; event = a.event; fails = false }
 abbrev pub cut : ℕ → ℕ → StreamEvent → Outcome
 cut n h a = fault_outcome (frames_to_put n (control_frames a)) h EnhanceYourCalm
 
-pub outcome_good : (d : List Entry) (f : RawFrame) (a : StreamEvent) → answer_after d f ≡ Ok a → fits (is_flood d f) (untaken_count d) a ≡ true → outcome d f ≡ good a
-outcome_good d f a h fit = ap (λ (r : Result StreamEvent ErrorCode). outcome_of (is_flood d f) (untaken_count d) (highest_stream d) (highest_stream (d ++ In f ∷ [])) r) h ∙ ap (λ b. cond b (good a) (cut (untaken_count d) (highest_stream (d ++ In f ∷ [])) a)) fit
+pub outcome_good : (d : List Entry) (f : RawFrame) (a : StreamEvent) → answer_after d f ≡ Ok a →
+    fits (is_flood d f) (untaken_count d) a ≡ true → outcome d f ≡ good a
+outcome_good d f a h fit = ap (λ (r : Result StreamEvent ErrorCode). outcome_of (is_flood d f) (untaken_count d) (highest_stream d)
+    (highest_stream (d ++ In f ∷ [])) r) h ∙ ap (λ b. cond b (good a) (cut (untaken_count d) (highest_stream (d ++ In f ∷ [])) a)) fit
 
-pub outcome_cut : (d : List Entry) (f : RawFrame) (a : StreamEvent) → answer_after d f ≡ Ok a → fits (is_flood d f) (untaken_count d) a ≡ false → outcome d f ≡ cut (untaken_count d) (highest_stream (d ++ In f ∷ [])) a
-outcome_cut d f a h fit = ap (λ (r : Result StreamEvent ErrorCode). outcome_of (is_flood d f) (untaken_count d) (highest_stream d) (highest_stream (d ++ In f ∷ [])) r) h ∙ ap (λ b. cond b (good a) (cut (untaken_count d) (highest_stream (d ++ In f ∷ [])) a)) fit
+pub outcome_cut : (d : List Entry) (f : RawFrame) (a : StreamEvent) → answer_after d f ≡ Ok a →
+    fits (is_flood d f) (untaken_count d) a ≡ false → outcome d f ≡ cut (untaken_count d) (highest_stream (d ++ In f ∷ [])) a
+outcome_cut d f a h fit = ap (λ (r : Result StreamEvent ErrorCode). outcome_of (is_flood d f) (untaken_count d) (highest_stream d)
+    (highest_stream (d ++ In f ∷ [])) r) h ∙ ap (λ b. cond b (good a) (cut (untaken_count d) (highest_stream (d ++ In f ∷ [])) a)) fit
 
-pub outcome_fault : (d : List Entry) (f : RawFrame) (code : ErrorCode) → answer_after d f ≡ Err code → outcome d f ≡ fault_outcome [] (highest_stream d) code
-outcome_fault d f code h = ap (λ (r : Result StreamEvent ErrorCode). outcome_of (is_flood d f) (untaken_count d) (highest_stream d) (highest_stream (d ++ In f ∷ [])) r) h
+pub outcome_fault : (d : List Entry) (f : RawFrame) (code : ErrorCode) → answer_after d f ≡ Err code →
+    outcome d f ≡ fault_outcome [] (highest_stream d) code
+outcome_fault d f code h = ap (λ (r : Result StreamEvent ErrorCode). outcome_of (is_flood d f) (untaken_count d) (highest_stream d)
+    (highest_stream (d ++ In f ∷ [])) r) h
 
 -- ---- a frame and what is put for it
 
@@ -73,8 +79,10 @@ pub answers_quiet : (fs : List Frame) → AllByRecursion IsControlAnswer fs → 
 answers_quiet [] h = refl
 answers_quiet (f ∷ fs) h = ap (λ b. b || list_any is_goaway fs) (no_goaway f h.0) ∙ answers_quiet fs h.1
 
-pub failed_after : (d : List Entry) (f : RawFrame) (fs : List Frame) → list_any is_goaway fs ≡ false → has_failed (d ++ In f ∷ map Out fs) ≡ has_failed d
-failed_after d f fs quiet = ap has_failed (in_front d f fs) ∙ failed_same (d ++ In f ∷ []) fs quiet ∙ ap (λ (gs : List Frame). list_any is_goaway gs) (sent_in d f)
+pub failed_after : (d : List Entry) (f : RawFrame) (fs : List Frame) → list_any is_goaway fs ≡ false →
+    has_failed (d ++ In f ∷ map Out fs) ≡ has_failed d
+failed_after d f fs quiet = ap has_failed (in_front d f fs) ∙ failed_same (d ++ In f ∷ []) fs quiet
+    ∙ ap (λ (gs : List Frame). list_any is_goaway gs) (sent_in d f)
 
 no_end : (s : ℕ) (f : Frame) → IsControlAnswer f → ends s f ≡ false
 no_end s = answer_elim (λ f. ends s f ≡ false) (λ ack settings h. refl) (λ ack o h. refl) (λ t n. refl) (λ t code. refl)
@@ -84,7 +92,8 @@ answers_end s [] h = refl
 answers_end s (f ∷ fs) h = ap (λ b. b || list_any (ends s) fs) (no_end s f h.0) ∙ answers_end s fs h.1
 
 -- the answers to a frame end no stream
-ends_after : (d : List Entry) (f : RawFrame) (fs : List Frame) (s : ℕ) → AllByRecursion IsControlAnswer fs → is_ended_by_server (d ++ In f ∷ map Out fs) s ≡ is_ended_by_server d s
+ends_after : (d : List Entry) (f : RawFrame) (fs : List Frame) (s : ℕ) → AllByRecursion IsControlAnswer fs →
+    is_ended_by_server (d ++ In f ∷ map Out fs) s ≡ is_ended_by_server d s
 ends_after d f fs s h =
     ap (λ (x : List Entry). is_ended_by_server x s) (in_front d f fs)
     ∙ ap (list_any (ends s)) (sent_more (d ++ In f ∷ []) fs)
@@ -93,10 +102,12 @@ ends_after d f fs s h =
     ∙ or_none (list_any (ends s) (sent_frames (d ++ In f ∷ [])))
     ∙ ap (list_any (ends s)) (sent_in d f)
 
-pub raw_after : (d : List Entry) (f : RawFrame) (fs : List Frame) → received_raw_frames (d ++ In f ∷ map Out fs) ≡ received_raw_frames d ++ f ∷ []
+pub raw_after : (d : List Entry) (f : RawFrame) (fs : List Frame) →
+    received_raw_frames (d ++ In f ∷ map Out fs) ≡ received_raw_frames d ++ f ∷ []
 raw_after d f fs = ap received_raw_frames (in_front d f fs) ∙ raw_out (d ++ In f ∷ []) fs ∙ filter_map-append raw_in d (In f ∷ [])
 
-pub entries_caused : (d : List Entry) (f : RawFrame) (a : StreamEvent) → answer_after d f ≡ Ok a → entries_of d f ≡ In f ∷ map Out (control_frames a)
+pub entries_caused : (d : List Entry) (f : RawFrame) (a : StreamEvent) → answer_after d f ≡ Ok a →
+    entries_of d f ≡ In f ∷ map Out (control_frames a)
 entries_caused d f a h = ap (λ (r : Result StreamEvent ErrorCode). In f ∷ map Out (frames_put (standing d) r)) h
 
 -- ---- the streams
@@ -105,7 +116,8 @@ pub both : (a b : Bool) → a ≡ true → b ≡ true → (a && b) ≡ true
 both true b h k = k
 both false b h k = cc
 
-pub changes : (u : Standing) (d : List Entry) (f : RawFrame) (a : StreamEvent) → AreStreams u d → has_failed d ≡ false → answer_after d f ≡ Ok a → ChangesStreams d (d ++ entries_of d f) a.event
+pub changes : (u : Standing) (d : List Entry) (f : RawFrame) (a : StreamEvent) → AreStreams u d → has_failed d ≡ false →
+    answer_after d f ≡ Ok a → ChangesStreams d (d ++ entries_of d f) a.event
 changes u d f a at fine h = record {
   streams = live_after_frame u d f a at fine h;
   falls = λ s lives. live_falls d (entries_of d f) s lives;
@@ -117,44 +129,73 @@ changes u d f a at fine h = record {
 
 -- ---- all of it
 
-kept_calls : (v : ConnectionValue) (w : StoredSending) (d : List Entry) → w.queues ≡ v.sending.queues → AreCalls v d → AreCalls (with_sending v w) d
-kept_calls v w d queues h = record { calls = h.calls; order = h.order; live = subst (λ (qs : List StoredQueue). AreForLive qs d) (sym queues) h.live; finished = subst (λ (qs : List StoredQueue). ForgetsEnded qs d) (sym queues) h.finished }
+kept_calls : (v : ConnectionValue) (w : StoredSending) (d : List Entry) → w.queues ≡ v.sending.queues → AreCalls v d →
+    AreCalls (with_sending v w) d
+kept_calls v w d queues h = record {
+  calls = h.calls;
+  order = h.order;
+  live =
+      subst (λ (qs : List StoredQueue). AreForLive qs d) (sym queues) h.live;
+  finished =
+      subst (λ (qs : List StoredQueue). ForgetsEnded qs d) (sym queues) h.finished;
+}
 
-has_brought : (texts : SourceTexts) (v : ConnectionValue) (p : Past) (f : RawFrame) (a : StreamEvent) (w : StoredSending) → AwaitsItsAnswer texts v p f a false → w.queues ≡ v.sending.queues → fits (is_flood p.history f) (untaken_count p.history) a ≡ true → IsStoredSending texts w (p.history ++ In f ∷ map Out (control_frames a)) p.owed → HasBrought texts (with_sending v w) p f a.event
+has_brought : (texts : SourceTexts) (v : ConnectionValue) (p : Past) (f : RawFrame) (a : StreamEvent) (w : StoredSending) →
+    AwaitsItsAnswer texts v p f a false → w.queues ≡ v.sending.queues → fits (is_flood p.history f) (untaken_count p.history) a ≡ true →
+    IsStoredSending texts w (p.history ++ In f ∷ map Out (control_frames a)) p.owed → HasBrought texts (with_sending v w) p f a.event
 has_brought texts v p f a w h queues fit sending =
     let o : outcome p.history f ≡ good a = outcome_good p.history f a h.causes fit in
     let es : frame_entries p.history f ≡ In f ∷ map Out (control_frames a) = ap (λ (x : Outcome). In f ∷ map Out x.put) o in
     let is : after_frame p f ≡ p.history ++ In f ∷ map Out (control_frames a) = ap (λ (xs : List Entry). p.history ++ xs) es in
-    let same : p.history ++ entries_of p.history f ≡ after_frame p f = ap (λ (xs : List Entry). p.history ++ xs) (entries_caused p.history f a h.causes) ∙ sym is in
+    let same : p.history ++ entries_of p.history f ≡ after_frame p f =
+    ap (λ (xs : List Entry). p.history ++ xs) (entries_caused p.history f a h.causes) ∙ sym is in
     record {
       ended = h.ended;
       is_event = ap (λ (x : Outcome). x.event) o;
       fits = ap (λ (x : Outcome). x.fails) o;
-      lives = ap has_failed is ∙ failed_after p.history f (control_frames a) (answers_quiet (control_frames a) (answers_are p.history f a h.causes)) ∙ h.lives;
-      reader = subst (λ (rs : List RawFrame). IsReader CLIENT_PREFACE.now v.reader p.text rs) (sym (ap received_raw_frames is ∙ raw_after p.history f (control_frames a))) h.reader;
+      lives = ap has_failed is ∙ failed_after p.history f (control_frames a)
+          (answers_quiet (control_frames a) (answers_are p.history f a h.causes)) ∙ h.lives;
+      reader = subst (λ (rs : List RawFrame). IsReader CLIENT_PREFACE.now v.reader p.text rs)
+          (sym (ap received_raw_frames is ∙ raw_after p.history f (control_frames a))) h.reader;
       streams = subst (λ (x : List Entry). AreStreams v.streams x) same h.streams;
       sending = subst (λ (x : List Entry). IsStoredSending texts w x p.owed) (sym is) sending;
       due = h.due;
       calls = kept_calls v w p.history queues h.calls;
-      ends = λ s. ap (λ (x : List Entry). is_ended_by_server x s) is ∙ ends_after p.history f (control_frames a) s (answers_are p.history f a h.causes);
-      change = subst (λ (x : List Entry). ChangesStreams p.history x a.event) same (changes h.before p.history f a h.stood h.lives h.causes);
+      ends = λ s. ap (λ (x : List Entry). is_ended_by_server x s) is
+          ∙ ends_after p.history f (control_frames a) s (answers_are p.history f a h.causes);
+      change = subst (λ (x : List Entry). ChangesStreams p.history x a.event) same
+          (changes h.before p.history f a h.stood h.lives h.causes);
       counted = h.counted refl ∙ sym (count_frame p.history f (control_frames a)) ∙ ap resets_since_taking (sym is);
     }
 
-pub fits_of : (texts : SourceTexts) (v : ConnectionValue) (p : Past) (f : RawFrame) (a : StreamEvent) (flood : Bool) (w : ConnectionValue) (b : Bool) → AwaitsItsAnswer texts v p f a flood → Puts v (control_frames a) b w → may_put_all (untaken_count p.history) (control_frames a) ≡ b
+pub fits_of : (texts : SourceTexts) (v : ConnectionValue) (p : Past) (f : RawFrame) (a : StreamEvent) (flood : Bool) (w : ConnectionValue)
+    (b : Bool) → AwaitsItsAnswer texts v p f a flood → Puts v (control_frames a) b w →
+    may_put_all (untaken_count p.history) (control_frames a) ≡ b
 fits_of texts v p f a flood w b h puts = ap (λ n. may_put_all n (control_frames a)) (sym (ap length h.sending.pending)) ∙ sym puts.all
 
 -- what was put stands behind the frame
-pub put_behind : (texts : SourceTexts) (v : ConnectionValue) (p : Past) (f : RawFrame) (a : StreamEvent) (flood : Bool) (w : ConnectionValue) (b : Bool) → AwaitsItsAnswer texts v p f a flood → Puts v (control_frames a) b w → IsStoredSending texts w.sending (p.history ++ In f ∷ map Out (frames_to_put (untaken_count p.history) (control_frames a))) p.owed
+pub put_behind : (texts : SourceTexts) (v : ConnectionValue) (p : Past) (f : RawFrame) (a : StreamEvent) (flood : Bool)
+    (w : ConnectionValue) (b : Bool) → AwaitsItsAnswer texts v p f a flood → Puts v (control_frames a) b w →
+    IsStoredSending texts w.sending (p.history ++ In f ∷ map Out (frames_to_put (untaken_count p.history) (control_frames a))) p.owed
 put_behind texts v p f a flood w b h puts =
     let n : length v.sending.pending ≡ untaken_count p.history = ap length h.sending.pending in
-    let there = puts.sending texts (p.history ++ In f ∷ []) p.owed (frame_heard (sending_in texts v.sending) p.history p.owed f h.sending) in
-    let there' : IsStoredSending texts w.sending ((p.history ++ In f ∷ []) ++ map Out (frames_to_put (untaken_count p.history) (control_frames a))) p.owed = subst (λ (m : ℕ). IsStoredSending texts w.sending ((p.history ++ In f ∷ []) ++ map Out (frames_to_put m (control_frames a))) p.owed) n there in
-    subst (λ (x : List Entry). IsStoredSending texts w.sending x p.owed) (sym (in_front p.history f (frames_to_put (untaken_count p.history) (control_frames a)))) there'
+    let there = puts.sending texts (p.history ++ In f ∷ []) p.owed
+    (frame_heard (sending_in texts v.sending) p.history p.owed f h.sending) in
+    let there' : IsStoredSending texts w.sending ((p.history ++ In f ∷ [])
+    ++ map Out (frames_to_put (untaken_count p.history) (control_frames a))) p.owed =
+    subst (λ (m : ℕ). IsStoredSending texts w.sending ((p.history ++ In f ∷ []) ++ map Out (frames_to_put m (control_frames a))) p.owed)
+    n there in
+    subst (λ (x : List Entry). IsStoredSending texts w.sending x p.owed)
+    (sym (in_front p.history f (frames_to_put (untaken_count p.history) (control_frames a)))) there'
 
-pub answered_fits : (texts : SourceTexts) (v w : ConnectionValue) (p : Past) (f : RawFrame) (a : StreamEvent) → AwaitsItsAnswer texts v p f a false → Puts v (control_frames a) true w → HasBrought texts w p f a.event
+pub answered_fits : (texts : SourceTexts) (v w : ConnectionValue) (p : Past) (f : RawFrame) (a : StreamEvent) →
+    AwaitsItsAnswer texts v p f a false → Puts v (control_frames a) true w → HasBrought texts w p f a.event
 answered_fits texts v w p f a h puts =
     let fit = fits_of texts v p f a false w true h puts in
-    let all : fits (is_flood p.history f) (untaken_count p.history) a ≡ true = ap (λ b. may_put_all (untaken_count p.history) (control_frames a) && not b) (sym h.floods) ∙ ap (λ b. b && true) fit in
-    let sending : IsStoredSending texts w.sending (p.history ++ In f ∷ map Out (control_frames a)) p.owed = subst (λ (fs : List Frame). IsStoredSending texts w.sending (p.history ++ In f ∷ map Out fs) p.owed) (fitting_all (untaken_count p.history) (control_frames a) fit) (put_behind texts v p f a false w true h puts) in
-    subst (λ (y : ConnectionValue). HasBrought texts y p f a.event) (sym puts.rest) (has_brought texts v p f a w.sending h puts.queues all sending)
+    let all : fits (is_flood p.history f) (untaken_count p.history) a ≡ true =
+    ap (λ b. may_put_all (untaken_count p.history) (control_frames a) && not b) (sym h.floods) ∙ ap (λ b. b && true) fit in
+    let sending : IsStoredSending texts w.sending (p.history ++ In f ∷ map Out (control_frames a)) p.owed =
+    subst (λ (fs : List Frame). IsStoredSending texts w.sending (p.history ++ In f ∷ map Out fs) p.owed)
+    (fitting_all (untaken_count p.history) (control_frames a) fit) (put_behind texts v p f a false w true h puts) in
+    subst (λ (y : ConnectionValue). HasBrought texts y p f a.event) (sym puts.rest)
+    (has_brought texts v p f a w.sending h puts.queues all sending)

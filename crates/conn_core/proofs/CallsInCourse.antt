@@ -27,10 +27,12 @@ any_mapped test f (x ∷ xs) = ap (λ b. test (f x) || b) (any_mapped test f xs)
 abbrev pub is_whole : Stream → Bool
 is_whole s = s.ended_by_client
 
-pub same_calls : (texts : SourceTexts) (v : ConnectionValue) (p : Past) → IsConnection texts v p → (not v.ended && list_any is_whole v.streams.live) ≡ has_calls p.history
+pub same_calls : (texts : SourceTexts) (v : ConnectionValue) (p : Past) → IsConnection texts v p →
+    (not v.ended && list_any is_whole v.streams.live) ≡ has_calls p.history
 same_calls texts v p s =
     ap (λ (b : Bool). not b && list_any is_whole v.streams.live) s.ended
-    ∙ by_fault (has_failed p.history) (list_any is_whole v.streams.live) (list_any (is_ended_by_client p.history) (live_streams p.history)) (λ lives.
+    ∙ by_fault (has_failed p.history) (list_any is_whole v.streams.live) (list_any (is_ended_by_client p.history) (live_streams p.history))
+    (λ lives.
     ap (λ x. list_any is_whole x.live) (s.streams.state lives).is ∙ any_mapped is_whole (stream_at p.history) (live_streams p.history))
 
 -- ---- calls of which a part came
@@ -42,7 +44,8 @@ neither : (x y : Bool) → (x || y) ≡ false → (x ≡ false) × (y ≡ false)
 neither true y h = cc
 neither false y h = (refl, h)
 
-not_on : (b : Bool) (messages : Result (List ℕ) MessagesError) (o : Option (Result (List ℕ) MessagesError)) → is_near_end messages ≡ false → option_map_or is_near_end o false ≡ false → option_map_or is_near_end (if b then Some messages else o) false ≡ false
+not_on : (b : Bool) (messages : Result (List ℕ) MessagesError) (o : Option (Result (List ℕ) MessagesError)) → is_near_end messages ≡ false →
+    option_map_or is_near_end o false ≡ false → option_map_or is_near_end (if b then Some messages else o) false ≡ false
 not_on true messages o here later = here
 not_on false messages o here later = later
 
@@ -60,18 +63,21 @@ none_more : (b : Bool) (n : ℕ) → b ≡ false → n ≡ n + cond b 1 0
 none_more true n h = cc
 none_more false n h = omega arith
 
-none_counted : {A : Type 0} (test : A → Bool) → ((x : A) → test x ≡ false) → (n : ℕ) (xs : List A) → n ≡ fold (λ (a : ℕ) (x : A). a + cond (test x) 1 0) n xs
+none_counted : {A : Type 0} (test : A → Bool) → ((x : A) → test x ≡ false) → (n : ℕ) (xs : List A) →
+    n ≡ fold (λ (a : ℕ) (x : A). a + cond (test x) 1 0) n xs
 none_counted test h n [] = refl
 none_counted test h n (x ∷ xs) = none_more (test x) n (h x) ∙ none_counted test h (n + cond (test x) 1 0) xs
 
 pub none_half : (cs : List Call) (live : List Stream) → list_any call_near_end cs ≡ false → 0 ≡ count_by (is_kept_half cs) live
-none_half cs live h = none_counted (is_kept_half cs) (λ (s : Stream). not_both (not s.ended_by_client) (is_near_end_on s.number cs) (none_on s.number cs h)) 0 live
+none_half cs live h = none_counted (is_kept_half cs)
+    (λ (s : Stream). not_both (not s.ended_by_client) (is_near_end_on s.number cs) (none_on s.number cs h)) 0 live
 
 none_by_fault : (b : Bool) (x y : ℕ) → (b ≡ false → x ≡ y) → (if b then 0 else x) ≡ (if b then 0 else y)
 none_by_fault true x y s = refl
 none_by_fault false x y s = s refl
 
-folded_mapped : {A B : Type 0} (step : ℕ → B → ℕ) (f : A → B) (n : ℕ) (xs : List A) → fold step n (map f xs) ≡ fold (λ a x. step a (f x)) n xs
+folded_mapped : {A B : Type 0} (step : ℕ → B → ℕ) (f : A → B) (n : ℕ) (xs : List A) →
+    fold step n (map f xs) ≡ fold (λ a x. step a (f x)) n xs
 folded_mapped step f n [] = refl
 folded_mapped step f n (x ∷ xs) = folded_mapped step f (step n (f x)) xs
 
@@ -81,19 +87,23 @@ count_mapped test f xs = folded_mapped (λ a y. a + cond (test y) 1 0) f 0 xs
 abbrev counted : {A : Type 0} → (A → Bool) → ℕ → List A → ℕ
 counted test n xs = fold (λ a x. a + cond (test x) 1 0) n xs
 
-alike_by : {A : Type 0} (f g : A → Bool) (b : Bool) (x : A) (rest : List A) (n : ℕ) → (b ≡ true → f x ≡ g x) → ((m : ℕ) → counted f m rest ≡ counted g m rest) → counted f n (cond b (x ∷ rest) rest) ≡ counted g n (cond b (x ∷ rest) rest)
+alike_by : {A : Type 0} (f g : A → Bool) (b : Bool) (x : A) (rest : List A) (n : ℕ) → (b ≡ true → f x ≡ g x) →
+    ((m : ℕ) → counted f m rest ≡ counted g m rest) → counted f n (cond b (x ∷ rest) rest) ≡ counted g n (cond b (x ∷ rest) rest)
 alike_by f g true x rest n e h = ap (λ (c : Bool). counted f (n + cond c 1 0) rest) (e refl) ∙ h (n + cond (g x) 1 0)
 alike_by f g false x rest n e h = h n
 
-counted_alike : {A : Type 0} (f g p : A → Bool) (n : ℕ) (xs : List A) → ((x : A) → p x ≡ true → f x ≡ g x) → counted f n (filter p xs) ≡ counted g n (filter p xs)
+counted_alike : {A : Type 0} (f g p : A → Bool) (n : ℕ) (xs : List A) → ((x : A) → p x ≡ true → f x ≡ g x) →
+    counted f n (filter p xs) ≡ counted g n (filter p xs)
 counted_alike f g p n [] h = refl
 counted_alike f g p n (x ∷ xs) h = alike_by f g (p x) x (filter p xs) n (h x) (λ m. counted_alike f g p m xs h)
 
-half_at : (d : List Entry) (s : ℕ) (o : Option (Result (List ℕ) MessagesError)) → IsRestOfCall d s o → option_map_or is_near_end o false ≡ (is_call d s && may_end_in few_bytes (part_of_message d s))
+half_at : (d : List Entry) (s : ℕ) (o : Option (Result (List ℕ) MessagesError)) → IsRestOfCall d s o →
+    option_map_or is_near_end o false ≡ (is_call d s && may_end_in few_bytes (part_of_message d s))
 half_at d s None h = ap (λ (b : Bool). b && may_end_in few_bytes (part_of_message d s)) (sym h)
 half_at d s (Some messages) h = ap is_near_end h.1 ∙ ap (λ (b : Bool). b && may_end_in few_bytes (part_of_message d s)) (sym h.0)
 
-pub same_half_calls : (texts : SourceTexts) (v : ConnectionValue) (p : Past) → IsConnection texts v p → (if v.ended then 0 else count_by (is_kept_half v.calls) v.streams.live) ≡ half_calls p.history
+pub same_half_calls : (texts : SourceTexts) (v : ConnectionValue) (p : Past) → IsConnection texts v p →
+    (if v.ended then 0 else count_by (is_kept_half v.calls) v.streams.live) ≡ half_calls p.history
 same_half_calls texts v p s =
     let d = p.history in
     ap (λ (b : Bool). if b then 0 else count_by (is_kept_half v.calls) v.streams.live) s.ended
@@ -101,4 +111,5 @@ same_half_calls texts v p s =
     ap (λ x. count_by (is_kept_half v.calls) x.live) (s.streams.state lives).is
     ∙ (count_mapped (is_kept_half v.calls) (stream_at d) (live_streams d)
     ∙ counted_alike (λ (n : ℕ). is_kept_half v.calls (stream_at d n)) (is_half d) (is_not_closed d) 0 (opened_streams d)
-    (λ n lives_on. ap (λ (b : Bool). not (is_ended_by_client d n) && b) (half_at d n (call_on n v.calls) ((s.alive lives).calls n lives_on)))))
+    (λ n lives_on. ap (λ (b : Bool). not (is_ended_by_client d n) && b)
+    (half_at d n (call_on n v.calls) ((s.alive lives).calls n lives_on)))))

@@ -25,26 +25,37 @@ use Rattle.conn_core.proofs.StreamsLaws.{in_live}
 call_listed : (d : List Entry) (s : ℕ) → is_call d s ≡ true → is_not_closed d s ≡ true → list_any (λ t. t == s) (live_streams d) ≡ true
 call_listed d s call lives = in_live d s ∙ both (list_any (λ t. t == s) (opened_streams d)) (is_not_closed d s) (call_opened d s call) lives
 
-open_thinned : (d : List Entry) (streams : List Stream) (cs kept : List Call) → ((t : ℕ) → list_any (number_is t) streams ≡ list_any (λ u. u == t) (live_streams d)) → Holds d cs → KeepsOpen streams cs kept → IsThinned d cs kept
+open_thinned : (d : List Entry) (streams : List Stream) (cs kept : List Call) →
+    ((t : ℕ) → list_any (number_is t) streams ≡ list_any (λ u. u == t) (live_streams d)) → Holds d cs → KeepsOpen streams cs kept →
+    IsThinned d cs kept
 open_thinned d streams cs kept listed holds (inl all) =
     let same : (t : ℕ) → call_on t kept ≡ call_on t cs = λ t. ap (λ (xs : List Call). call_on t xs) all in
-    record { calls = λ t lives. same t; nothing = λ t none. same t ∙ none; order = ap (λ (xs : List Call). members_of (live_streams d) (map call_stream xs)) all }
+    record {
+      calls = λ t lives. same t;
+      nothing = λ t none. same t ∙ none;
+      order =
+          ap (λ (xs : List Call). members_of (live_streams d) (map call_stream xs)) all;
+    }
 open_thinned d streams cs kept listed holds (inr some) =
-    let nothing' : (t : ℕ) → call_on t cs ≡ None → call_on t kept ≡ None = λ t none. ap (λ (xs : List Call). call_on t xs) some ∙ none_kept (λ n. list_any (number_is n) streams) t cs none in
+    let nothing' : (t : ℕ) → call_on t cs ≡ None → call_on t kept ≡ None =
+    λ t none. ap (λ (xs : List Call). call_on t xs) some ∙ none_kept (λ n. list_any (number_is n) streams) t cs none in
     record {
       calls = λ t lives. elim (cases_Bool (list_any (λ u. u == t) (live_streams d))) [
         | inl live ↦ ap (λ (xs : List Call). call_on t xs) some ∙ kept_on (λ n. list_any (number_is n) streams) t cs (listed t ∙ live)
-        | inr out ↦ none_left d cs kept t (call_on t cs) refl (holds t lives) (λ call. let no : true ≡ false = sym (call_listed d t call lives) ∙ out in let z : ⊥ = cc in z) (nothing' t)
+        | inr out ↦ none_left d cs kept t (call_on t cs) refl (holds t lives)
+            (λ call. let no : true ≡ false = sym (call_listed d t call lives) ∙ out in let z : ⊥ = cc in z) (nothing' t)
       ];
       nothing = nothing';
       order =
           ap (λ (xs : List Call). members_of (live_streams d) (map call_stream xs)) some
           ∙ ap (λ (ns : List ℕ). members_of (live_streams d) ns) (kept_streams (λ n. list_any (number_is n) streams) cs)
-          ∙ filter_less (λ t. list_any (λ u. u == t) (live_streams d)) (λ n. list_any (number_is n) streams) (map call_stream cs) (λ t h. listed t ∙ h);
+          ∙ filter_less (λ t. list_any (λ u. u == t) (live_streams d)) (λ n. list_any (number_is n) streams) (map call_stream cs)
+          (λ t h. listed t ∙ h);
     }
 
 -- what is kept stands for the past with the calls on live streams alone, too
-pub open_kept : (texts : SourceTexts) (v : ConnectionValue) (kept : List Call) (p : Past) → IsConnection texts v p → KeepsOpen v.streams.live v.calls kept → IsConnection texts (record v { calls = kept }) p
+pub open_kept : (texts : SourceTexts) (v : ConnectionValue) (kept : List Call) (p : Past) → IsConnection texts v p →
+    KeepsOpen v.streams.live v.calls kept → IsConnection texts (record v { calls = kept }) p
 open_kept texts v kept p st keeps = record {
   ended = st.ended;
   streams = st.streams;
@@ -53,10 +64,12 @@ open_kept texts v kept p st keeps = record {
   over = st.over;
   alive = λ alive.
       let a = st.alive alive in
-      let thin = open_thinned p.history v.streams.live v.calls kept (λ t. listed_streams v.streams p.history t st.streams alive) a.calls keeps in
+      let thin = open_thinned p.history v.streams.live v.calls kept
+      (λ t. listed_streams v.streams p.history t st.streams alive) a.calls keeps in
       record {
         reader = a.reader;
-        calls = λ s lives. subst (λ (o : Option (Result (List ℕ) MessagesError)). IsRestOfCall p.history s o) (sym (thin.calls s lives)) (a.calls s lives);
+        calls = λ s lives. subst (λ (o : Option (Result (List ℕ) MessagesError)). IsRestOfCall p.history s o) (sym (thin.calls s lives))
+            (a.calls s lives);
         order = thin.order ∙ a.order;
         counted = a.counted;
         live = a.live;

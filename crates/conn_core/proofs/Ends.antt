@@ -59,9 +59,13 @@ filter_same p q (x ∷ xs) h =
       | inr drops ↦ let k : p x ≡ false = here ∙ drops in rw (drops, k) rest
     ]
 
-cancels_are : (d : List Entry) (xs : List ℕ) (streams : List Stream) (reset : Option ℕ) → has_failed d ≡ false → members_of (live_streams d) xs ≡ filter (is_call d) (live_streams d) → ((s : ℕ) → list_any (λ t. t == s) xs ≡ true → is_ending streams reset s ≡ list_any (λ t. t == s) (live_streams d)) → ended_calls streams reset xs ≡ cancels d
+cancels_are : (d : List Entry) (xs : List ℕ) (streams : List Stream) (reset : Option ℕ) → has_failed d ≡ false →
+    members_of (live_streams d) xs ≡ filter (is_call d) (live_streams d) →
+    ((s : ℕ) → list_any (λ t. t == s) xs ≡ true → is_ending streams reset s ≡ list_any (λ t. t == s) (live_streams d)) →
+    ended_calls streams reset xs ≡ cancels d
 cancels_are d xs streams reset fine order same =
-    ap (λ (ss : List ℕ). map CallCancel ss) (filter_same (is_ending streams reset) (λ s. list_any (λ t. t == s) (live_streams d)) xs same ∙ order)
+    ap (λ (ss : List ℕ). map CallCancel ss) (filter_same (is_ending streams reset) (λ s. list_any (λ t. t == s) (live_streams d)) xs same
+    ∙ order)
     ∙ ap (λ b. cond b [] (map CallCancel (filter (is_call d) (live_streams d)))) (sym fine)
 
 or_none : (b : Bool) → (b || false) ≡ b
@@ -77,22 +81,27 @@ and_all true = refl
 and_all false = refl
 
 -- all calls on live streams
-pub all_end : (u : Standing) (streams : List Stream) (d : List Entry) (v : ConnectionValue) → AreStreams u d → has_failed d ≡ false → streams ≡ u.live → AreCalls v d → ended_calls streams None (map call_stream v.calls) ≡ cancels d
+pub all_end : (u : Standing) (streams : List Stream) (d : List Entry) (v : ConnectionValue) → AreStreams u d → has_failed d ≡ false →
+    streams ≡ u.live → AreCalls v d → ended_calls streams None (map call_stream v.calls) ≡ cancels d
 all_end u streams d v at fine same calls = cancels_are d (map call_stream v.calls) streams None fine calls.order (λ s h.
     or_none (list_any (number_is s) streams) ∙ ap (list_any (number_is s)) same ∙ live_is u d s at (at.fault ∙ fine))
 
 -- ---- of a frame whose answer does not fit, the stream of its event ends, too
 
-with_that : (ss : List ℕ) (s t : ℕ) (b : Bool) → list_any (λ u. u == t) ss ≡ true → (list_any (λ u. u == s) (cond b (other_streams t ss) ss) || (t == s)) ≡ list_any (λ u. u == s) ss
+with_that : (ss : List ℕ) (s t : ℕ) (b : Bool) → list_any (λ u. u == t) ss ≡ true →
+    (list_any (λ u. u == s) (cond b (other_streams t ss) ss) || (t == s)) ≡ list_any (λ u. u == s) ss
 with_that ss s t b h = elim (cases_Bool (t == s)) [
   | inl same ↦
       let e : t ≡ s = eqb-true t s same in
       let h' : list_any (λ u. u == s) ss ≡ true = subst (λ (n : ℕ). list_any (λ u. u == n) ss ≡ true) e h in
-      ap (λ c. list_any (λ u. u == s) (cond b (other_streams t ss) ss) || c) same ∙ or_all (list_any (λ u. u == s) (cond b (other_streams t ss) ss)) ∙ sym h'
+      ap (λ c. list_any (λ u. u == s) (cond b (other_streams t ss) ss) || c) same
+      ∙ or_all (list_any (λ u. u == s) (cond b (other_streams t ss) ss)) ∙ sym h'
   | inr other ↦
       let other' : (s == t) ≡ false = grind (arith, nat_tests) in
-      ap (λ c. list_any (λ u. u == s) (cond b (other_streams t ss) ss) || c) other ∙ or_none (list_any (λ u. u == s) (cond b (other_streams t ss) ss)) ∙ elim (cases_Bool b) [
-        | inl leaves ↦ rw leaves (any_kept (λ u. not (u == t)) s ss ∙ ap (λ c. list_any (λ u. u == s) ss && not c) other' ∙ and_all (list_any (λ u. u == s) ss))
+      ap (λ c. list_any (λ u. u == s) (cond b (other_streams t ss) ss) || c) other
+      ∙ or_none (list_any (λ u. u == s) (cond b (other_streams t ss) ss)) ∙ elim (cases_Bool b) [
+        | inl leaves ↦ rw leaves (any_kept (λ u. not (u == t)) s ss ∙ ap (λ c. list_any (λ u. u == s) ss && not c) other'
+            ∙ and_all (list_any (λ u. u == s) ss))
         | inr stays ↦ rw stays refl
       ]
 ]
@@ -101,10 +110,13 @@ abbrev IsOther : Event → ℕ → Type 0
 IsOther (Request t fields end_stream) s = (t == s) ≡ false
 IsOther _ s = Unit {0}
 
-ends_with : (d : List Entry) (event : Event) (s : ℕ) → IsOnItsStream d event → IsOther event s → (list_any (λ t. t == s) (live_after d event) || is_that (stream_of_event event) s) ≡ list_any (λ t. t == s) (live_streams d)
+ends_with : (d : List Entry) (event : Event) (s : ℕ) → IsOnItsStream d event → IsOther event s →
+    (list_any (λ t. t == s) (live_after d event) || is_that (stream_of_event event) s) ≡ list_any (λ t. t == s) (live_streams d)
 ends_with d Nothing s h k = or_none (list_any (λ t. t == s) (live_streams d))
 ends_with d (Request t fields end_stream) s h k =
-    ap (λ b. list_any (λ u. u == s) (live_streams d ++ t ∷ []) || b) k ∙ or_none (list_any (λ u. u == s) (live_streams d ++ t ∷ [])) ∙ list_any-append (λ u. u == s) (live_streams d) (t ∷ []) ∙ ap (λ b. list_any (λ u. u == s) (live_streams d) || (b || false)) k ∙ or_none (list_any (λ u. u == s) (live_streams d))
+    ap (λ b. list_any (λ u. u == s) (live_streams d ++ t ∷ []) || b) k ∙ or_none (list_any (λ u. u == s) (live_streams d ++ t ∷ []))
+    ∙ list_any-append (λ u. u == s) (live_streams d) (t ∷ []) ∙ ap (λ b. list_any (λ u. u == s) (live_streams d) || (b || false)) k
+    ∙ or_none (list_any (λ u. u == s) (live_streams d))
 ends_with d (Content t content true) s h k = with_that (live_streams d) s t (is_ended_by_server d t) h
 ends_with d (Content t content false) s h k = with_that (live_streams d) s t false h
 ends_with d (Trailers t) s h k = with_that (live_streams d) s t (is_ended_by_server d t) h
@@ -121,7 +133,8 @@ not_among s (c ∷ cs) h = elim (cases_Bool (c.stream == s)) [
   | inr other ↦ let h' : call_on s cs ≡ None = rw other at h in rw other (not_among s cs h')
 ]
 
-other_than : (u : Standing) (d : List Entry) (v : ConnectionValue) (event : Event) (s : ℕ) → AreStreams u d → has_failed d ≡ false → AreCalls v d → IsOnItsStream d event → list_any (λ t. t == s) (map call_stream v.calls) ≡ true → IsOther event s
+other_than : (u : Standing) (d : List Entry) (v : ConnectionValue) (event : Event) (s : ℕ) → AreStreams u d → has_failed d ≡ false →
+    AreCalls v d → IsOnItsStream d event → list_any (λ t. t == s) (map call_stream v.calls) ≡ true → IsOther event s
 other_than u d v Nothing s at fine calls h member = tt
 other_than u d v (Content t content end_stream) s at fine calls h member = tt
 other_than u d v (Trailers t) s at fine calls h member = tt
@@ -130,20 +143,26 @@ other_than u d v (Request t fields end_stream) s at fine calls h member = elim (
   | inl same ↦
       let e : t ≡ s = eqb-true t s same in
       let none : call_on t v.calls ≡ None = no_call d t (call_on t v.calls) (calls.calls t (idle_is_live u d t at fine h)) (idle d t h).0 in
-      let no : true ≡ false = sym member ∙ ap (λ (n : ℕ). list_any (λ u. u == n) (map call_stream v.calls)) (sym e) ∙ not_among t v.calls none in
+      let no : true ≡ false = sym member ∙ ap (λ (n : ℕ). list_any (λ u. u == n) (map call_stream v.calls)) (sym e)
+      ∙ not_among t v.calls none in
       absurd (let z : ⊥ = cc in z)
   | inr other ↦ other
 ]
 
-failing_fine : (texts : SourceTexts) (v : ConnectionValue) (p : Past) (f : RawFrame) (a : StreamEvent) (flood : Bool) → AwaitsItsAnswer texts v p f a flood → has_failed (p.history ++ entries_of p.history f) ≡ false
-failing_fine texts v p f a flood h = ap (λ (es : List Entry). has_failed (p.history ++ es)) (entries_caused p.history f a h.causes) ∙ failed_after p.history f (control_frames a) (answers_quiet (control_frames a) (answers_are p.history f a h.causes)) ∙ h.lives
+failing_fine : (texts : SourceTexts) (v : ConnectionValue) (p : Past) (f : RawFrame) (a : StreamEvent) (flood : Bool) →
+    AwaitsItsAnswer texts v p f a flood → has_failed (p.history ++ entries_of p.history f) ≡ false
+failing_fine texts v p f a flood h = ap (λ (es : List Entry). has_failed (p.history ++ es)) (entries_caused p.history f a h.causes)
+    ∙ failed_after p.history f (control_frames a) (answers_quiet (control_frames a) (answers_are p.history f a h.causes)) ∙ h.lives
 
-cut_end : (texts : SourceTexts) (v : ConnectionValue) (p : Past) (f : RawFrame) (a : StreamEvent) (flood : Bool) → AwaitsItsAnswer texts v p f a flood → ended_calls v.streams.live (stream_of_event a.event) (map call_stream v.calls) ≡ cancels p.history
+cut_end : (texts : SourceTexts) (v : ConnectionValue) (p : Past) (f : RawFrame) (a : StreamEvent) (flood : Bool) →
+    AwaitsItsAnswer texts v p f a flood → ended_calls v.streams.live (stream_of_event a.event) (map call_stream v.calls) ≡ cancels p.history
 cut_end texts v p f a flood h =
     let fine : has_failed (p.history ++ entries_of p.history f) ≡ false = failing_fine texts v p f a flood h in
     let of : IsOnItsStream p.history a.event = event_on_stream p.history f a h.causes in
     cancels_are p.history (map call_stream v.calls) v.streams.live (stream_of_event a.event) h.lives h.calls.order (λ s member.
-    ap (λ b. b || is_that (stream_of_event a.event) s) (live_is v.streams (p.history ++ entries_of p.history f) s h.streams (h.streams.fault ∙ fine) ∙ ap (list_any (λ t. t == s)) (live_after_frame h.before p.history f a h.stood h.lives h.causes))
+    ap (λ b. b || is_that (stream_of_event a.event) s)
+    (live_is v.streams (p.history ++ entries_of p.history f) s h.streams (h.streams.fault ∙ fine)
+    ∙ ap (list_any (λ t. t == s)) (live_after_frame h.before p.history f a h.stood h.lives h.causes))
     ∙ ends_with p.history a.event s of (other_than h.before p.history v a.event s h.stood h.lives h.calls of member))
 
 -- ---- the highest number after a frame
@@ -154,17 +173,22 @@ top rs = fold max 0 (map stream_of (fold blocks_after no_blocks rs).finished)
 highest_in : (d : List Entry) (f : RawFrame) (fs : List Frame) → highest_stream (d ++ In f ∷ map Out fs) ≡ highest_stream (d ++ In f ∷ [])
 highest_in d f fs = ap highest_stream (in_front d f fs) ∙ ap top (received_more (d ++ In f ∷ []) fs)
 
-highest_after : (texts : SourceTexts) (v : ConnectionValue) (p : Past) (f : RawFrame) (a : StreamEvent) (flood : Bool) → AwaitsItsAnswer texts v p f a flood → v.streams.highest ≡ highest_stream (p.history ++ In f ∷ [])
+highest_after : (texts : SourceTexts) (v : ConnectionValue) (p : Past) (f : RawFrame) (a : StreamEvent) (flood : Bool) →
+    AwaitsItsAnswer texts v p f a flood → v.streams.highest ≡ highest_stream (p.history ++ In f ∷ [])
 highest_after texts v p f a flood h =
     ap (λ (u : Standing). u.highest) (h.streams.state (failing_fine texts v p f a flood h)).is
-    ∙ ap (λ (es : List Entry). highest_stream (p.history ++ es)) (entries_caused p.history f a h.causes) ∙ highest_in p.history f (control_frames a)
+    ∙ ap (λ (es : List Entry). highest_stream (p.history ++ es)) (entries_caused p.history f a h.causes)
+    ∙ highest_in p.history f (control_frames a)
 
 -- ---- a connection that ended
 
 pub failed_with : (d : List Entry) (h : ℕ) (code : ErrorCode) → has_failed (d ++ Out (goaway_frame h code) ∷ []) ≡ true
-failed_with d h code = ap (list_any is_goaway) (sent_more d (goaway_frame h code ∷ [])) ∙ list_any-append is_goaway (sent_frames d) (goaway_frame h code ∷ []) ∙ or_all (list_any is_goaway (sent_frames d))
+failed_with d h code = ap (list_any is_goaway) (sent_more d (goaway_frame h code ∷ []))
+    ∙ list_any-append is_goaway (sent_frames d) (goaway_frame h code ∷ []) ∙ or_all (list_any is_goaway (sent_frames d))
 
-ended_stands : (texts : SourceTexts) (v x : ConnectionValue) (code : ErrorCode) (reset : Option ℕ) (d : List Entry) (q : Past) → Fails v code reset x → q.history ≡ d ++ Out (goaway_frame v.streams.highest code) ∷ [] → IsStoredSending texts v.sending d q.owed → q.due ≡ v.due ++ ended_calls v.streams.live reset (map call_stream v.calls) → IsConnection texts x q
+ended_stands : (texts : SourceTexts) (v x : ConnectionValue) (code : ErrorCode) (reset : Option ℕ) (d : List Entry) (q : Past) →
+    Fails v code reset x → q.history ≡ d ++ Out (goaway_frame v.streams.highest code) ∷ [] → IsStoredSending texts v.sending d q.owed →
+    q.due ≡ v.due ++ ended_calls v.streams.live reset (map call_stream v.calls) → IsConnection texts x q
 ended_stands texts v x code reset d q h is sending due =
     let failed : has_failed q.history ≡ true = ap has_failed is ∙ failed_with d v.streams.highest code in
     record {
@@ -183,35 +207,62 @@ frame_by p f o = record p {
   due = p.due ++ cond o.fails (cancels p.history) (call_events_of p.history o.event);
 }
 
-fails_frame : (texts : SourceTexts) (v x : ConnectionValue) (p : Past) (f : RawFrame) (fs : List Frame) (n : ℕ) (code : ErrorCode) (reset : Option ℕ) → outcome p.history f ≡ fault_outcome fs n code → v.streams.highest ≡ n → IsStoredSending texts v.sending (p.history ++ In f ∷ map Out fs) p.owed → v.due ≡ p.due → ended_calls v.streams.live reset (map call_stream v.calls) ≡ cancels p.history → Fails v code reset x → IsConnection texts x (with_frame p f)
+fails_frame : (texts : SourceTexts) (v x : ConnectionValue) (p : Past) (f : RawFrame) (fs : List Frame) (n : ℕ) (code : ErrorCode)
+    (reset : Option ℕ) → outcome p.history f ≡ fault_outcome fs n code → v.streams.highest ≡ n →
+    IsStoredSending texts v.sending (p.history ++ In f ∷ map Out fs) p.owed → v.due ≡ p.due →
+    ended_calls v.streams.live reset (map call_stream v.calls) ≡ cancels p.history → Fails v code reset x →
+    IsConnection texts x (with_frame p f)
 fails_frame texts v x p f fs n code reset o top-is sending due ended h =
-    let history : p.history ++ In f ∷ map Out (fs ++ goaway_frame n code ∷ []) ≡ (p.history ++ In f ∷ map Out fs) ++ Out (goaway_frame v.streams.highest code) ∷ [] =
-    ap (λ (es : List Entry). p.history ++ In f ∷ es) (map-append Out fs (goaway_frame n code ∷ [])) ∙ sym (append_assoc p.history (In f ∷ map Out fs) (Out (goaway_frame n code) ∷ [])) ∙ ap (λ (m : ℕ). (p.history ++ In f ∷ map Out fs) ++ Out (goaway_frame m code) ∷ []) (sym top-is) in
+    let history : p.history ++ In f ∷ map Out (fs ++ goaway_frame n code ∷ []) ≡ (p.history ++ In f ∷ map Out fs)
+    ++ Out (goaway_frame v.streams.highest code) ∷ [] =
+    ap (λ (es : List Entry). p.history ++ In f ∷ es) (map-append Out fs (goaway_frame n code ∷ []))
+    ∙ sym (append_assoc p.history (In f ∷ map Out fs) (Out (goaway_frame n code) ∷ []))
+    ∙ ap (λ (m : ℕ). (p.history ++ In f ∷ map Out fs) ++ Out (goaway_frame m code) ∷ []) (sym top-is) in
     let q : Past = frame_by p f (fault_outcome fs n code) in
     subst (λ (y : Outcome). IsConnection texts x (frame_by p f y)) (sym o)
-    (ended_stands texts v x code reset (p.history ++ In f ∷ map Out fs) (frame_by p f (fault_outcome fs n code)) h history sending (ap (λ (es : List CallEvent). es ++ cancels p.history) (sym due) ∙ ap (λ (es : List CallEvent). v.due ++ es) (sym ended)))
+    (ended_stands texts v x code reset (p.history ++ In f ∷ map Out fs) (frame_by p f (fault_outcome fs n code)) h history sending
+    (ap (λ (es : List CallEvent). es ++ cancels p.history) (sym due) ∙ ap (λ (es : List CallEvent). v.due ++ es) (sym ended)))
 
 -- the answer of a frame does not fit
-pub answered_cut : (texts : SourceTexts) (v w x : ConnectionValue) (p : Past) (f : RawFrame) (a : StreamEvent) (flood : Bool) → AwaitsItsAnswer texts v p f a flood → (b : Bool) → Puts v (control_frames a) b w → fits flood (untaken_count p.history) a ≡ false → Fails w EnhanceYourCalm (stream_of_event a.event) x → IsConnection texts x (with_frame p f)
+pub answered_cut : (texts : SourceTexts) (v w x : ConnectionValue) (p : Past) (f : RawFrame) (a : StreamEvent) (flood : Bool) →
+    AwaitsItsAnswer texts v p f a flood → (b : Bool) → Puts v (control_frames a) b w → fits flood (untaken_count p.history) a ≡ false →
+    Fails w EnhanceYourCalm (stream_of_event a.event) x → IsConnection texts x (with_frame p f)
 answered_cut texts v w x p f a flood h b puts short fails =
     let o = outcome_cut p.history f a h.causes (ap (λ y. fits y (untaken_count p.history) a) (sym h.floods) ∙ short) in
     let streams : w.streams ≡ v.streams = ap (λ (y : ConnectionValue). y.streams) puts.rest in
     let calls : w.calls ≡ v.calls = ap (λ (y : ConnectionValue). y.calls) puts.rest in
     let due : w.due ≡ p.due = ap (λ (y : ConnectionValue). y.due) puts.rest ∙ h.due in
     let ended : ended_calls w.streams.live (stream_of_event a.event) (map call_stream w.calls) ≡ cancels p.history =
-    ap (λ (u : Standing). ended_calls u.live (stream_of_event a.event) (map call_stream w.calls)) streams ∙ ap (λ (cs : List Call). ended_calls v.streams.live (stream_of_event a.event) (map call_stream cs)) calls ∙ cut_end texts v p f a flood h in
-    fails_frame texts w x p f (frames_to_put (untaken_count p.history) (control_frames a)) (highest_stream (p.history ++ In f ∷ [])) EnhanceYourCalm (stream_of_event a.event) o (ap (λ (u : Standing). u.highest) streams ∙ highest_after texts v p f a flood h) (put_behind texts v p f a flood w b h puts) due ended fails
+    ap (λ (u : Standing). ended_calls u.live (stream_of_event a.event) (map call_stream w.calls)) streams
+    ∙ ap (λ (cs : List Call). ended_calls v.streams.live (stream_of_event a.event) (map call_stream cs)) calls
+    ∙ cut_end texts v p f a flood h in
+    fails_frame texts w x p f (frames_to_put (untaken_count p.history) (control_frames a))
+    (highest_stream (p.history ++ In f ∷ [])) EnhanceYourCalm (stream_of_event a.event) o
+    (ap (λ (u : Standing). u.highest) streams ∙ highest_after texts v p f a flood h)
+    (put_behind texts v p f a flood w b h puts) due ended fails
 
 -- a frame is an error of the connection
-pub taken_fault : (texts : SourceTexts) (v x : ConnectionValue) (u : Standing) (p : Past) (f : RawFrame) (code : ErrorCode) → IsTaking texts v p f → answer_after p.history f ≡ Err code → u.live ≡ v.streams.live → u.highest ≡ v.streams.highest → Fails (record v { streams = u }) code None x → IsConnection texts x (with_frame p f)
+pub taken_fault : (texts : SourceTexts) (v x : ConnectionValue) (u : Standing) (p : Past) (f : RawFrame) (code : ErrorCode) →
+    IsTaking texts v p f → answer_after p.history f ≡ Err code → u.live ≡ v.streams.live → u.highest ≡ v.streams.highest →
+    Fails (record v { streams = u }) code None x → IsConnection texts x (with_frame p f)
 taken_fault texts v x u p f code h is same top-is fails =
     let high : u.highest ≡ highest_stream p.history = top-is ∙ ap (λ (s : Standing). s.highest) (h.streams.state h.lives).is in
-    fails_frame texts (record v { streams = u }) x p f [] (highest_stream p.history) code None (outcome_fault p.history f code is) high (frame_heard (sending_in texts v.sending) p.history p.owed f h.sending) h.due (all_end v.streams u.live p.history v h.streams h.lives same h.calls) fails
+    fails_frame texts (record v { streams = u }) x p f [] (highest_stream p.history) code None (outcome_fault p.history f code is) high
+    (frame_heard (sending_in texts v.sending) p.history p.owed f h.sending) h.due
+    (all_end v.streams u.live p.history v h.streams h.lives same h.calls) fails
 
 -- bytes that are no frame
-pub read_fault : (texts : SourceTexts) (v x : ConnectionValue) (p : Past) (e : FrameError) (code : ErrorCode) → has_failed p.history ≡ false → AreStreams v.streams p.history → IsStoredSending texts v.sending p.history p.owed → v.due ≡ p.due → AreCalls v p.history → Fails v code None x → IsConnection texts x (with_fault p e code)
+pub read_fault : (texts : SourceTexts) (v x : ConnectionValue) (p : Past) (e : FrameError) (code : ErrorCode) →
+    has_failed p.history ≡ false → AreStreams v.streams p.history → IsStoredSending texts v.sending p.history p.owed → v.due ≡ p.due →
+    AreCalls v p.history → Fails v code None x → IsConnection texts x (with_fault p e code)
 read_fault texts v x p e code fine at sending due calls h =
     let high : v.streams.highest ≡ highest_stream p.history = ap (λ (s : Standing). s.highest) (at.state fine).is in
-    let history : p.history ++ fault_entries p.history e code ≡ (p.history ++ Unreadable e ∷ []) ++ Out (goaway_frame v.streams.highest code) ∷ [] =
-    ap (λ b. p.history ++ Unreadable e ∷ map Out (fault_frames b (highest_stream p.history) code)) fine ∙ ap (λ (m : ℕ). p.history ++ Unreadable e ∷ Out (goaway_frame m code) ∷ []) (sym high) ∙ sym (append_assoc p.history (Unreadable e ∷ []) (Out (goaway_frame v.streams.highest code) ∷ [])) in
-    ended_stands texts v x code None (p.history ++ Unreadable e ∷ []) (with_fault p e code) h history (fault_heard (sending_in texts v.sending) p.history p.owed e sending) (ap (λ (es : List CallEvent). es ++ cancels p.history) (sym due) ∙ ap (λ (es : List CallEvent). v.due ++ es) (sym (all_end v.streams v.streams.live p.history v at fine refl calls)))
+    let history : p.history ++ fault_entries p.history e code ≡ (p.history ++ Unreadable e ∷ [])
+    ++ Out (goaway_frame v.streams.highest code) ∷ [] =
+    ap (λ b. p.history ++ Unreadable e ∷ map Out (fault_frames b (highest_stream p.history) code)) fine
+    ∙ ap (λ (m : ℕ). p.history ++ Unreadable e ∷ Out (goaway_frame m code) ∷ []) (sym high)
+    ∙ sym (append_assoc p.history (Unreadable e ∷ []) (Out (goaway_frame v.streams.highest code) ∷ [])) in
+    ended_stands texts v x code None (p.history ++ Unreadable e ∷ []) (with_fault p e code) h history
+    (fault_heard (sending_in texts v.sending) p.history p.owed e sending)
+    (ap (λ (es : List CallEvent). es ++ cancels p.history) (sym due)
+    ∙ ap (λ (es : List CallEvent). v.due ++ es) (sym (all_end v.streams v.streams.live p.history v at fine refl calls)))

@@ -11,10 +11,13 @@ use Rattle.grpc_sending.proofs.Histories.{append-nil}
 use Rattle.conn_core.specs.Received.{raw_in, received_raw_frames, outcome, frame_entries}
 use Rattle.conn_core.specs.Calls.{events_of_entry, events_of_entries, events}
 
-brought_more : (before es fs : List Entry) → events_of_entries before (es ++ fs) ≡ events_of_entries before es ++ events_of_entries (before ++ es) fs
+brought_more : (before es fs : List Entry) → events_of_entries before (es ++ fs) ≡ events_of_entries before es
+    ++ events_of_entries (before ++ es) fs
 brought_more before [] fs = ap (λ (d : List Entry). events_of_entries d fs) (sym (append-nil before))
 brought_more before (e ∷ es) fs =
-    ap (λ (xs : List Event). events_of_entry before e ++ xs) (brought_more (before ++ e ∷ []) es fs ∙ ap (λ (d : List Entry). events_of_entries (before ++ e ∷ []) es ++ events_of_entries d fs) (append_assoc before (e ∷ []) es))
+    ap (λ (xs : List Event). events_of_entry before e ++ xs)
+    (brought_more (before ++ e ∷ []) es fs ∙ ap (λ (d : List Entry). events_of_entries (before ++ e ∷ []) es ++ events_of_entries d fs)
+    (append_assoc before (e ∷ []) es))
     ∙ sym (append_assoc (events_of_entry before e) (events_of_entries (before ++ e ∷ []) es) (events_of_entries (before ++ e ∷ es) fs))
 
 pub events_more : (d es : List Entry) → events (d ++ es) ≡ events d ++ events_of_entries d es
@@ -29,7 +32,8 @@ events_out d fs = events_more d (map Out fs) ∙ ap (λ (xs : List Event). event
 
 -- a frame, and what is put for it
 pub events_frame : (d : List Entry) (f : RawFrame) → events (d ++ frame_entries d f) ≡ events d ++ (outcome d f).event ∷ []
-events_frame d f = events_more d (frame_entries d f) ∙ ap (λ (xs : List Event). events d ++ ((outcome d f).event ∷ xs)) (out_brings (d ++ In f ∷ []) (outcome d f).put)
+events_frame d f = events_more d (frame_entries d f)
+    ∙ ap (λ (xs : List Event). events d ++ ((outcome d f).event ∷ xs)) (out_brings (d ++ In f ∷ []) (outcome d f).put)
 
 pub events_took : (d : List Entry) (n : ℕ) → events (d ++ Took n ∷ []) ≡ events d
 events_took d n = events_more d (Took n ∷ []) ∙ append-nil (events d)
@@ -39,7 +43,8 @@ out_raw [] = refl
 out_raw (f ∷ fs) = out_raw fs
 
 pub raw_out : (d : List Entry) (fs : List Frame) → received_raw_frames (d ++ map Out fs) ≡ received_raw_frames d
-raw_out d fs = filter_map-append raw_in d (map Out fs) ∙ ap (λ (xs : List RawFrame). received_raw_frames d ++ xs) (out_raw fs) ∙ append-nil (received_raw_frames d)
+raw_out d fs = filter_map-append raw_in d (map Out fs) ∙ ap (λ (xs : List RawFrame). received_raw_frames d ++ xs) (out_raw fs)
+    ∙ append-nil (received_raw_frames d)
 
 pub raw_took : (d : List Entry) (n : ℕ) → received_raw_frames (d ++ Took n ∷ []) ≡ received_raw_frames d
 raw_took d n = filter_map-append raw_in d (Took n ∷ []) ∙ append-nil (received_raw_frames d)

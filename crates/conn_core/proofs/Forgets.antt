@@ -25,34 +25,42 @@ pub unmet : (P : Type 0) (b : Bool) → b ≡ false → b ≡ true → P
 unmet P b h k = never P (sym h ∙ k)
 
 -- what is closed stays so
-stays_closed : (d e : List Entry) (s : ℕ) → ((t : ℕ) → is_not_closed e t ≡ true → is_not_closed d t ≡ true) → is_not_closed d s ≡ false → is_not_closed e s ≡ false
+stays_closed : (d e : List Entry) (s : ℕ) → ((t : ℕ) → is_not_closed e t ≡ true → is_not_closed d t ≡ true) → is_not_closed d s ≡ false →
+    is_not_closed e s ≡ false
 stays_closed d e s falls h = elim (cases_Bool (is_not_closed e s)) [
   | inl lives ↦ unmet (is_not_closed e s ≡ false) (is_not_closed d s) h (falls s lives)
   | inr closed ↦ closed
 ]
 
-pub not_listed : (v : Standing) (d : List Entry) (s : ℕ) → AreStreams v d → has_failed d ≡ false → is_not_closed d s ≡ false → is_live_at v s ≡ false
-not_listed v d s at alive closed = live_is v d s at (at.fault ∙ alive) ∙ in_live d s ∙ ap (λ b. list_any (λ t. t == s) (opened_streams d) && b) closed ∙ false_both (list_any (λ t. t == s) (opened_streams d))
+pub not_listed : (v : Standing) (d : List Entry) (s : ℕ) → AreStreams v d → has_failed d ≡ false → is_not_closed d s ≡ false →
+    is_live_at v s ≡ false
+not_listed v d s at alive closed = live_is v d s at (at.fault ∙ alive) ∙ in_live d s
+    ∙ ap (λ b. list_any (λ t. t == s) (opened_streams d) && b) closed ∙ false_both (list_any (λ t. t == s) (opened_streams d))
 
 -- no live stream
-pub unlisted : (v : Standing) (d : List Entry) (s : ℕ) → AreStreams v d → has_failed d ≡ false → has_stream (live_streams d) s ≡ false → is_live_at v s ≡ false
+pub unlisted : (v : Standing) (d : List Entry) (s : ℕ) → AreStreams v d → has_failed d ≡ false → has_stream (live_streams d) s ≡ false →
+    is_live_at v s ≡ false
 unlisted v d s at alive out = live_is v d s at (at.fault ∙ alive) ∙ out
 
 -- a closed stream is none
 pub closed_out : (d : List Entry) (s : ℕ) → is_not_closed d s ≡ false → has_stream (live_streams d) s ≡ false
-closed_out d s closed = in_live d s ∙ ap (λ b. list_any (λ t. t == s) (opened_streams d) && b) closed ∙ false_both (list_any (λ t. t == s) (opened_streams d))
+closed_out d s closed = in_live d s ∙ ap (λ b. list_any (λ t. t == s) (opened_streams d) && b) closed
+    ∙ false_both (list_any (λ t. t == s) (opened_streams d))
 
 -- ---- an item
 
-pub item_live : (streams : Standing) (v w : StoredSending) (d : List Entry) → AreStreams streams d → has_failed d ≡ false → AddsToLive streams v w → AreForLive v.queues d → AreForLive w.queues d
+pub item_live : (streams : Standing) (v w : StoredSending) (d : List Entry) → AreStreams streams d → has_failed d ≡ false →
+    AddsToLive streams v w → AreForLive v.queues d → AreForLive w.queues d
 item_live streams v w d at alive none h s out = none s (inr (unlisted streams d s at alive out)) (h s out)
 
-pub item_failed : (streams : Standing) (v w : StoredSending) (d : List Entry) → AreStreams streams d → AddsToLive streams v w → ForgetsFailed v.queues d → ForgetsFailed w.queues d
+pub item_failed : (streams : Standing) (v w : StoredSending) (d : List Entry) → AreStreams streams d → AddsToLive streams v w →
+    ForgetsFailed v.queues d → ForgetsFailed w.queues d
 item_failed streams v w d at none h failed s = none s (inl (at.fault ∙ failed)) (h failed s)
 
 -- ---- entries that change no stream
 
-pub same_lists : (d e : List Entry) (qs rs : List StoredQueue) → live_streams e ≡ live_streams d → ((t : ℕ) → stored_on t qs ≡ [] → stored_on t rs ≡ []) → AreForLive qs d → AreForLive rs e
+pub same_lists : (d e : List Entry) (qs rs : List StoredQueue) → live_streams e ≡ live_streams d →
+    ((t : ℕ) → stored_on t qs ≡ [] → stored_on t rs ≡ []) → AreForLive qs d → AreForLive rs e
 same_lists d e qs rs same none h s out = none s (h s (ap (λ (ss : List ℕ). has_stream ss s) (sym same) ∙ out))
 
 -- ---- a frame that brought something
@@ -84,7 +92,8 @@ other_or_out s t ss out =
     ]
 
 -- what is kept for a stream that is live no more after END_STREAM of the client
-none_at_end : (d : List Entry) (s t : ℕ) (qs : List StoredQueue) → ForgetsEnded qs d → AreForLive qs d → has_stream (live_after_end d s) t ≡ false → stored_on t qs ≡ []
+none_at_end : (d : List Entry) (s t : ℕ) (qs : List StoredQueue) → ForgetsEnded qs d → AreForLive qs d →
+    has_stream (live_after_end d s) t ≡ false → stored_on t qs ≡ []
 none_at_end d s t qs finished h out = elim (cases_Bool (is_ended_by_server d s)) [
   | inl ended ↦
       let out' : has_stream (other_streams s (live_streams d)) t ≡ false = rw ended at out in
@@ -98,7 +107,8 @@ none_at_end d s t qs finished h out = elim (cases_Bool (is_ended_by_server d s))
 before_request : (s t : ℕ) (ss : List ℕ) → has_stream (ss ++ s ∷ []) t ≡ false → has_stream ss t ≡ false
 before_request s t ss out = elim (cases_Bool (has_stream ss t)) [
   | inl member ↦
-      let some : has_stream (ss ++ s ∷ []) t ≡ true = list_any-append (λ u. u == t) ss (s ∷ []) ∙ any_first (has_stream ss t) (has_stream (s ∷ []) t) member in
+      let some : has_stream (ss ++ s ∷ []) t ≡ true =
+      list_any-append (λ u. u == t) ss (s ∷ []) ∙ any_first (has_stream ss t) (has_stream (s ∷ []) t) member in
       unmet (has_stream ss t ≡ false) (has_stream (ss ++ s ∷ []) t) out some
   | inr none ↦ none
 ]
@@ -106,7 +116,8 @@ before_request s t ss out = elim (cases_Bool (has_stream ss t)) [
 abbrev Out' : List Entry → Event → ℕ → Type 0
 Out' d event t = has_stream (live_after d event) t ≡ false
 
-brought_none : (d e : List Entry) (event : Event) (qs rs : List StoredQueue) (t : ℕ) → (stored_on t qs ≡ [] → stored_on t rs ≡ []) → Forgets event rs → ForgetsEnded qs d → AreForLive qs d → Out' d event t → stored_on t rs ≡ []
+brought_none : (d e : List Entry) (event : Event) (qs rs : List StoredQueue) (t : ℕ) → (stored_on t qs ≡ [] → stored_on t rs ≡ []) →
+    Forgets event rs → ForgetsEnded qs d → AreForLive qs d → Out' d event t → stored_on t rs ≡ []
 brought_none d e Nothing qs rs t none forgets finished h out = none (h t out)
 brought_none d e (Request s fields end_stream) qs rs t none forgets finished h out = none (h t (before_request s t (live_streams d) out))
 brought_none d e (Content s content true) qs rs t none forgets finished h out = none (none_at_end d s t qs finished h out)
@@ -117,15 +128,19 @@ brought_none d e (Cancel s) qs rs t none forgets finished h out = elim (other_or
   | inr before ↦ none (h t before)
 ]
 
-pub some_brought : (d e : List Entry) (event : Event) (qs rs : List StoredQueue) → live_streams e ≡ live_after d event → KeepsOut e qs rs → Forgets event rs → ForgetsEnded qs d → AreForLive qs d → AreForLive rs e
-some_brought d e event qs rs lives none forgets finished h t out = brought_none d e event qs rs t (none t out) forgets finished h (ap (λ (ss : List ℕ). has_stream ss t) (sym lives) ∙ out)
+pub some_brought : (d e : List Entry) (event : Event) (qs rs : List StoredQueue) → live_streams e ≡ live_after d event → KeepsOut e qs rs →
+    Forgets event rs → ForgetsEnded qs d → AreForLive qs d → AreForLive rs e
+some_brought d e event qs rs lives none forgets finished h t out =
+    brought_none d e event qs rs t (none t out) forgets finished h (ap (λ (ss : List ℕ). has_stream ss t) (sym lives) ∙ out)
 
 -- ---- streams that the server ended
 
-pub item_ended : (streams : Standing) (v w : StoredSending) (d : List Entry) → AreStreams streams d → has_failed d ≡ false → AddsToLive streams v w → ForgetsEnded v.queues d → ForgetsEnded w.queues d
+pub item_ended : (streams : Standing) (v w : StoredSending) (d : List Entry) → AreStreams streams d → has_failed d ≡ false →
+    AddsToLive streams v w → ForgetsEnded v.queues d → ForgetsEnded w.queues d
 item_ended streams v w d at alive none h s was = let k = h s was in (k.0, none s (inr (not_listed streams d s at alive k.0)) k.1)
 
-pub none_ended : (d e : List Entry) (qs rs : List StoredQueue) → ((t : ℕ) → is_ended_by_server e t ≡ is_ended_by_server d t) → ((t : ℕ) → is_not_closed e t ≡ true → is_not_closed d t ≡ true) → KeepsClosed e qs rs → ForgetsEnded qs d → ForgetsEnded rs e
+pub none_ended : (d e : List Entry) (qs rs : List StoredQueue) → ((t : ℕ) → is_ended_by_server e t ≡ is_ended_by_server d t) →
+    ((t : ℕ) → is_not_closed e t ≡ true → is_not_closed d t ≡ true) → KeepsClosed e qs rs → ForgetsEnded qs d → ForgetsEnded rs e
 none_ended d e qs rs same falls none h s was =
     let k = h s (sym (same s) ∙ was) in
     let closed : is_not_closed e s ≡ false = stays_closed d e s falls k.0 in

@@ -14,9 +14,11 @@ use Rattle.conn_core.proofs.Numbers.{filter_agree}
 use Rattle.conn_core.proofs.Bring.{listed_streams}
 
 -- without an error of the connection
-alive_left : (texts : SourceTexts) (v : ConnectionValue) (p : Past) → IsConnection texts v p → has_failed p.history ≡ false → live_numbers v.streams.live v.calls ≡ filter (is_call p.history) (live_streams p.history)
+alive_left : (texts : SourceTexts) (v : ConnectionValue) (p : Past) → IsConnection texts v p → has_failed p.history ≡ false →
+    live_numbers v.streams.live v.calls ≡ filter (is_call p.history) (live_streams p.history)
 alive_left texts v p st alive =
-    filter_agree (λ t. list_any (number_is t) v.streams.live) (λ t. list_any (λ u. u == t) (live_streams p.history)) (map call_stream v.calls) (λ t h. listed_streams v.streams p.history t st.streams alive)
+    filter_agree (λ t. list_any (number_is t) v.streams.live) (λ t. list_any (λ u. u == t) (live_streams p.history))
+    (map call_stream v.calls) (λ t h. listed_streams v.streams p.history t st.streams alive)
     ∙ (st.alive alive).order
 
 pub left_calls : (texts : SourceTexts) (v : ConnectionValue) (p : Past) → IsConnection texts v p → live_calls v ≡ calls_left p.history

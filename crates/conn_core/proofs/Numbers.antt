@@ -34,7 +34,8 @@ any_kept p s (t ∷ ss) = elim (cases_Bool (p t)) [
     | inr other ↦ rw (kept, other) (any_kept p s ss)
   ]
   | inr left ↦ elim (cases_Bool (t == s)) [
-    | inl same ↦ let e : t ≡ s = eqb-true t s same in let k : p s ≡ false = ap p (sym e) ∙ left in rw (left, same) (any_kept p s ss ∙ ap (λ b. list_any (λ u. u == s) ss && b) k ∙ false_both (list_any (λ u. u == s) ss) ∙ sym k)
+    | inl same ↦ let e : t ≡ s = eqb-true t s same in let k : p s ≡ false = ap p (sym e) ∙ left in
+        rw (left, same) (any_kept p s ss ∙ ap (λ b. list_any (λ u. u == s) ss && b) k ∙ false_both (list_any (λ u. u == s) ss) ∙ sym k)
     | inr other ↦ rw (left, other) (any_kept p s ss)
   ]
 ]
@@ -64,10 +65,12 @@ filter_twice p q [] = refl
 filter_twice p q (x ∷ xs) = grind (arith, filter_twice p q xs)
 
 filter_turned : (p q : ℕ → Bool) (xs : List ℕ) → filter p (filter q xs) ≡ filter q (filter p xs)
-filter_turned p q xs = filter_twice p q xs ∙ filter_agree (λ x. q x && p x) (λ x. p x && q x) xs (λ t h. and_turned (q t) (p t)) ∙ sym (filter_twice q p xs)
+filter_turned p q xs = filter_twice p q xs ∙ filter_agree (λ x. q x && p x) (λ x. p x && q x) xs (λ t h. and_turned (q t) (p t))
+    ∙ sym (filter_twice q p xs)
 
 -- of the numbers, those that stay
-pub sifted : (q c c' : ℕ → Bool) (os xs : List ℕ) → members_of os xs ≡ filter c os → ((t : ℕ) → c' t ≡ c t) → members_of (filter q os) xs ≡ filter c' (filter q os)
+pub sifted : (q c c' : ℕ → Bool) (os xs : List ℕ) → members_of os xs ≡ filter c os → ((t : ℕ) → c' t ≡ c t) →
+    members_of (filter q os) xs ≡ filter c' (filter q os)
 sifted q c c' os xs order same =
     filter_agree (λ t. list_any (λ u. u == t) (filter q os)) (λ t. list_any (λ u. u == t) os && q t) xs (λ t h. any_kept q t os)
     ∙ sym (filter_twice q (λ t. list_any (λ u. u == t) os) xs)

@@ -36,26 +36,32 @@ IsOpened d s = list_any (λ t. t == s) (opened_streams d) ≡ true
 pub opened_still : (d es : List Entry) (s : ℕ) → IsOpened d s → IsOpened (d ++ es) s
 opened_still d es s h =
     let m = opened_more d es in
-    ap (list_any (λ t. t == s)) m.1 ∙ list_any-append (λ t. t == s) (opened_streams d) m.0 ∙ any_first (list_any (λ t. t == s) (opened_streams d)) (list_any (λ t. t == s) m.0) h
+    ap (list_any (λ t. t == s)) m.1 ∙ list_any-append (λ t. t == s) (opened_streams d) m.0
+    ∙ any_first (list_any (λ t. t == s) (opened_streams d)) (list_any (λ t. t == s) m.0) h
 
 -- ---- of one frame
 
-live_opened : (d : List Entry) (f : RawFrame) (s t : ℕ) → list_any (λ u. u == t) (live_streams d) ≡ true → (t == s) ≡ true → IsOpened (d ++ In f ∷ []) s
+live_opened : (d : List Entry) (f : RawFrame) (s t : ℕ) → list_any (λ u. u == t) (live_streams d) ≡ true → (t == s) ≡ true →
+    IsOpened (d ++ In f ∷ []) s
 live_opened d f s t h same =
     let o : IsOpened d t = (and_parts (list_any (λ u. u == t) (opened_streams d)) (is_not_closed d t) (sym (in_live d t) ∙ h)).0 in
     opened_still d (In f ∷ []) s (subst (λ (n : ℕ). IsOpened d n) (eqb-true t s same) o)
 
-event_opened : (d : List Entry) (f : RawFrame) (s : ℕ) (a : StreamEvent) (e : Event) → answer_after d f ≡ Ok a → a.event ≡ e → IsOnItsStream d e → names s e ≡ true → IsOpened (d ++ In f ∷ []) s
+event_opened : (d : List Entry) (f : RawFrame) (s : ℕ) (a : StreamEvent) (e : Event) → answer_after d f ≡ Ok a → a.event ≡ e →
+    IsOnItsStream d e → names s e ≡ true → IsOpened (d ++ In f ∷ []) s
 event_opened d f s a Nothing h is on named = absurd (let no : false ≡ true = named in let z : ⊥ = cc in z)
-event_opened d f s a (Request t fields end_stream) h is on named = subst (λ (n : ℕ). IsOpened (d ++ In f ∷ []) n) (eqb-true t s named) (request_opened d f a t fields end_stream h is)
+event_opened d f s a (Request t fields end_stream) h is on named =
+    subst (λ (n : ℕ). IsOpened (d ++ In f ∷ []) n) (eqb-true t s named) (request_opened d f a t fields end_stream h is)
 event_opened d f s a (Content t content end_stream) h is on named = live_opened d f s t on named
 event_opened d f s a (Trailers t) h is on named = live_opened d f s t on named
 event_opened d f s a (Cancel t) h is on named = live_opened d f s t on named
 
-named_of : (d : List Entry) (f : RawFrame) (flood : Bool) (s n h k : ℕ) (r : Result StreamEvent ErrorCode) → answer_after d f ≡ r → names s (outcome_of flood n h k r).event ≡ true → IsOpened (d ++ In f ∷ []) s
+named_of : (d : List Entry) (f : RawFrame) (flood : Bool) (s n h k : ℕ) (r : Result StreamEvent ErrorCode) → answer_after d f ≡ r →
+    names s (outcome_of flood n h k r).event ≡ true → IsOpened (d ++ In f ∷ []) s
 named_of d f flood s n h k (Err code) is named = let no : false ≡ true = named in absurd (let z : ⊥ = cc in z)
 named_of d f flood s n h k (Ok a) is named = elim (cases_Bool (fits flood n a)) [
-  | inl fit ↦ let named' : names s a.event ≡ true = rw fit at named in event_opened d f s a a.event is refl (event_on_stream d f a is) named'
+  | inl fit ↦ let named' : names s a.event ≡ true = rw fit at named in
+      event_opened d f s a a.event is refl (event_on_stream d f a is) named'
   | inr short ↦ let no : false ≡ true = rw short at named in absurd (let z : ⊥ = cc in z)
 ]
 
@@ -65,10 +71,14 @@ both_lists : (a b : Bool) (P : Type 0) → (a || b) ≡ true → (a ≡ true →
 both_lists true b P h l r = l refl
 both_lists false b P h l r = r h
 
-brought_opened : (before : List Entry) (e : Entry) (s : ℕ) → list_any (names s) (events_of_entry before e) ≡ true → IsOpened (before ++ e ∷ []) s
+brought_opened : (before : List Entry) (e : Entry) (s : ℕ) → list_any (names s) (events_of_entry before e) ≡ true →
+    IsOpened (before ++ e ∷ []) s
 brought_opened before (In f) s h =
-    let h' : names s (outcome before f).event ≡ true = both_lists (names s (outcome before f).event) false (names s (outcome before f).event ≡ true) h (λ x. x) (λ no. absurd (let z : ⊥ = cc in z)) in
-    named_of before f (is_flood before f) s (untaken_count before) (highest_stream before) (highest_stream (before ++ In f ∷ [])) (answer_after before f) refl h'
+    let h' : names s (outcome before f).event ≡ true =
+    both_lists (names s (outcome before f).event) false (names s (outcome before f).event ≡ true) h (λ x. x)
+    (λ no. absurd (let z : ⊥ = cc in z)) in
+    named_of before f (is_flood before f) s (untaken_count before) (highest_stream before) (highest_stream (before ++ In f ∷ []))
+    (answer_after before f) refl h'
 brought_opened before (Unreadable x) s h = absurd (let z : ⊥ = cc in z)
 brought_opened before (Out g) s h = absurd (let z : ⊥ = cc in z)
 brought_opened before (Took n) s h = absurd (let z : ⊥ = cc in z)
@@ -77,8 +87,10 @@ named_opened : (before es : List Entry) (s : ℕ) → list_any (names s) (events
 named_opened before [] s h = absurd (let z : ⊥ = cc in z)
 named_opened before (e ∷ es) s h =
     let e' : (before ++ e ∷ []) ++ es ≡ before ++ e ∷ es = append_assoc before (e ∷ []) es in
-    let h' : (list_any (names s) (events_of_entry before e) || list_any (names s) (events_of_entries (before ++ e ∷ []) es)) ≡ true = sym (list_any-append (names s) (events_of_entry before e) (events_of_entries (before ++ e ∷ []) es)) ∙ h in
-    subst (λ (d : List Entry). IsOpened d s) e' (both_lists (list_any (names s) (events_of_entry before e)) (list_any (names s) (events_of_entries (before ++ e ∷ []) es)) (IsOpened ((before ++ e ∷ []) ++ es) s) h'
+    let h' : (list_any (names s) (events_of_entry before e) || list_any (names s) (events_of_entries (before ++ e ∷ []) es)) ≡ true =
+    sym (list_any-append (names s) (events_of_entry before e) (events_of_entries (before ++ e ∷ []) es)) ∙ h in
+    subst (λ (d : List Entry). IsOpened d s) e' (both_lists (list_any (names s) (events_of_entry before e))
+    (list_any (names s) (events_of_entries (before ++ e ∷ []) es)) (IsOpened ((before ++ e ∷ []) ++ es) s) h'
     (λ here. opened_still (before ++ e ∷ []) es s (brought_opened before e s here))
     (λ later. named_opened (before ++ e ∷ []) es s later))
 

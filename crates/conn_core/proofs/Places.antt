@@ -19,14 +19,16 @@ use Rattle.conn_core.proofs.Takes.{Took}
 
 -- ---- the first call of a stream
 
-beyond : (s : ℕ) (c : Call) (cs : List Call) → (c.stream == s) ≡ false → call_place s (c ∷ cs) < length (c ∷ cs) → call_place s cs < length cs
+beyond : (s : ℕ) (c : Call) (cs : List Call) → (c.stream == s) ≡ false → call_place s (c ∷ cs) < length (c ∷ cs) →
+    call_place s cs < length cs
 beyond s c cs later h =
     let k : cond (c.stream == s) 0 (suc (call_place s cs)) < suc (length cs) = h in
     let e : cond (c.stream == s) 0 (suc (call_place s cs)) ≡ suc (call_place s cs) = rw later refl in
     omega (arith, k, e)
 
 -- the call at the place
-pub found_at : (s : ℕ) (cs : List Call) (d : Call) → call_place s cs < length cs → ((get_or cs (call_place s cs) d).stream ≡ s) × (call_on s cs ≡ Some (get_or cs (call_place s cs) d).messages)
+pub found_at : (s : ℕ) (cs : List Call) (d : Call) → call_place s cs < length cs →
+    ((get_or cs (call_place s cs) d).stream ≡ s) × (call_on s cs ≡ Some (get_or cs (call_place s cs) d).messages)
 found_at s [] d h = absurd (omega (arith, h))
 found_at s (c ∷ cs) d h = elim (cases_Bool (c.stream == s)) [
   | inl here ↦ let e : c.stream ≡ s = eqb-true c.stream s here in rw here (e, refl)
@@ -34,14 +36,16 @@ found_at s (c ∷ cs) d h = elim (cases_Bool (c.stream == s)) [
 ]
 
 -- another one in its place
-pub set_at : (s : ℕ) (cs : List Call) (x : Call) → call_place s cs < length cs → x.stream ≡ s → call_on s (set cs (call_place s cs) x) ≡ Some x.messages
+pub set_at : (s : ℕ) (cs : List Call) (x : Call) → call_place s cs < length cs → x.stream ≡ s →
+    call_on s (set cs (call_place s cs) x) ≡ Some x.messages
 set_at s [] x h is = absurd (omega (arith, h))
 set_at s (c ∷ cs) x h is = elim (cases_Bool (c.stream == s)) [
   | inl here ↦ let k : (x.stream == s) ≡ true = grind (arith, nat_tests) in rw (here, k) refl
   | inr later ↦ rw (later, later) (set_at s cs x (beyond s c cs later h) is)
 ]
 
-pub set_others : (s t : ℕ) (cs : List Call) (x : Call) → call_place s cs < length cs → x.stream ≡ s → (s == t) ≡ false → call_on t (set cs (call_place s cs) x) ≡ call_on t cs
+pub set_others : (s t : ℕ) (cs : List Call) (x : Call) → call_place s cs < length cs → x.stream ≡ s → (s == t) ≡ false →
+    call_on t (set cs (call_place s cs) x) ≡ call_on t cs
 set_others s t [] x h is other = absurd (omega (arith, h))
 set_others s t (c ∷ cs) x h is other = elim (cases_Bool (c.stream == s)) [
   | inl here ↦
@@ -54,7 +58,8 @@ set_others s t (c ∷ cs) x h is other = elim (cases_Bool (c.stream == s)) [
       rw later (ap (λ (o : Option (Result (List ℕ) MessagesError)). cond (c.stream == t) (Some c.messages) o) rest)
 ]
 
-pub set_streams : (s : ℕ) (cs : List Call) (x : Call) → call_place s cs < length cs → x.stream ≡ s → map call_stream (set cs (call_place s cs) x) ≡ map call_stream cs
+pub set_streams : (s : ℕ) (cs : List Call) (x : Call) → call_place s cs < length cs → x.stream ≡ s →
+    map call_stream (set cs (call_place s cs) x) ≡ map call_stream cs
 set_streams s [] x h is = absurd (omega (arith, h))
 set_streams s (c ∷ cs) x h is = elim (cases_Bool (c.stream == s)) [
   | inl here ↦ let e : c.stream ≡ s = eqb-true c.stream s here in rw here (ap (λ (n : ℕ). n ∷ map call_stream cs) (is ∙ sym e))
@@ -64,7 +69,8 @@ set_streams s (c ∷ cs) x h is = elim (cases_Bool (c.stream == s)) [
 pub no_place : (s : ℕ) (cs : List Call) → length cs ≤ call_place s cs → call_on s cs ≡ None
 no_place s [] h = refl
 no_place s (c ∷ cs) h = elim (cases_Bool (c.stream == s)) [
-  | inl here ↦ let k : suc (length cs) ≤ cond (c.stream == s) 0 (suc (call_place s cs)) = h in let e : cond (c.stream == s) 0 (suc (call_place s cs)) ≡ 0 = rw here refl in absurd (omega (arith, k, e))
+  | inl here ↦ let k : suc (length cs) ≤ cond (c.stream == s) 0 (suc (call_place s cs)) = h in
+      let e : cond (c.stream == s) 0 (suc (call_place s cs)) ≡ 0 = rw here refl in absurd (omega (arith, k, e))
   | inr later ↦
       let k : suc (length cs) ≤ cond (c.stream == s) 0 (suc (call_place s cs)) = h in
       let e : cond (c.stream == s) 0 (suc (call_place s cs)) ≡ suc (call_place s cs) = rw later refl in
@@ -74,7 +80,8 @@ no_place s (c ∷ cs) h = elim (cases_Bool (c.stream == s)) [
 
 -- ---- more of a call's text
 
-pub takes_none : (s : ℕ) (content : List ℕ) (end_stream : Bool) (cs : List Call) (es : List CallEvent) → call_on s cs ≡ None → TakesOn s content end_stream cs cs es es
+pub takes_none : (s : ℕ) (content : List ℕ) (end_stream : Bool) (cs : List Call) (es : List CallEvent) → call_on s cs ≡ None →
+    TakesOn s content end_stream cs cs es es
 takes_none s content end_stream cs es none = record {
   streams = refl;
   others = λ t other. refl;
@@ -82,8 +89,11 @@ takes_none s content end_stream cs es none = record {
   call = λ u h. let no : None ≡ Some (messages_of u).end = sym none ∙ h in absurd cc;
 }
 
-pub takes_at : (s : ℕ) (content : List ℕ) (end_stream : Bool) (cs : List Call) (x d : Call) (before after : List CallEvent) → call_place s cs < length cs → x.stream ≡ (get_or cs (call_place s cs) d).stream
-    → ((t : List ℕ) → (get_or cs (call_place s cs) d).messages ≡ (messages_of t).end → Took (get_or cs (call_place s cs) d).stream content end_stream x.messages before after t) → TakesOn s content end_stream cs (set cs (call_place s cs) x) before after
+pub takes_at : (s : ℕ) (content : List ℕ) (end_stream : Bool) (cs : List Call) (x d : Call) (before after : List CallEvent) →
+    call_place s cs < length cs → x.stream ≡ (get_or cs (call_place s cs) d).stream
+    → ((t : List ℕ) → (get_or cs (call_place s cs) d).messages ≡ (messages_of t).end →
+    Took (get_or cs (call_place s cs) d).stream content end_stream x.messages before after t) →
+    TakesOn s content end_stream cs (set cs (call_place s cs) x) before after
 takes_at s content end_stream cs x d before after h same takes =
     let at = found_at s cs d h in
     let is : x.stream ≡ s = same ∙ at.0 in
@@ -92,7 +102,8 @@ takes_at s content end_stream cs x d before after h same takes =
       others = λ t other. set_others s t cs x h is other;
       no_call = λ none. let no : Some (get_or cs (call_place s cs) d).messages ≡ None = sym at.1 ∙ none in absurd cc;
       call = λ u k.
-          let m : (get_or cs (call_place s cs) d).messages ≡ (messages_of u).end = let e : Some (get_or cs (call_place s cs) d).messages ≡ Some (messages_of u).end = sym at.1 ∙ k in cc in
+          let m : (get_or cs (call_place s cs) d).messages ≡ (messages_of u).end =
+          let e : Some (get_or cs (call_place s cs) d).messages ≡ Some (messages_of u).end = sym at.1 ∙ k in cc in
           let t = takes u m in (
             set_at s cs x h is ∙ ap (λ (r : Result (List ℕ) MessagesError). Some r) t.messages,
             t.events ∙ ap (λ (n : ℕ). before ++ events_of_content n u content end_stream) at.0,
@@ -125,7 +136,8 @@ kept_on q t (c ∷ cs) h = elim (cases_Bool (c.stream == t)) [
 pub none_kept : (q : ℕ → Bool) (t : ℕ) (cs : List Call) → call_on t cs ≡ None → call_on t (filter (λ c. q c.stream) cs) ≡ None
 none_kept q t [] h = refl
 none_kept q t (c ∷ cs) h = elim (cases_Bool (c.stream == t)) [
-  | inl here ↦ let k : cond (c.stream == t) (Some c.messages) (call_on t cs) ≡ None = h in let no : Some c.messages ≡ None = rw here at k in absurd cc
+  | inl here ↦ let k : cond (c.stream == t) (Some c.messages) (call_on t cs) ≡ None = h in let no : Some c.messages ≡ None = rw here at k in
+      absurd cc
   | inr other ↦
       let k : cond (c.stream == t) (Some c.messages) (call_on t cs) ≡ None = h in
       let h' : call_on t cs ≡ None = rw other at k in
@@ -144,12 +156,14 @@ kept_streams q (c ∷ cs) = elim (cases_Bool (q c.stream)) [
 
 pub more_on : (t : ℕ) (cs : List Call) (c : Call) → (c.stream == t) ≡ false → call_on t (cs ++ c ∷ []) ≡ call_on t cs
 more_on t [] c other = rw other refl
-more_on t (x ∷ cs) c other = ap (λ (o : Option (Result (List ℕ) MessagesError)). cond (x.stream == t) (Some x.messages) o) (more_on t cs c other)
+more_on t (x ∷ cs) c other = ap (λ (o : Option (Result (List ℕ) MessagesError)). cond (x.stream == t) (Some x.messages) o)
+    (more_on t cs c other)
 
 pub last_on : (s : ℕ) (cs : List Call) (c : Call) → call_on s cs ≡ None → c.stream ≡ s → call_on s (cs ++ c ∷ []) ≡ Some c.messages
 last_on s [] c none is = let k : (c.stream == s) ≡ true = grind (arith, nat_tests) in rw k refl
 last_on s (x ∷ cs) c none is = elim (cases_Bool (x.stream == s)) [
-  | inl here ↦ let k : cond (x.stream == s) (Some x.messages) (call_on s cs) ≡ None = none in let no : Some x.messages ≡ None = rw here at k in absurd cc
+  | inl here ↦ let k : cond (x.stream == s) (Some x.messages) (call_on s cs) ≡ None = none in let no : Some x.messages ≡ None =
+      rw here at k in absurd cc
   | inr other ↦
       let k : cond (x.stream == s) (Some x.messages) (call_on s cs) ≡ None = none in
       let h : call_on s cs ≡ None = rw other at k in
@@ -160,7 +174,8 @@ last_on s (x ∷ cs) c none is = elim (cases_Bool (x.stream == s)) [
 pub not_among : (s : ℕ) (cs : List Call) → call_on s cs ≡ None → list_any (λ t. t == s) (map call_stream cs) ≡ false
 not_among s [] h = refl
 not_among s (c ∷ cs) h = elim (cases_Bool (c.stream == s)) [
-  | inl here ↦ let k : cond (c.stream == s) (Some c.messages) (call_on s cs) ≡ None = h in let no : Some c.messages ≡ None = rw here at k in absurd cc
+  | inl here ↦ let k : cond (c.stream == s) (Some c.messages) (call_on s cs) ≡ None = h in let no : Some c.messages ≡ None = rw here at k in
+      absurd cc
   | inr other ↦
       let k : cond (c.stream == s) (Some c.messages) (call_on s cs) ≡ None = h in
       let h' : call_on s cs ≡ None = rw other at k in
@@ -169,22 +184,29 @@ not_among s (c ∷ cs) h = elim (cases_Bool (c.stream == s)) [
 
 -- ---- the same by what the code holds
 
-pub takes_none_by : (s i n : ℕ) (content : List ℕ) (end_stream : Bool) (cs : List Call) (es : List CallEvent) → i ≡ call_place s cs → n ≤ i → n ≡ length cs → TakesOn s content end_stream cs cs es es
-takes_none_by s i n content end_stream cs es at past size = takes_none s content end_stream cs es (no_place s cs (omega (arith, at, past, size)))
+pub takes_none_by : (s i n : ℕ) (content : List ℕ) (end_stream : Bool) (cs : List Call) (es : List CallEvent) → i ≡ call_place s cs →
+    n ≤ i → n ≡ length cs → TakesOn s content end_stream cs cs es es
+takes_none_by s i n content end_stream cs es at past size =
+    takes_none s content end_stream cs es (no_place s cs (omega (arith, at, past, size)))
 
 abbrev pub TakesEvents : Call → Call → List ℕ → Bool → List CallEvent → List CallEvent → Type 0
-TakesEvents old new content end_stream before after = (t : List ℕ) → old.messages ≡ (messages_of t).end → after ≡ before ++ events_of_content old.stream t content end_stream
+TakesEvents old new content end_stream before after = (t : List ℕ) → old.messages ≡ (messages_of t).end →
+    after ≡ before ++ events_of_content old.stream t content end_stream
 
 abbrev pub TakesMessages : Call → Call → List ℕ → Type 0
 TakesMessages old new content = (t : List ℕ) → old.messages ≡ (messages_of t).end → new.messages ≡ (messages_of (t ++ content)).end
 
-pub takes_at_by : {T E : Type 0} (r : Result T E) (s i n : ℕ) (content : List ℕ) (end_stream : Bool) (cs : List Call) (old new d : Call) (before after : List CallEvent) → i ≡ call_place s cs → i < n → n ≡ length cs → old ≡ get_or cs i d → new.stream ≡ old.stream → OnOk r (TakesMessages old new content) → OnOk r (TakesEvents old new content end_stream before after) → OnOk r (TakesOn s content end_stream cs (set cs i new) before after)
+pub takes_at_by : {T E : Type 0} (r : Result T E) (s i n : ℕ) (content : List ℕ) (end_stream : Bool) (cs : List Call) (old new d : Call)
+    (before after : List CallEvent) → i ≡ call_place s cs → i < n → n ≡ length cs → old ≡ get_or cs i d → new.stream ≡ old.stream →
+    OnOk r (TakesMessages old new content) → OnOk r (TakesEvents old new content end_stream before after) →
+    OnOk r (TakesOn s content end_stream cs (set cs i new) before after)
 takes_at_by (Err x) s i n content end_stream cs old new d before after at less size is same messages events = tt
 takes_at_by (Ok x) s i n content end_stream cs old new d before after at less size is same messages events =
     let is' : old ≡ get_or cs (call_place s cs) d = is ∙ ap (λ (k : ℕ). get_or cs k d) at in
     subst (λ (k : ℕ). TakesOn s content end_stream cs (set cs k new) before after) (sym at)
     (takes_at s content end_stream cs new d before after (omega (arith, at, less, size)) (same ∙ ap (λ (c : Call). c.stream) is')
-    (subst (λ (c : Call). (t : List ℕ) → c.messages ≡ (messages_of t).end → Took c.stream content end_stream new.messages before after t) is' (λ t h. record { messages = messages t h; events = events t h })))
+    (subst (λ (c : Call). (t : List ℕ) → c.messages ≡ (messages_of t).end → Took c.stream content end_stream new.messages before after t)
+    is' (λ t h. record { messages = messages t h; events = events t h })))
 
 -- all calls stay, or those on live streams
 abbrev pub KeepsOpen : List Stream → List Call → List Call → Type 0
@@ -196,14 +218,18 @@ kept_open n live old new is = elim (cases_Bool (nat_lt (length live) n)) [
   | inr all ↦ inl (is ∙ rw all refl)
 ]
 
-pub begins_by : (s : ℕ) (method : Method) (end_stream : Bool) (n : ℕ) (live : List Stream) (old kept new : List Call) (fresh call : Call) (before mid after : List CallEvent) → n ≡ length old → kept ≡ calls_kept n live old → fresh.stream ≡ s → fresh.messages ≡ (messages_of []).end → call.stream ≡ fresh.stream → TakesMessages fresh call [] → mid ≡ before ++ Head s method ∷ [] → TakesEvents fresh call [] end_stream mid after → new ≡ kept ++ call ∷ [] → BeginsCall s method end_stream live old new before after
-begins_by s method end_stream n live old kept new fresh call before mid after count keeps at nothing same messages head events calls = record {
-  call = call;
-  stream = same ∙ at;
-  messages = messages [] nothing;
-  calls = calls ∙ ap (λ (cs : List Call). cs ++ call ∷ []) (keeps ∙ ap (λ (k : ℕ). calls_kept k live old) count);
-  events = events [] nothing
-      ∙ ap (λ (n : ℕ). mid ++ events_of_content n [] [] end_stream) at
-      ∙ ap (λ (es : List CallEvent). es ++ events_of_content s [] [] end_stream) head
-      ∙ append_assoc before (Head s method ∷ []) (events_of_content s [] [] end_stream);
-}
+pub begins_by : (s : ℕ) (method : Method) (end_stream : Bool) (n : ℕ) (live : List Stream) (old kept new : List Call) (fresh call : Call)
+    (before mid after : List CallEvent) → n ≡ length old → kept ≡ calls_kept n live old → fresh.stream ≡ s →
+    fresh.messages ≡ (messages_of []).end → call.stream ≡ fresh.stream → TakesMessages fresh call [] → mid ≡ before ++ Head s method ∷ [] →
+    TakesEvents fresh call [] end_stream mid after → new ≡ kept ++ call ∷ [] → BeginsCall s method end_stream live old new before after
+begins_by s method end_stream n live old kept new fresh call before mid after count keeps at nothing same messages head events calls =
+    record {
+      call = call;
+      stream = same ∙ at;
+      messages = messages [] nothing;
+      calls = calls ∙ ap (λ (cs : List Call). cs ++ call ∷ []) (keeps ∙ ap (λ (k : ℕ). calls_kept k live old) count);
+      events = events [] nothing
+          ∙ ap (λ (n : ℕ). mid ++ events_of_content n [] [] end_stream) at
+          ∙ ap (λ (es : List CallEvent). es ++ events_of_content s [] [] end_stream) head
+          ∙ append_assoc before (Head s method ∷ []) (events_of_content s [] [] end_stream);
+    }

@@ -15,13 +15,17 @@ not_live false b h k = absurd cc
 
 not_in_others : (s : ℕ) (os : List ℕ) → list_any (λ t. t == s) (other_streams s os) ≡ false
 not_in_others s os = elim (cases_Bool (list_any (λ t. t == s) (other_streams s os))) [
-  | inl h ↦ let k : not (s == s) ≡ true = in_others s s os h in let no : false ≡ true = sym (ap not (same_number s)) ∙ k in absurd (let z : ⊥ = cc in z)
+  | inl h ↦ let k : not (s == s) ≡ true = in_others s s os h in let no : false ≡ true = sym (ap not (same_number s)) ∙ k in
+      absurd (let z : ⊥ = cc in z)
   | inr h ↦ h
 ]
 
-pub reset_stream : (d es : List Entry) (s : ℕ) → list_any (λ t. t == s) (live_streams d) ≡ true → live_streams (d ++ es) ≡ other_streams s (live_streams d) → is_not_closed (d ++ es) s ≡ false
+pub reset_stream : (d es : List Entry) (s : ℕ) → list_any (λ t. t == s) (live_streams d) ≡ true →
+    live_streams (d ++ es) ≡ other_streams s (live_streams d) → is_not_closed (d ++ es) s ≡ false
 reset_stream d es s h lives =
-    let was : list_any (λ t. t == s) (opened_streams d) ≡ true = (and_parts (list_any (λ t. t == s) (opened_streams d)) (is_not_closed d s) (sym (in_live d s) ∙ h)).0 in
+    let was : list_any (λ t. t == s) (opened_streams d) ≡ true =
+    (and_parts (list_any (λ t. t == s) (opened_streams d)) (is_not_closed d s) (sym (in_live d s) ∙ h)).0 in
     let is : list_any (λ t. t == s) (opened_streams (d ++ es)) ≡ true = opened_still d es s was in
-    let gone : list_any (λ t. t == s) (live_streams (d ++ es)) ≡ false = ap (list_any (λ t. t == s)) lives ∙ not_in_others s (live_streams d) in
+    let gone : list_any (λ t. t == s) (live_streams (d ++ es)) ≡ false =
+    ap (list_any (λ t. t == s)) lives ∙ not_in_others s (live_streams d) in
     not_live (list_any (λ t. t == s) (opened_streams (d ++ es))) (is_not_closed (d ++ es) s) is (sym (in_live (d ++ es) s) ∙ gone)

@@ -32,17 +32,21 @@ use Rattle.conn_core.proofs.Numbers.{any_kept}
 pub is_control : (f : Frame) → IsControlAnswer f → IsControl f
 is_control = answer_elim IsControl (λ ack settings h. tt) (λ ack o h. tt) (λ s n. tt) (λ s code. tt)
 
-pub parts_are : (fs gs : List Frame) → AllByRecursion IsControlAnswer (fs ++ gs) → AllByRecursion IsControlAnswer fs × AllByRecursion IsControlAnswer gs
+pub parts_are : (fs gs : List Frame) → AllByRecursion IsControlAnswer (fs ++ gs) →
+    AllByRecursion IsControlAnswer fs × AllByRecursion IsControlAnswer gs
 parts_are [] gs h = (tt, h)
 parts_are (f ∷ fs) gs h = let p = parts_are fs gs h.1 in ((h.0, p.0), p.1)
 
-pub answers_are : (d : List Entry) (f : RawFrame) (a : StreamEvent) → answer_after d f ≡ Ok a → AllByRecursion IsControlAnswer (control_frames a)
+pub answers_are : (d : List Entry) (f : RawFrame) (a : StreamEvent) → answer_after d f ≡ Ok a →
+    AllByRecursion IsControlAnswer (control_frames a)
 answers_are d f a h = answers_are_control (standing d) f a h
 
-pub of_given : (r : Result StreamEvent ConnectionFault) (a : StreamEvent) → r ≡ Ok a → IfOk r (λ b. AllByRecursion IsControlAnswer (control_frames b)) → AllByRecursion IsControlAnswer (control_frames a)
+pub of_given : (r : Result StreamEvent ConnectionFault) (a : StreamEvent) → r ≡ Ok a →
+    IfOk r (λ b. AllByRecursion IsControlAnswer (control_frames b)) → AllByRecursion IsControlAnswer (control_frames a)
 of_given r a is h = subst (λ (q : Result StreamEvent ConnectionFault). IfOk q (λ b. AllByRecursion IsControlAnswer (control_frames b))) is h
 
-pub in_live : (d : List Entry) (s : ℕ) → list_any (λ t. t == s) (live_streams d) ≡ (list_any (λ t. t == s) (opened_streams d) && is_not_closed d s)
+pub in_live : (d : List Entry) (s : ℕ) → list_any (λ t. t == s) (live_streams d)
+    ≡ (list_any (λ t. t == s) (opened_streams d) && is_not_closed d s)
 in_live d s = any_kept (is_not_closed d) s (opened_streams d)
 
 -- ---- what was opened
@@ -65,8 +69,14 @@ opened_more d es =
     let old : Blocks = fold blocks_after no_blocks (received_frames d) in
     let b = blocks_stay (fold blocks_after no_blocks (received_frames d)) (received_frames es) in
     let finished : blocks (d ++ es) ≡ blocks d ++ b.0 =
-    ap (λ (rs : List Frame). (fold blocks_after no_blocks rs).finished) (filter_map-append frame_in d es) ∙ ap (λ (x : Blocks). x.finished) (fold-append blocks_after no_blocks (received_frames d) (received_frames es)) ∙ b.1 in
-    (rising_numbers (fold max 0 (map stream_of (blocks d))) (map stream_of b.0), ap (λ (bs : List HeaderBlock). rising_numbers 0 (map stream_of bs)) finished ∙ ap (rising_numbers 0) (map-append stream_of (blocks d) b.0) ∙ rising_numbers-append 0 (map stream_of (blocks d)) (map stream_of b.0))
+    ap (λ (rs : List Frame). (fold blocks_after no_blocks rs).finished) (filter_map-append frame_in d es)
+    ∙ ap (λ (x : Blocks). x.finished) (fold-append blocks_after no_blocks (received_frames d) (received_frames es)) ∙ b.1 in (
+      rising_numbers (fold max 0 (map stream_of (blocks d))) (map stream_of b.0),
+      ap
+          (λ (bs : List HeaderBlock). rising_numbers 0 (map stream_of bs)) finished
+          ∙ ap (rising_numbers 0) (map-append stream_of (blocks d) b.0)
+          ∙ rising_numbers-append 0 (map stream_of (blocks d)) (map stream_of b.0),
+    )
 
 max_from : (n : ℕ) (xs : List ℕ) → n ≤ fold max n xs
 max_from n [] = omega arith
@@ -112,7 +122,8 @@ top_rises m (x ∷ xs) s above is = elim (cases_Bool (nat_lt m x)) [
         | inl same ↦ rw (higher, same) refl
         | inr other ↦
             let low : x ≤ s = omega (arith, is', max_from x xs) in
-            let apart : x ≢ s = λ same. let no : (x == s) ≡ true = grind (arith, nat_tests) in let bad : true ≡ false = sym no ∙ other in cc in
+            let apart : x ≢ s = λ same. let no : (x == s) ≡ true = grind (arith, nat_tests) in let bad : true ≡ false = sym no ∙ other in
+            cc in
             rw (higher, other) (top_rises x xs s (omega (arith, low, apart)) is')
       ]
   | inr lower ↦
@@ -122,7 +133,8 @@ top_rises m (x ∷ xs) s above is = elim (cases_Bool (nat_lt m x)) [
       rw lower (top_rises m xs s above is')
 ]
 
-pub request_opened : (d : List Entry) (f : RawFrame) (a : StreamEvent) (s : ℕ) (fields : List Header) (end_stream : Bool) → answer_after d f ≡ Ok a → a.event ≡ Request s fields end_stream → list_any (λ t. t == s) (opened_streams (d ++ In f ∷ [])) ≡ true
+pub request_opened : (d : List Entry) (f : RawFrame) (a : StreamEvent) (s : ℕ) (fields : List Header) (end_stream : Bool) →
+    answer_after d f ≡ Ok a → a.event ≡ Request s fields end_stream → list_any (λ t. t == s) (opened_streams (d ++ In f ∷ [])) ≡ true
 request_opened d f a s fields end_stream h is =
     let above : highest_stream d < s = subst (λ (e : Event). IsOnItsStream d e) is (event_on_stream d f a h) in
     top_rises 0 (map stream_of (blocks (d ++ In f ∷ []))) s (omega (arith, above)) (request_is_highest d f a s fields end_stream h is)

@@ -37,7 +37,8 @@ without_leading_plus-digits (byte ∷ word) h =
 -- what is parsed is the number that the word writes
 pub parsed : {E : Type 0} (word : List ℕ) (r : Result ℕ E) → list_all is_decimal_digit word ≡ true → ParsesUnsigned 64 10 word r
     → result_ok r ≡ decimal_of word
-parsed {E = E} word r h p = go r (rw (without_leading_plus-digits word h) at p) (not (length word == 0)) refl (nat_lt (decimal_value word) (2 ^ 64)) refl
+parsed {E = E} word r h p = go r (rw (without_leading_plus-digits word h) at p) (not (length word == 0)) refl
+    (nat_lt (decimal_value word) (2 ^ 64)) refl
   where
     go : (r : Result ℕ E) → OkIff r (IsNumeral 10 word × (decimal_value word < 2 ^ 64)) (decimal_value word)
         → (some : Bool) → not (length word == 0) ≡ some → (fits : Bool) → nat_lt (decimal_value word) (2 ^ 64) ≡ fits

@@ -37,11 +37,15 @@ none_both : (b : Bool) (o : Option (List ℕ)) → o ≡ None → (if b then o e
 none_both true o is = refl
 none_both false o is = sym is
 
-found_along : (look : Lookup) (d : Digest) (ds : List Digest) → is_empty_digest d ≡ false → lookup (same_digest d) (kept_along look ds) ≡ (if among d ds then look d else None)
+found_along : (look : Lookup) (d : Digest) (ds : List Digest) → is_empty_digest d ≡ false →
+    lookup (same_digest d) (kept_along look ds) ≡ (if among d ds then look d else None)
 found_along look d [] full = refl
 found_along look d (c ∷ cs) full = go (same_digest d c) (is_empty_digest c) (look c) refl refl refl (found_along look d cs full) where
-  go : (s e : Bool) (o : Option (List ℕ)) → same_digest d c ≡ s → is_empty_digest c ≡ e → look c ≡ o → lookup (same_digest d) (kept_along look cs) ≡ (if among d cs then look d else None) → lookup (same_digest d) (kept_along look (c ∷ cs)) ≡ (if among d (c ∷ cs) then look d else None)
-  go true true o same empty is later = absurd (let no : true ≡ false = sym empty ∙ ap is_empty_digest (sym (same_equal d c same)) ∙ full in cc)
+  go : (s e : Bool) (o : Option (List ℕ)) → same_digest d c ≡ s → is_empty_digest c ≡ e → look c ≡ o →
+      lookup (same_digest d) (kept_along look cs) ≡ (if among d cs then look d else None) →
+      lookup (same_digest d) (kept_along look (c ∷ cs)) ≡ (if among d (c ∷ cs) then look d else None)
+  go true true o same empty is later = absurd (let no : true ≡ false = sym empty ∙ ap is_empty_digest (sym (same_equal d c same)) ∙ full in
+      cc)
   go true false None same other is later =
       let none : look d ≡ None = ap look (same_equal d c same) ∙ is in
       rw (same, other, is) (later ∙ none_both (among d cs) (look d) none)
@@ -52,7 +56,8 @@ found_along look d (c ∷ cs) full = go (same_digest d c) (is_empty_digest c) (l
   go false false None apart other is later = rw (apart, other, is) later
   go false false (Some text) apart other is later = rw (apart, other, is, apart) later
 
-kept_found : (seen : List Blob) (ds : List Digest) (d : Digest) → among d ds ≡ true → visible_text d (kept_texts (λ e. visible_text e seen) ds) ≡ visible_text d seen
+kept_found : (seen : List Blob) (ds : List Digest) (d : Digest) → among d ds ≡ true →
+    visible_text d (kept_texts (λ e. visible_text e seen) ds) ≡ visible_text d seen
 kept_found seen ds d there = go (is_empty_digest d) refl where
   go : (b : Bool) → is_empty_digest d ≡ b → visible_text d (kept_texts (λ e. visible_text e seen) ds) ≡ visible_text d seen
   go true empty = rw empty refl
@@ -70,7 +75,9 @@ record IsPrepared (look : Lookup) (d : Digest) (p : PreparedValue) : Type 0 wher
   spelled : command_found (look p.action.command) ≡ Ok (Some p.command)
   walked : walk look p.action.root ≡ Ok p.nodes
 
-parts_with : (look : Lookup) (d : Digest) (a : ActionTaken) (command : Option (List ℕ)) (r : Nodes) (p : PreparedValue) → action_found d (look d) ≡ Ok a → command_found (look a.command) ≡ Ok command → walk look a.root ≡ r → prepared_with a command r ≡ Ok p → IsPrepared look d p
+parts_with : (look : Lookup) (d : Digest) (a : ActionTaken) (command : Option (List ℕ)) (r : Nodes) (p : PreparedValue) →
+    action_found d (look d) ≡ Ok a → command_found (look a.command) ≡ Ok command → walk look a.root ≡ r → prepared_with a command r ≡ Ok p →
+    IsPrepared look d p
 parts_with look d a command (Err e) p found spelled walked h = absurd (cc)
 parts_with look d a None (Ok nodes) p found spelled walked h = absurd (cc)
 parts_with look d a (Some text) (Ok nodes) p found spelled walked h =
@@ -80,11 +87,13 @@ parts_with look d a (Some text) (Ok nodes) p found spelled walked h =
 
 parts_of : (look : Lookup) (d : Digest) (p : PreparedValue) → prepared look d ≡ Ok p → IsPrepared look d p
 parts_of look d p h = go (action_found d (look d)) refl h where
-  with_action : (a : ActionTaken) (c : Result (Option (List ℕ)) FaultValue) → action_found d (look d) ≡ Ok a → command_found (look a.command) ≡ c → (c >>= λ command. prepared_with a command (walk look a.root)) ≡ Ok p → IsPrepared look d p
+  with_action : (a : ActionTaken) (c : Result (Option (List ℕ)) FaultValue) → action_found d (look d) ≡ Ok a →
+      command_found (look a.command) ≡ c → (c >>= λ command. prepared_with a command (walk look a.root)) ≡ Ok p → IsPrepared look d p
   with_action a (Err e) found spelled h = absurd (cc)
   with_action a (Ok command) found spelled h = parts_with look d a command (walk look a.root) p found spelled refl h
 
-  go : (r : Result ActionTaken FaultValue) → action_found d (look d) ≡ r → (r >>= λ a. command_found (look a.command) >>= λ command. prepared_with a command (walk look a.root)) ≡ Ok p → IsPrepared look d p
+  go : (r : Result ActionTaken FaultValue) → action_found d (look d) ≡ r →
+      (r >>= λ a. command_found (look a.command) >>= λ command. prepared_with a command (walk look a.root)) ≡ Ok p → IsPrepared look d p
   go (Err e) found h = absurd (cc)
   go (Ok a) found h = with_action a (command_found (look a.command)) found refl h
 
@@ -104,7 +113,8 @@ command_is text (Some t) h = go (is_some (command_in t)) h where
   go true h = let same : t ≡ text = cc in ap (λ (x : List ℕ). Some x) same
   go false h = absurd (cc)
 
-pub task_again : (seen : List Blob) (d : Digest) (p : PreparedValue) → prepared (λ e. visible_text e seen) d ≡ Ok p → (job_of (λ e. visible_text e seen) d p).task ≡ task_read d (kept_texts (λ e. visible_text e seen) (met d p))
+pub task_again : (seen : List Blob) (d : Digest) (p : PreparedValue) → prepared (λ e. visible_text e seen) d ≡ Ok p →
+    (job_of (λ e. visible_text e seen) d p).task ≡ task_read d (kept_texts (λ e. visible_text e seen) (met d p))
 unfolding command_read nodes_read
 task_again seen d p h =
     let look : Lookup = λ e. visible_text e seen in
@@ -113,10 +123,16 @@ task_again seen d p h =
     let inner : List Digest = digests_met p.action.root p.nodes in
     let same : AreAlike look (look_kept texts) (met d p) = λ e there. kept_found seen (met d p) e (in_among (met d p) e there) in
     let found : look_kept texts d ≡ look d = same d (first_in d (p.action.command ∷ inner)) in
-    let action : action_among texts d ≡ Some p.action = ap (λ (o : Option (List ℕ)). and_then o action_in) found ∙ action_is d p.action (look d) parts.found in
-    let command : look_kept texts p.action.command ≡ Some p.command = same p.action.command (later_in d (p.action.command ∷ inner) p.action.command (first_in p.action.command inner)) ∙ command_is p.command (look p.action.command) parts.spelled in
-    let tree : walk (look_kept texts) p.action.root ≡ Ok p.nodes = plan_again look (look_kept texts) p.action.root p.nodes parts.walked (λ e there. same e (later_in d (p.action.command ∷ inner) e (later_in p.action.command inner e there))) in
+    let action : action_among texts d ≡ Some p.action =
+    ap (λ (o : Option (List ℕ)). and_then o action_in) found ∙ action_is d p.action (look d) parts.found in
+    let command : look_kept texts p.action.command ≡ Some p.command =
+    same p.action.command (later_in d (p.action.command ∷ inner) p.action.command (first_in p.action.command inner))
+    ∙ command_is p.command (look p.action.command) parts.spelled in
+    let tree : walk (look_kept texts) p.action.root ≡ Ok p.nodes =
+    plan_again look (look_kept texts) p.action.root p.nodes parts.walked
+    (λ e there. same e (later_in d (p.action.command ∷ inner) e (later_in p.action.command inner e there))) in
     let task_with : List ℕ → List PlanNodeValue → TaskValue = λ text nodes. record { command = text; nodes = nodes; texts = texts } in
-    let first : command_among texts (action_among texts d) ≡ p.command = ap (command_among texts) action ∙ ap (λ (o : Option (List ℕ)). unwrap_or o []) command in
+    let first : command_among texts (action_among texts d) ≡ p.command =
+    ap (command_among texts) action ∙ ap (λ (o : Option (List ℕ)). unwrap_or o []) command in
     let second : nodes_among texts (action_among texts d) ≡ p.nodes = ap (nodes_among texts) action ∙ ap nodes_or_none tree in
     sym (ap (λ (text : List ℕ). task_with text (nodes_among texts (action_among texts d))) first ∙ ap (task_with p.command) second)

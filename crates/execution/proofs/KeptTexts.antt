@@ -41,7 +41,8 @@ not_empty v d other always = go (lookup (same_digest d) v.entries) refl where
   found p = let is : Some [] ≡ visible_text d (visible_in p v) = always p in (rw other at is) ∙ lookup-shown p (same_digest d) v.entries
 
   go : (o : Option ℕ) → lookup (same_digest d) v.entries ≡ o → ⊥
-  go None none = let is : Some [] ≡ option_map (text_at []) None = found [] ∙ ap (option_map (text_at [])) none in let o : Option (List ℕ) = Some [] in let no : o ≡ None = is in cc
+  go None none = let is : Some [] ≡ option_map (text_at []) None = found [] ∙ ap (option_map (text_at [])) none in let o : Option (List ℕ) =
+      Some [] in let no : o ≡ None = is in cc
   go (Some k) there =
       let p : Slots = slot_with k in
       let is : Some [] ≡ Some (text_at p k) = found p ∙ ap (option_map (text_at p)) there in
@@ -50,10 +51,13 @@ not_empty v d other always = go (lookup (same_digest d) v.entries) refl where
       let no : o ≡ Some (0 ∷ []) = is ∙ ap (λ (t : List ℕ). Some t) byte in
       cc
 
-pub pushed_moves : (p q : Slots) (es : List ViewEntry) (d : Digest) (k : ℕ) → Moves p q no_holders (one_at k) → Moves p q (entry_holders es) (entry_holders (es ++ (d, k) ∷ []))
-pushed_moves p q es d k m = moves_more p q no_holders (one_at k) (entry_holders es) (entry_holders es) (entry_holders (es ++ (d, k) ∷ [])) (λ j. omega arith) (λ j. omega (arith, holders-push es (d, k) j)) m
+pub pushed_moves : (p q : Slots) (es : List ViewEntry) (d : Digest) (k : ℕ) → Moves p q no_holders (one_at k) →
+    Moves p q (entry_holders es) (entry_holders (es ++ (d, k) ∷ []))
+pushed_moves p q es d k m = moves_more p q no_holders (one_at k) (entry_holders es) (entry_holders es) (entry_holders (es ++ (d, k) ∷ []))
+    (λ j. omega arith) (λ j. omega (arith, holders-push es (d, k) j)) m
 
-pub seen_kept : (s : SightValue) (d : Digest) (seen : Seen) → is_empty_digest d ≡ false → ((p : Slots) → Some (text_seen p seen) ≡ visible_text d (seen_in p s)) → (p : Slots) → seen_blobs p d seen ≡ kept_text (texts_of p s) d
+pub seen_kept : (s : SightValue) (d : Digest) (seen : Seen) → is_empty_digest d ≡ false →
+    ((p : Slots) → Some (text_seen p seen) ≡ visible_text d (seen_in p s)) → (p : Slots) → seen_blobs p d seen ≡ kept_text (texts_of p s) d
 seen_kept s d Empty other always p = absurd (not_empty (both s) d other (λ p. always p ∙ ap (visible_text d) (sym (both_shown p s))))
 seen_kept s d (Text k) other always p =
     let kept : kept_text (texts_of p s) d ≡ found_text d (texts_of p s d) = rw other refl in

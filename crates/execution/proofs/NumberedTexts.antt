@@ -19,12 +19,14 @@ pub number_stays : (table : List (Digest × ℕ)) (key d : Digest) (number : ℕ
     → lookup (same_digest d) table ≡ option_or (lookup (same_digest d) table) (if same_digest d key then Some number else None)
 number_stays table key d number there = by (lookup (same_digest d) table) (same_digest d key) refl refl
   where
-    by : (o : Option ℕ) (b : Bool) → lookup (same_digest d) table ≡ o → same_digest d key ≡ b → o ≡ option_or o (if b then Some number else None)
+    by : (o : Option ℕ) (b : Bool) → lookup (same_digest d) table ≡ o → same_digest d key ≡ b →
+        o ≡ option_or o (if b then Some number else None)
     by (Some n) b found is = refl
     by None false found is = refl
     by None true found is =
         let equal = same_equal d key is in
-        let none : is_some (lookup (same_digest key) table) ≡ false = ap (λ (e : Digest). is_some (lookup (same_digest e) table)) (sym equal) ∙ ap is_some found in
+        let none : is_some (lookup (same_digest key) table) ≡ false =
+        ap (λ (e : Digest). is_some (lookup (same_digest e) table)) (sym equal) ∙ ap is_some found in
         absurd (let no : true ≡ false = sym there ∙ none in cc)
 
 pub number_put : (table new : List (Digest × ℕ)) (key d : Digest) (number : ℕ) → is_some (lookup (same_digest key) table) ≡ false
@@ -39,7 +41,8 @@ number_put table new key d number there put = put ∙ by (lookup (same_digest d)
     by None true found is symm = rw (symm, is) refl
     by (Some n) true found is symm =
         let equal = same_equal d key is in
-        let some : is_some (lookup (same_digest key) table) ≡ true = ap (λ (e : Digest). is_some (lookup (same_digest e) table)) (sym equal) ∙ ap is_some found in
+        let some : is_some (lookup (same_digest key) table) ≡ true =
+        ap (λ (e : Digest). is_some (lookup (same_digest e) table)) (sym equal) ∙ ap is_some found in
         absurd (let no : true ≡ false = sym some ∙ there in cc)
 
 -- the first of some digests is given a number
@@ -49,20 +52,24 @@ pub number_next : (old new : Option ℕ) (n : ℕ) (x : Digest) (ds : List Diges
 number_next old new n x ds d given = ap (λ (o : Option ℕ). unwrap_or o (n + 1 + digest_number ds d)) given ∙ by old (same_digest d x) refl
   where
     by : (o : Option ℕ) (b : Bool) → same_digest d x ≡ b
-        → unwrap_or (option_or o (if same_digest d x then Some n else None)) (n + 1 + digest_number ds d) ≡ unwrap_or o (n + digest_number (x ∷ ds) d)
+        → unwrap_or (option_or o (if same_digest d x then Some n else None)) (n + 1 + digest_number ds d)
+        ≡ unwrap_or o (n + digest_number (x ∷ ds) d)
     by (Some k) b is = refl
     by None true is = rw is (omega arith)
     by None false is = rw is (omega arith)
 
 -- the first of some texts is given one
-pub numbers_more : (left : List KeptText) (first : KeptText) (old new : Option ℕ) (n : ℕ) (d : Digest) → 0 < length left → first ≡ get_or left 0 first
+pub numbers_more : (left : List KeptText) (first : KeptText) (old new : Option ℕ) (n : ℕ) (d : Digest) → 0 < length left →
+    first ≡ get_or left 0 first
     → new ≡ option_or old (if same_digest d first.digest then Some n else None)
-    → unwrap_or new (n + 1 + digest_number (kept_digests (take (length left - 1) (drop 1 left))) d) ≡ unwrap_or old (n + digest_number (kept_digests left) d)
+    → unwrap_or new (n + 1 + digest_number (kept_digests (take (length left - 1) (drop 1 left))) d)
+    ≡ unwrap_or old (n + digest_number (kept_digests left) d)
 numbers_more [] first old new n d some is given = absurd (omega arith)
 numbers_more (x ∷ xs) first old new n d some is given =
     let all : take (length (x ∷ xs) - 1) xs ≡ xs = take_all (length (x ∷ xs) - 1) xs (omega arith) in
     ap (λ (ts : List KeptText). unwrap_or new (n + 1 + digest_number (kept_digests ts) d)) all
-    ∙ number_next old new n x.digest (kept_digests xs) d (given ∙ ap (λ (t : KeptText). option_or old (if same_digest d t.digest then Some n else None)) is)
+    ∙ number_next old new n x.digest (kept_digests xs) d
+    (given ∙ ap (λ (t : KeptText). option_or old (if same_digest d t.digest then Some n else None)) is)
 
 pub numbers_end : (left : List KeptText) (n : ℕ) (d : Digest) → length left < 1 → n + digest_number (kept_digests left) d ≡ n + length left
 numbers_end [] n d none = refl
@@ -74,11 +81,17 @@ behind : (t : KeptText) (ts : List KeptText) (n : ℕ) → slice_get (t ∷ ts) 
 behind t ts n = let next : 1 + n ≡ suc n = omega arith in rw next refl
 
 -- a digest's number finds its text
-pub number_finds : (p : Slots) (ts : List KeptText) (d : Digest) → option_map (λ (t : KeptText). text_at p t.text) (slice_get ts (digest_number (kept_digests ts) d)) ≡ lookup (same_digest d) (blobs_in p (kept_entries ts))
+pub number_finds : (p : Slots) (ts : List KeptText) (d : Digest) →
+    option_map (λ (t : KeptText). text_at p t.text) (slice_get ts (digest_number (kept_digests ts) d))
+    ≡ lookup (same_digest d) (blobs_in p (kept_entries ts))
 number_finds p [] d = refl
 number_finds p (t ∷ ts) d = by (same_digest d t.digest) refl (number_finds p ts d)
   where
-    by : (s : Bool) → same_digest d t.digest ≡ s → option_map (λ (t : KeptText). text_at p t.text) (slice_get ts (digest_number (kept_digests ts) d)) ≡ lookup (same_digest d) (blobs_in p (kept_entries ts))
-        → option_map (λ (t : KeptText). text_at p t.text) (slice_get (t ∷ ts) (digest_number (kept_digests (t ∷ ts)) d)) ≡ lookup (same_digest d) (blobs_in p (kept_entries (t ∷ ts)))
+    by : (s : Bool) → same_digest d t.digest ≡ s →
+        option_map (λ (t : KeptText). text_at p t.text) (slice_get ts (digest_number (kept_digests ts) d))
+        ≡ lookup (same_digest d) (blobs_in p (kept_entries ts))
+        → option_map (λ (t : KeptText). text_at p t.text) (slice_get (t ∷ ts) (digest_number (kept_digests (t ∷ ts)) d))
+        ≡ lookup (same_digest d) (blobs_in p (kept_entries (t ∷ ts)))
     by true is later = rw is refl
-    by false is later = rw is (ap (option_map (λ (t : KeptText). text_at p t.text)) (behind t ts (digest_number (kept_digests ts) d)) ∙ later)
+    by false is later = rw is (ap (option_map (λ (t : KeptText). text_at p t.text)) (behind t ts (digest_number (kept_digests ts) d))
+        ∙ later)

@@ -30,7 +30,11 @@ job-numbered : (s : ExecutionState) (d : Digest) (p : PreparedValue) → Numbere
 job-numbered s d p = go (nat_le MOST_WAITING (length s.jobs.waiting)) refl where
   go : (b : Bool) → nat_le MOST_WAITING (length s.jobs.waiting) ≡ b → Numbered s (by_job s d p)
   go true full = rw full (λ a is. absurd (ok-err _ _ (sym is)), λ r is. refl)
-  go false few = rw few (λ a is. ap (λ (x : ExecutionState). x.jobs.next) (uses_first (met d p) (Pushes (job_of (look_in s) d p) ∷ []) s), λ r is. absurd (ok-err _ _ is))
+  go false few = rw few (
+    λ a is. ap (λ (x : ExecutionState). x.jobs.next)
+        (uses_first (met d p) (Pushes (job_of (look_in s) d p) ∷ []) s),
+    λ r is. absurd (ok-err _ _ is),
+  )
 
 preparing-numbered : (s : ExecutionState) (d : Digest) (p : Result PreparedValue FaultValue) → Numbered s (by_preparing s d p)
 preparing-numbered s d (Err f) = (λ a is. refl, λ r is. absurd (ok-err _ _ is))
@@ -38,8 +42,12 @@ preparing-numbered s d (Ok p) = job-numbered s d p
 
 looking-numbered : (s : ExecutionState) (d : Digest) (o : Option (List ℕ)) → Numbered s (by_looking s d o)
 looking-numbered s d (Some text) =
-    let new : List Blob = results_after (look_in s) d s.results in
-    (λ a is. ap (λ (x : ExecutionState). x.jobs.next) (uses_first (blobs_used (look_in s) d s.results) (Does (completed_text s.jobs.next d (finds text)) ∷ []) (record s { results = new })), λ r is. absurd (ok-err _ _ is))
+    let new : List Blob = results_after (look_in s) d s.results in (
+      λ a is. ap (λ (x : ExecutionState). x.jobs.next)
+          (uses_first (blobs_used (look_in s) d s.results) (Does (completed_text s.jobs.next d (finds text)) ∷ [])
+          (record s { results = new })),
+      λ r is. absurd (ok-err _ _ is),
+    )
 looking-numbered s d None = preparing-numbered s d (prepared (look_in s) d)
 
 pub execute-numbered : (slots : ℕ) (s : ExecutionState) (skip : Bool) (d : Digest) → Numbered s (execute slots s skip d)
@@ -57,7 +65,8 @@ execute-numbered slots s skip d = off (nat_eq slots 0) refl where
 abbrev key : Blob → Digest
 key b = b.0
 
-kept-none : (look : Lookup) (d c : Digest) (bs : List Blob) → same_digest d c ≡ false → among d (map key bs) ≡ false → among d (map key (kept_text look c ++ bs)) ≡ false
+kept-none : (look : Lookup) (d c : Digest) (bs : List Blob) → same_digest d c ≡ false → among d (map key bs) ≡ false →
+    among d (map key (kept_text look c ++ bs)) ≡ false
 kept-none look d c bs other rest = go (is_empty_digest c) (look c) refl refl where
   go : (b : Bool) (o : Option (List ℕ)) → is_empty_digest c ≡ b → look c ≡ o → among d (map key (kept_text look c ++ bs)) ≡ false
   go true o empty is = rw empty rest
@@ -73,7 +82,8 @@ kept-apart look d (c ∷ cs) none =
 kept-once : (look : Lookup) (ds : List Digest) → IsEachOnce ds → IsEachOnce (map key (kept_along look ds))
 kept-once look [] h = tt
 kept-once look (c ∷ cs) h = go (is_empty_digest c) (look c) refl refl (kept-once look cs h.1) where
-  go : (b : Bool) (o : Option (List ℕ)) → is_empty_digest c ≡ b → look c ≡ o → IsEachOnce (map key (kept_along look cs)) → IsEachOnce (map key (kept_along look (c ∷ cs)))
+  go : (b : Bool) (o : Option (List ℕ)) → is_empty_digest c ≡ b → look c ≡ o → IsEachOnce (map key (kept_along look cs)) →
+      IsEachOnce (map key (kept_along look (c ∷ cs)))
   go true o empty is later = rw empty later
   go false None full is later = rw (full, is) later
   go false (Some text) full is later = rw (full, is) (kept-apart look c cs h.0, later)

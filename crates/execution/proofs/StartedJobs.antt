@@ -58,12 +58,15 @@ HasStarted after (times_out n operation) = Unit {0}
 HasStarted after (ends n operation) = Unit {0}
 HasStarted after (starts n deadline operation) = RunsAmong n after.running
 
-starts-leave : (most moment : ℕ) (ws : List (ℕ × JobValue)) (jobs : Jobs JobValue) (n : ℕ) → RunsAmong n jobs.running → RunsAmong n (jobs_after_steps (starts_of most moment ws) (waiting_with jobs ws)).running
+starts-leave : (most moment : ℕ) (ws : List (ℕ × JobValue)) (jobs : Jobs JobValue) (n : ℕ) → RunsAmong n jobs.running →
+    RunsAmong n (jobs_after_steps (starts_of most moment ws) (waiting_with jobs ws)).running
 starts-leave zero moment ws jobs n h = h
 starts-leave (suc most) moment [] jobs n h = h
-starts-leave (suc most) moment (w ∷ ws) jobs n h = starts-leave most moment ws (with_running jobs (entry_of moment w)) n (still-runs n jobs.running (entry_of moment w ∷ []) h)
+starts-leave (suc most) moment (w ∷ ws) jobs n h =
+    starts-leave most moment ws (with_running jobs (entry_of moment w)) n (still-runs n jobs.running (entry_of moment w ∷ []) h)
 
-starts-run : (most moment : ℕ) (ws : List (ℕ × JobValue)) (jobs : Jobs JobValue) → AllByRecursion (HasStarted (jobs_after_steps (starts_of most moment ws) (waiting_with jobs ws))) (starts_of most moment ws)
+starts-run : (most moment : ℕ) (ws : List (ℕ × JobValue)) (jobs : Jobs JobValue) →
+    AllByRecursion (HasStarted (jobs_after_steps (starts_of most moment ws) (waiting_with jobs ws))) (starts_of most moment ws)
 starts-run zero moment ws jobs = tt
 starts-run (suc most) moment [] jobs = tt
 starts-run (suc most) moment (w ∷ ws) jobs =
@@ -83,22 +86,27 @@ ends-run after (times_out n operation) h = tt
 ends-run after (ends n operation) h = tt
 ends-run after (starts n deadline operation) h = absurd h
 
-then-run : (after : Jobs JobValue) (first more : List StepValue) → AllByRecursion IsEnd first → AllByRecursion (HasStarted after) more → AllByRecursion (HasStarted after) (first ++ more)
+then-run : (after : Jobs JobValue) (first more : List StepValue) → AllByRecursion IsEnd first → AllByRecursion (HasStarted after) more →
+    AllByRecursion (HasStarted after) (first ++ more)
 then-run after [] more h g = g
 then-run after (s ∷ first) more h g = (ends-run after s h.0, then-run after first more h.1 g)
 
-turn-runs : (slots moment : ℕ) (first : List StepValue) (jobs : Jobs JobValue) → AllByRecursion IsEnd first → AllByRecursion (HasStarted (jobs_after_steps (then_starts slots moment first jobs) jobs)) (then_starts slots moment first jobs)
+turn-runs : (slots moment : ℕ) (first : List StepValue) (jobs : Jobs JobValue) → AllByRecursion IsEnd first →
+    AllByRecursion (HasStarted (jobs_after_steps (then_starts slots moment first jobs) jobs)) (then_starts slots moment first jobs)
 turn-runs slots moment first jobs h =
     let mid : Jobs JobValue = jobs_after_steps first jobs in
     let all : List StepValue = then_starts slots moment first jobs in
-    let started : AllByRecursion (HasStarted (jobs_after_steps (starts_at slots moment mid) mid)) (starts_at slots moment mid) = starts-run (slots - length mid.running) moment mid.waiting mid in
+    let started : AllByRecursion (HasStarted (jobs_after_steps (starts_at slots moment mid) mid)) (starts_at slots moment mid) =
+    starts-run (slots - length mid.running) moment mid.waiting mid in
     then-run (jobs_after_steps all jobs) first (starts_at slots moment mid) h
-    (subst (λ (js : Jobs JobValue). AllByRecursion (HasStarted js) (starts_at slots moment mid)) (sym (steps-append first (starts_at slots moment mid) jobs)) started)
+    (subst (λ (js : Jobs JobValue). AllByRecursion (HasStarted js) (starts_at slots moment mid))
+    (sym (steps-append first (starts_at slots moment mid) jobs)) started)
 
 pub timings-are : (moment : ℕ) (rs : List Entry) → AllByRecursion IsEnd (timings_out moment rs)
 timings-are moment [] = tt
 timings-are moment (r ∷ rs) = go (nat_le r.1.deadline moment) refl (timings-are moment rs) where
-  go : (b : Bool) → nat_le r.1.deadline moment ≡ b → AllByRecursion IsEnd (timings_out moment rs) → AllByRecursion IsEnd (timings_out moment (r ∷ rs))
+  go : (b : Bool) → nat_le r.1.deadline moment ≡ b → AllByRecursion IsEnd (timings_out moment rs) →
+      AllByRecursion IsEnd (timings_out moment (r ∷ rs))
   go true due later = rw due (tt, later)
   go false due later = rw due later
 
@@ -114,23 +122,28 @@ one-meant after n h = go (lookup (same_number n) after.running) refl where
   go None none = absurd (let no : false ≡ true = rw none at h in cc)
   go (Some r) some = (r.job.task, rw some refl)
 
-pub meant : (after : Jobs JobValue) (steps : List StepValue) → AllByRecursion (HasStarted after) steps → map (order_meant after) (orders_by steps) ≡ map Some (filter_map (order_of after) steps)
+pub meant : (after : Jobs JobValue) (steps : List StepValue) → AllByRecursion (HasStarted after) steps →
+    map (order_meant after) (orders_by steps) ≡ map Some (filter_map (order_of after) steps)
 meant after [] h = refl
-meant after (times_out n operation ∷ steps) h = ap (λ (os : List (Option OrderValue)). order_meant after (Kill n) ∷ os) (meant after steps h.1)
+meant after (times_out n operation ∷ steps) h =
+    ap (λ (os : List (Option OrderValue)). order_meant after (Kill n) ∷ os) (meant after steps h.1)
 meant after (ends n operation ∷ steps) h = meant after steps h.1
 meant after (starts n deadline operation ∷ steps) h =
     let t = one-meant after n h.0 in
     let here : order_of after (starts n deadline operation) ≡ Some (start n t.0) = ap (option_map (start n)) t.1 in
     rw here (ap (λ (os : List (Option OrderValue)). Some (start n t.0) ∷ os) (meant after steps h.1))
 
-pub turn-meant : (slots moment : ℕ) (first : List StepValue) (jobs : Jobs JobValue) → AllByRecursion IsEnd first → let steps = then_starts slots moment first jobs in map (order_meant (jobs_after_steps steps jobs)) (orders_by steps) ≡ map Some (orders_of steps jobs)
+pub turn-meant : (slots moment : ℕ) (first : List StepValue) (jobs : Jobs JobValue) → AllByRecursion IsEnd first → let steps =
+    then_starts slots moment first jobs in map (order_meant (jobs_after_steps steps jobs)) (orders_by steps)
+    ≡ map Some (orders_of steps jobs)
 turn-meant slots moment first jobs h =
     let steps : List StepValue = then_starts slots moment first jobs in
     meant (jobs_after_steps steps jobs) steps (turn-runs slots moment first jobs h)
 
 -- ---- no order is lost
 
-ordered : (after : Jobs JobValue) (steps : List StepValue) → AllByRecursion (HasStarted after) steps → AreOrdered after steps (filter_map (order_of after) steps)
+ordered : (after : Jobs JobValue) (steps : List StepValue) → AllByRecursion (HasStarted after) steps →
+    AreOrdered after steps (filter_map (order_of after) steps)
 ordered after [] h = tt
 ordered after (times_out n operation ∷ steps) h = (refl, ordered after steps h.1)
 ordered after (ends n operation ∷ steps) h = ordered after steps h.1
@@ -139,7 +152,8 @@ ordered after (starts n deadline operation ∷ steps) h =
     let here : order_of after (starts n deadline operation) ≡ Some (start n t.0) = ap (option_map (start n)) t.1 in
     rw here ((t.0, t.1, refl), ordered after steps h.1)
 
-pub turn-ordered : (slots moment : ℕ) (first : List StepValue) (jobs : Jobs JobValue) → AllByRecursion IsEnd first → let steps = then_starts slots moment first jobs in AreOrdered (jobs_after_steps steps jobs) steps (orders_of steps jobs)
+pub turn-ordered : (slots moment : ℕ) (first : List StepValue) (jobs : Jobs JobValue) → AllByRecursion IsEnd first → let steps =
+    then_starts slots moment first jobs in AreOrdered (jobs_after_steps steps jobs) steps (orders_of steps jobs)
 turn-ordered slots moment first jobs h =
     let steps : List StepValue = then_starts slots moment first jobs in
     ordered (jobs_after_steps steps jobs) steps (turn-runs slots moment first jobs h)

@@ -27,7 +27,8 @@ use Rattle.execution.proofs.Calling.{jobs_same, running_found, running_job_in}
 
 some-at : {X : Type 0} (xs : List X) (i : ℕ) → i < length xs → None ≡ slice_get xs i → ⊥
 some-at [] i within none = omega arith
-some-at (x ∷ xs) i within none = let there : slice_get (x ∷ xs) i ≡ Some (get_or (x ∷ xs) i x) = slice_get-get_or (x ∷ xs) i x within in let no : None ≡ Some (get_or (x ∷ xs) i x) = none ∙ there in cc
+some-at (x ∷ xs) i within none = let there : slice_get (x ∷ xs) i ≡ Some (get_or (x ∷ xs) i x) = slice_get-get_or (x ∷ xs) i x within in
+    let no : None ≡ Some (get_or (x ∷ xs) i x) = none ∙ there in cc
 
 drop_all : {X : Type 0} (xs : List X) (i : ℕ) → length xs ≤ i → drop i xs ≡ []
 drop_all [] zero h = refl
@@ -76,7 +77,8 @@ shown-in-order p jobs h =
 
 pub shown-running : (p : Slots) (n : ℕ) (jobs : Jobs Job) → running_job n (jobs_in p jobs) ≡ option_map (job_in p) (running_job n jobs)
 shown-running p n jobs = ap (option_map (λ r. r.job)) (running_found p n jobs.running) ∙ go (lookup (same_number n) jobs.running) where
-  go : (o : Option (Running Job)) → option_map (λ r. r.job) (option_map (running_job_in p) o) ≡ option_map (job_in p) (option_map (λ r. r.job) o)
+  go : (o : Option (Running Job)) → option_map (λ r. r.job) (option_map (running_job_in p) o)
+      ≡ option_map (job_in p) (option_map (λ r. r.job) o)
   go None = refl
   go (Some r) = refl
 
@@ -86,7 +88,8 @@ within_of : {X : Type 0} (xs : List X) (i : ℕ) (x : X) → Some x ≡ slice_ge
 within_of xs i x is = go (nat_lt i (length xs)) refl where
   go : (b : Bool) → nat_lt i (length xs) ≡ b → i < length xs
   go true within = grind (arith, nat_tests, within)
-  go false out = absurd (let past : length xs ≤ i = grind (arith, nat_tests, out) in let no : Some x ≡ None = is ∙ slice_get_past xs i past in cc)
+  go false out = absurd (let past : length xs ≤ i = grind (arith, nat_tests, out) in let no : Some x ≡ None =
+      is ∙ slice_get_past xs i past in cc)
 
 next_at : {X : Type 0} (xs : List X) (i : ℕ) (x : X) → Some x ≡ slice_get xs i → drop i xs ≡ x ∷ drop (i + 1) xs
 next_at {X} xs i x is =
@@ -94,14 +97,17 @@ next_at {X} xs i x is =
     let after : suc i ≡ i + 1 = omega arith in
     drop-cons xs i x (within_of xs i x is) ∙ ap (λ (y : X). y ∷ drop (suc i) xs) first ∙ ap (λ (n : ℕ). x ∷ drop n xs) after
 
-pub starts_next : (p : Slots) (moment n place : ℕ) (ws : List (ℕ × Job)) (w : ℕ × Job) → Some w ≡ slice_get ws place → 0 < n → starts_of n moment (map (waiting_in p) (drop place ws)) ≡ start_of moment (waiting_in p w) ∷ starts_of (n - 1) moment (map (waiting_in p) (drop (place + 1) ws))
+pub starts_next : (p : Slots) (moment n place : ℕ) (ws : List (ℕ × Job)) (w : ℕ × Job) → Some w ≡ slice_get ws place → 0 < n →
+    starts_of n moment (map (waiting_in p) (drop place ws))
+    ≡ start_of moment (waiting_in p w) ∷ starts_of (n - 1) moment (map (waiting_in p) (drop (place + 1) ws))
 starts_next p moment zero place ws w is more = absurd (omega arith)
 starts_next p moment (suc m) place ws w is more =
     let less : m ≡ suc m - 1 = omega arith in
     ap (λ (vs : List (ℕ × Job)). starts_of (suc m) moment (map (waiting_in p) vs)) (next_at ws place w is)
     ∙ ap (λ (n : ℕ). start_of moment (waiting_in p w) ∷ starts_of n moment (map (waiting_in p) (drop (place + 1) ws))) less
 
-pub starts_end : (p : Slots) (moment n place : ℕ) (ws : List (ℕ × Job)) → None ≡ slice_get ws place → starts_of n moment (map (waiting_in p) (drop place ws)) ≡ []
+pub starts_end : (p : Slots) (moment n place : ℕ) (ws : List (ℕ × Job)) → None ≡ slice_get ws place →
+    starts_of n moment (map (waiting_in p) (drop place ws)) ≡ []
 starts_end p moment n place ws none =
     let past : drop place ws ≡ [] = go (nat_le (length ws) place) refl in
     ap (λ (vs : List (ℕ × Job)). starts_of n moment (map (waiting_in p) vs)) past ∙ nothing n where
@@ -115,7 +121,10 @@ starts_end p moment n place ws none =
           absurd (let inside : place < length ws = grind (arith, nat_tests, within) in
           some-at ws place inside none)
 
-pub starts_more : (p : Slots) (moment most place : ℕ) (ws : List (ℕ × Job)) (w : ℕ × Job) (old new all : List StepValue) (s : StepValue) → Some w ≡ slice_get ws place → place < most → s ≡ start_of moment (waiting_in p w) → new ≡ old ++ s ∷ [] → old ++ starts_of (most - place) moment (map (waiting_in p) (drop place ws)) ≡ all → new ++ starts_of (most - (place + 1)) moment (map (waiting_in p) (drop (place + 1) ws)) ≡ all
+pub starts_more : (p : Slots) (moment most place : ℕ) (ws : List (ℕ × Job)) (w : ℕ × Job) (old new all : List StepValue) (s : StepValue) →
+    Some w ≡ slice_get ws place → place < most → s ≡ start_of moment (waiting_in p w) → new ≡ old ++ s ∷ [] →
+    old ++ starts_of (most - place) moment (map (waiting_in p) (drop place ws)) ≡ all →
+    new ++ starts_of (most - (place + 1)) moment (map (waiting_in p) (drop (place + 1) ws)) ≡ all
 starts_more p moment most place ws w old new all s is less same pushed h =
     let rest : List StepValue = starts_of (most - (place + 1)) moment (map (waiting_in p) (drop (place + 1) ws)) in
     let left : most - place - 1 ≡ most - (place + 1) = omega arith in
@@ -126,7 +135,8 @@ starts_more p moment most place ws w old new all s is less same pushed h =
     ap (λ (xs : List StepValue). xs ++ rest) pushed ∙ append_assoc old (s ∷ []) rest
     ∙ ap (λ (xs : List StepValue). old ++ xs) (sym next) ∙ h
 
-pub starts_done : (p : Slots) (moment most place : ℕ) (ws : List (ℕ × Job)) (steps all : List StepValue) → None ≡ slice_get ws place → steps ++ starts_of (most - place) moment (map (waiting_in p) (drop place ws)) ≡ all → steps ≡ all
+pub starts_done : (p : Slots) (moment most place : ℕ) (ws : List (ℕ × Job)) (steps all : List StepValue) → None ≡ slice_get ws place →
+    steps ++ starts_of (most - place) moment (map (waiting_in p) (drop place ws)) ≡ all → steps ≡ all
 starts_done p moment most place ws steps all none h =
     sym (append-nil steps) ∙ ap (λ (xs : List StepValue). steps ++ xs) (sym (starts_end p moment (most - place) place ws none)) ∙ h
 
@@ -137,7 +147,9 @@ front f b bs = go (f b) refl where
   go (Some s) is = rw is refl
 
 -- along a list, the steps of one more
-pub due_step : {A B : Type 0} (f : B → Option StepValue) (g : A → B) (xs : List A) (x : A) (old new all : List StepValue) → 1 ≤ length xs → x ≡ get_or xs 0 x → old ++ filter_map f (map g xs) ≡ all → new ≡ old ++ filter_map f (g x ∷ []) → new ++ filter_map f (map g (take (length xs - 1) (drop 1 xs))) ≡ all
+pub due_step : {A B : Type 0} (f : B → Option StepValue) (g : A → B) (xs : List A) (x : A) (old new all : List StepValue) → 1 ≤ length xs →
+    x ≡ get_or xs 0 x → old ++ filter_map f (map g xs) ≡ all → new ≡ old ++ filter_map f (g x ∷ []) →
+    new ++ filter_map f (map g (take (length xs - 1) (drop 1 xs))) ≡ all
 due_step f g [] x old new all within is h pushed = absurd (omega arith)
 due_step {A} f g (y ∷ xs) x old new all within is h pushed =
     let one : take (length (y ∷ xs) - 1) xs ≡ xs = take_all (length (y ∷ xs) - 1) xs (omega arith) in
@@ -148,10 +160,12 @@ due_step {A} f g (y ∷ xs) x old new all within is h pushed =
     ∙ ap (λ (ss : List StepValue). old ++ ss) (front f (g y) (map g xs)) ∙ h
 
 -- the step of a job that ends, where one runs under the number
-pub ended_none : (p : Slots) (n : ℕ) (e : EndValue) (jobs : Jobs Job) → None ≡ running_job n jobs → [] ≡ ending_of n e (running_job n (jobs_in p jobs))
+pub ended_none : (p : Slots) (n : ℕ) (e : EndValue) (jobs : Jobs Job) → None ≡ running_job n jobs →
+    [] ≡ ending_of n e (running_job n (jobs_in p jobs))
 ended_none p n e jobs none = ap (ending_of n e) (ap (option_map (job_in p)) none ∙ sym (shown-running p n jobs))
 
-pub ended_some : (p : Slots) (n : ℕ) (e : EndValue) (jobs : Jobs Job) (job : Job) (operation : List ℕ) → Some job ≡ running_job n jobs → operation ≡ completed_text n job.task.action e → ends n operation ∷ [] ≡ ending_of n e (running_job n (jobs_in p jobs))
+pub ended_some : (p : Slots) (n : ℕ) (e : EndValue) (jobs : Jobs Job) (job : Job) (operation : List ℕ) → Some job ≡ running_job n jobs →
+    operation ≡ completed_text n job.task.action e → ends n operation ∷ [] ≡ ending_of n e (running_job n (jobs_in p jobs))
 ended_some p n e jobs job operation some is =
     ap (λ (op : List ℕ). ends n op ∷ []) is ∙ ap (ending_of n e) (ap (option_map (job_in p)) some ∙ sym (shown-running p n jobs))
 
@@ -163,26 +177,35 @@ fewer_run p jobs steps e = fewer _ _ _ (e.count ∙ as-many-run p jobs) where
   fewer left gone all is = omega arith
 
 -- those of a Tick, of an outcome, and none
-pub tick_fewer : (p : Slots) (moment : ℕ) (jobs : Jobs Job) (steps : List StepValue) → AreJobs jobs → steps ≡ timings_out moment (map (running_in p) jobs.running) → EndJobs steps (jobs_in p jobs)
-tick_fewer p moment jobs steps h is = subst (λ (ss : List StepValue). EndJobs ss (jobs_in p jobs)) (sym is) (tick-ends moment (jobs_in p jobs) (shown-in-order p jobs h)).fewer
+pub tick_fewer : (p : Slots) (moment : ℕ) (jobs : Jobs Job) (steps : List StepValue) → AreJobs jobs →
+    steps ≡ timings_out moment (map (running_in p) jobs.running) → EndJobs steps (jobs_in p jobs)
+tick_fewer p moment jobs steps h is = subst (λ (ss : List StepValue). EndJobs ss (jobs_in p jobs)) (sym is)
+    (tick-ends moment (jobs_in p jobs) (shown-in-order p jobs h)).fewer
 
-pub end_fewer : (p : Slots) (n : ℕ) (e : EndValue) (jobs : Jobs Job) (steps : List StepValue) → AreJobs jobs → steps ≡ ending_of n e (running_job n (jobs_in p jobs)) → EndJobs steps (jobs_in p jobs)
-end_fewer p n e jobs steps h is = subst (λ (ss : List StepValue). EndJobs ss (jobs_in p jobs)) (sym is) (outcome-ends n e (jobs_in p jobs) (shown-in-order p jobs h)).fewer
+pub end_fewer : (p : Slots) (n : ℕ) (e : EndValue) (jobs : Jobs Job) (steps : List StepValue) → AreJobs jobs →
+    steps ≡ ending_of n e (running_job n (jobs_in p jobs)) → EndJobs steps (jobs_in p jobs)
+end_fewer p n e jobs steps h is = subst (λ (ss : List StepValue). EndJobs ss (jobs_in p jobs)) (sym is)
+    (outcome-ends n e (jobs_in p jobs) (shown-in-order p jobs h)).fewer
 
 -- ---- what is shown of jobs after a change
 
 abbrev queue_of : ℕ → List (ℕ × JobValue) → List (ℕ × Running JobValue) → List (ℕ × List ℕ) → Jobs JobValue
 queue_of next waiting running ended = record { next = next; waiting = waiting; running = running; ended = ended }
 
-shown-removed : (p : Slots) (n : ℕ) (rs : List (ℕ × Running Job)) → map (running_in p) (remove_entry (same_number n) rs) ≡ remove_entry (same_number n) (map (running_in p) rs)
+shown-removed : (p : Slots) (n : ℕ) (rs : List (ℕ × Running Job)) →
+    map (running_in p) (remove_entry (same_number n) rs) ≡ remove_entry (same_number n) (map (running_in p) rs)
 shown-removed p n [] = refl
 shown-removed p n (r ∷ rs) = go (same_number n r.0) refl (shown-removed p n rs) where
-  go : (b : Bool) → same_number n r.0 ≡ b → map (running_in p) (remove_entry (same_number n) rs) ≡ remove_entry (same_number n) (map (running_in p) rs) → map (running_in p) (remove_entry (same_number n) (r ∷ rs)) ≡ remove_entry (same_number n) (map (running_in p) (r ∷ rs))
+  go : (b : Bool) → same_number n r.0 ≡ b → map (running_in p) (remove_entry (same_number n) rs)
+      ≡ remove_entry (same_number n) (map (running_in p) rs) →
+      map (running_in p) (remove_entry (same_number n) (r ∷ rs)) ≡ remove_entry (same_number n) (map (running_in p) (r ∷ rs))
   go true here later = rw here refl
   go false here later = rw here (ap (λ (es : List (ℕ × Running JobValue)). running_in p r ∷ es) later)
 
-pub shown-end : (p : Slots) (n : ℕ) (operation : List ℕ) (jobs : Jobs Job) → jobs_in p (jobs_after_end n operation jobs) ≡ jobs_after_end n operation (jobs_in p jobs)
-shown-end p n operation jobs = ap (λ (rs : List (ℕ × Running JobValue)). queue_of jobs.next (map (waiting_in p) jobs.waiting) rs (jobs_after_end n operation jobs).ended) (shown-removed p n jobs.running)
+pub shown-end : (p : Slots) (n : ℕ) (operation : List ℕ) (jobs : Jobs Job) →
+    jobs_in p (jobs_after_end n operation jobs) ≡ jobs_after_end n operation (jobs_in p jobs)
+shown-end p n operation jobs = ap (λ (rs : List (ℕ × Running JobValue)). queue_of jobs.next (map (waiting_in p) jobs.waiting) rs
+    (jobs_after_end n operation jobs).ended) (shown-removed p n jobs.running)
 
 pub runs_there : (p : Slots) (n : ℕ) (jobs : Jobs Job) → IsRunning n (jobs_in p jobs) → IsRunning n jobs
 runs_there p n jobs h = go (running_job n jobs) refl where
@@ -192,22 +215,32 @@ runs_there p n jobs h = go (running_job n jobs) refl where
 
 -- ---- what jobs hold after a change
 
-pub end_moves : (p q : Slots) (n : ℕ) (operation : List ℕ) (job : Job) (jobs : Jobs Job) → running_job n jobs ≡ Some job → Moves p q (job_holders job) no_holders → Moves p q (jobs_holders jobs) (jobs_holders (jobs_after_end n operation jobs))
+pub end_moves : (p q : Slots) (n : ℕ) (operation : List ℕ) (job : Job) (jobs : Jobs Job) → running_job n jobs ≡ Some job →
+    Moves p q (job_holders job) no_holders → Moves p q (jobs_holders jobs) (jobs_holders (jobs_after_end n operation jobs))
 end_moves p q n operation job jobs is m =
     let after : Holders = jobs_holders (jobs_after_end n operation jobs) in
-    moves_more p q (job_holders job) no_holders after (jobs_holders jobs) after (λ k. let sum = sum-end (λ (j : Job). job_holders j k) n operation job jobs is in omega (arith, sum)) (λ k. omega arith) m
+    moves_more p q (job_holders job) no_holders after (jobs_holders jobs) after
+    (λ k. let sum = sum-end (λ (j : Job). job_holders j k) n operation job jobs is in omega (arith, sum)) (λ k. omega arith) m
 
-pub end_held : (p : Slots) (n : ℕ) (operation : List ℕ) (job : Job) (jobs : Jobs Job) → running_job n jobs ≡ Some job → ((k : ℕ) → jobs_holders jobs k ≤ count_at p k) → (k : ℕ) → job_holders job k + jobs_holders (jobs_after_end n operation jobs) k ≤ count_at p k
-end_held p n operation job jobs is held k = let sum = sum-end (λ (j : Job). job_holders j k) n operation job jobs is in let all = held k in omega (arith, sum, all)
+pub end_held : (p : Slots) (n : ℕ) (operation : List ℕ) (job : Job) (jobs : Jobs Job) → running_job n jobs ≡ Some job →
+    ((k : ℕ) → jobs_holders jobs k ≤ count_at p k) → (k : ℕ) →
+    job_holders job k + jobs_holders (jobs_after_end n operation jobs) k ≤ count_at p k
+end_held p n operation job jobs is held k = let sum = sum-end (λ (j : Job). job_holders j k) n operation job jobs is in let all = held k in
+    omega (arith, sum, all)
 
-pub ended_shown : (p q : Slots) (n : ℕ) (operation : List ℕ) (job : Job) (jobs : Jobs Job) → running_job n jobs ≡ Some job → ((k : ℕ) → jobs_holders jobs k ≤ count_at p k) → Moves p q (job_holders job) no_holders → jobs_in q (jobs_after_end n operation jobs) ≡ jobs_after_end n operation (jobs_in p jobs)
+pub ended_shown : (p q : Slots) (n : ℕ) (operation : List ℕ) (job : Job) (jobs : Jobs Job) → running_job n jobs ≡ Some job →
+    ((k : ℕ) → jobs_holders jobs k ≤ count_at p k) → Moves p q (job_holders job) no_holders →
+    jobs_in q (jobs_after_end n operation jobs) ≡ jobs_after_end n operation (jobs_in p jobs)
 ended_shown p q n operation job jobs is held m =
-    jobs_same p q (jobs_after_end n operation jobs) (job_holders job) no_holders (end_held p n operation job jobs is held) m ∙ shown-end p n operation jobs
+    jobs_same p q (jobs_after_end n operation jobs) (job_holders job) no_holders (end_held p n operation job jobs is held) m
+    ∙ shown-end p n operation jobs
 
-pub job_held : (p : Slots) (n : ℕ) (operation : List ℕ) (job : Job) (jobs : Jobs Job) → running_job n jobs ≡ Some job → ((k : ℕ) → jobs_holders jobs k ≤ count_at p k) → (k : ℕ) → job_holders job k ≤ count_at p k
+pub job_held : (p : Slots) (n : ℕ) (operation : List ℕ) (job : Job) (jobs : Jobs Job) → running_job n jobs ≡ Some job →
+    ((k : ℕ) → jobs_holders jobs k ≤ count_at p k) → (k : ℕ) → job_holders job k ≤ count_at p k
 job_held p n operation job jobs is held k = let all = end_held p n operation job jobs is held k in omega (arith, all)
 
-pub start_moves : (p : Slots) (deadline : ℕ) (jobs : Jobs Job) → Moves p p (jobs_holders jobs) (jobs_holders (jobs_after_start deadline jobs))
+pub start_moves : (p : Slots) (deadline : ℕ) (jobs : Jobs Job) →
+    Moves p p (jobs_holders jobs) (jobs_holders (jobs_after_start deadline jobs))
 start_moves p deadline jobs = record {
   counts = λ k. let sum = sum-start (λ (j : Job). job_holders j k) deadline jobs in omega (arith, sum);
   texts = λ k less. refl;
@@ -216,19 +249,26 @@ start_moves p deadline jobs = record {
 -- ---- a job that is forgotten
 
 pub shown-forget : (p : Slots) (n : ℕ) (jobs : Jobs Job) → jobs_in p (jobs_without n jobs) ≡ jobs_without n (jobs_in p jobs)
-shown-forget p n jobs = ap (λ (rs : List (ℕ × Running JobValue)). queue_of jobs.next (map (waiting_in p) jobs.waiting) rs jobs.ended) (shown-removed p n jobs.running)
+shown-forget p n jobs = ap (λ (rs : List (ℕ × Running JobValue)). queue_of jobs.next (map (waiting_in p) jobs.waiting) rs jobs.ended)
+    (shown-removed p n jobs.running)
 
-pub forgotten_shown : (p q : Slots) (n : ℕ) (job : Job) (jobs : Jobs Job) → running_job n jobs ≡ Some job → ((k : ℕ) → jobs_holders jobs k ≤ count_at p k) → Moves p q (job_holders job) no_holders → jobs_in q (jobs_without n jobs) ≡ jobs_without n (jobs_in p jobs)
+pub forgotten_shown : (p q : Slots) (n : ℕ) (job : Job) (jobs : Jobs Job) → running_job n jobs ≡ Some job →
+    ((k : ℕ) → jobs_holders jobs k ≤ count_at p k) → Moves p q (job_holders job) no_holders →
+    jobs_in q (jobs_without n jobs) ≡ jobs_without n (jobs_in p jobs)
 forgotten_shown p q n job jobs is held m =
     jobs_same p q (jobs_without n jobs) (job_holders job) no_holders (end_held p n [] job jobs is held) m ∙ shown-forget p n jobs
 
-none-removed : (n : ℕ) (rs : List (ℕ × Running Job)) → option_map (λ r. r.job) (lookup (same_number n) rs) ≡ None → remove_entry (same_number n) rs ≡ rs
+none-removed : (n : ℕ) (rs : List (ℕ × Running Job)) → option_map (λ r. r.job) (lookup (same_number n) rs) ≡ None →
+    remove_entry (same_number n) rs ≡ rs
 none-removed n [] none = refl
 none-removed n (r ∷ rs) none = go (same_number n r.0) refl none (λ later. none-removed n rs later) where
-  go : (b : Bool) → same_number n r.0 ≡ b → option_map (λ r. r.job) (lookup (same_number n) (r ∷ rs)) ≡ None → (option_map (λ r. r.job) (lookup (same_number n) rs) ≡ None → remove_entry (same_number n) rs ≡ rs) → remove_entry (same_number n) (r ∷ rs) ≡ r ∷ rs
+  go : (b : Bool) → same_number n r.0 ≡ b → option_map (λ r. r.job) (lookup (same_number n) (r ∷ rs)) ≡ None →
+      (option_map (λ r. r.job) (lookup (same_number n) rs) ≡ None → remove_entry (same_number n) rs ≡ rs) →
+      remove_entry (same_number n) (r ∷ rs) ≡ r ∷ rs
   go true here none later = absurd (let no : Some r.1.job ≡ None = (rw here at none) in cc)
   go false here none later = rw here (ap (λ (es : List (ℕ × Running Job)). r ∷ es) (later (rw here at none)))
 
 -- where none runs under the number, nothing is forgotten
 pub none_forgotten : (n : ℕ) (jobs : Jobs Job) → running_job n jobs ≡ None → jobs_without n jobs ≡ jobs
-none_forgotten n jobs none = ap (λ (rs : List (ℕ × Running Job)). let js : Jobs Job = record jobs { running = rs } in js) (none-removed n jobs.running none)
+none_forgotten n jobs none = ap (λ (rs : List (ℕ × Running Job)). let js : Jobs Job = record jobs { running = rs } in js)
+    (none-removed n jobs.running none)

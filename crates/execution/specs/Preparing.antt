@@ -97,14 +97,21 @@ job_of look d p = record {
 abbrev pub look_kept : List Blob → Lookup
 look_kept texts d = visible_text d texts
 
--- the action of a digest among them
-abbrev pub action_among : List Blob → Digest → Option ActionTaken
-action_among texts d = and_then (look_kept texts d) action_in
+-- the action of a digest
+abbrev pub action_by : Lookup → Digest → Option ActionTaken
+action_by look d = and_then (look d) action_in
 
 -- the text that it names as its command
+abbrev pub command_by : Lookup → Option ActionTaken → List ℕ
+command_by look None = []
+command_by look (Some a) = unwrap_or (look a.command) []
+
+-- the same among texts
+abbrev pub action_among : List Blob → Digest → Option ActionTaken
+action_among texts d = action_by (look_kept texts) d
+
 abbrev pub command_among : List Blob → Option ActionTaken → List ℕ
-command_among texts None = []
-command_among texts (Some a) = unwrap_or (look_kept texts a.command) []
+command_among texts a = command_by (look_kept texts) a
 
 abbrev pub nodes_or_none : Nodes → List PlanNodeValue
 nodes_or_none (Ok nodes) = nodes

@@ -31,7 +31,7 @@ use cas_service::CallError;
 use digest::Digest;
 use execution_messages::{End, ExecutionStage, Fault, completed, unfinished};
 use input_tree::use_all;
-use instance_view::{Sight, View};
+use instance_view::{Sight, View, Work};
 use job_queue::{LAST_NUMBER, Queue};
 use keyed_maps::MapKey;
 use rpc::Refusal;
@@ -56,7 +56,8 @@ fn look_up(
     if asked.skips_lookup {
         return Ok(None);
     }
-    find_result(alloc, results, view, pool, &asked.action)
+    let mut work = Work::new();
+    find_result(alloc, results, view, pool, &asked.action, &mut work)
 }
 
 /// An execution is done at once: a number is used up, and its Operation is kept and handed out.

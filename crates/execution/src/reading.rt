@@ -8,7 +8,7 @@ ghost use Rattle.instance_view.specs.Shown.{blobs_in, text_seen};
 ghost use Rattle.execution.specs.InPool.{task_in};
 ghost use Rattle.execution.specs.Keeping.{kept_entries};
 ghost use Rattle.execution.specs.Numbers.{AreNumbers, kept_digests};
-ghost use Rattle.execution.specs.Preparing.{action_among, command_among, nodes_among};
+ghost use Rattle.execution.specs.Preparing.{action_by, command_by, nodes_among};
 ghost use Rattle.execution.specs.Shown.{task_told};
 ghost use Rattle.actions.specs.Shown.{action_taken_shown, nodes_shown};
 
@@ -85,15 +85,72 @@ fn seen_at(texts: &[KeptText], numbers: &KeyedMap<Digest, usize>, digest: &Diges
     }
 }
 
+/// The texts that a job keeps, one after another. To find one takes no memory, and time for each.
+#[derive(Drop)]
+struct ListedTexts<'a> {
+    texts: &'a [KeptText],
+}
+
+impl<'a> Model for ListedTexts<'a> {
+    ghost use Rattle.std.specs.Prelude.{List};
+    ghost use Rattle.instance_view.specs.Shown.{ViewEntry};
+    ghost use Rattle.execution.specs.Keeping.{kept_entries};
+
+    ghost Value = { List ViewEntry };
+
+    ghost view = { λ listed. kept_entries listed.texts.now };
+}
+
+impl<'a> ListedTexts<'a> {
+    fn new(texts: &'a [KeptText]) -> ListedTexts<'a>
+        ensures { result ≡ kept_entries texts.now }
+    {
+        ListedTexts { texts }
+    }
+}
+
+impl<'a> Finds for ListedTexts<'a> {
+    ghost use Rattle.execution.specs.Numbers.{found_among};
+
+    ghost found_in = { found_among };
+
+    fn get(&self, digest: &Digest) -> Option<Seen> {
+        if digest.is_empty() {
+            Some(Seen::Empty)
+        } else {
+            first_of(self.texts, digest)
+        }
+    }
+
+    fn contains(&self, digest: &Digest) -> bool {
+        self.get(digest).is_some()
+    }
+}
+
+/// The first text of a digest among texts.
+fn first_of(texts: &[KeptText], digest: &Digest) -> Option<Seen>
+    ensures { (p : Slots) → option_map (text_seen p) result
+        ≡ lookup (same_digest digest.now) (blobs_in p (kept_entries texts.now)) }
+{
+    let mut left = texts;
+    'texts: while let [first, rest @ ..] = left {
+        if *digest == first.digest {
+            return Some(Seen::Text(first.text));
+        }
+        left = rest;
+    }
+    None
+}
+
 /// The action of a digest among texts.
-fn action_among(
+fn action_among<F: Finds>(
     alloc: Global,
     pool: &Pool,
-    texts: &FoundTexts<'_>,
+    texts: &F,
     digest: &Digest,
 ) -> Result<Option<ActionTaken>, AllocError>
     ensures { IfOk result (λ action. option_map action_taken_shown action
-        ≡ action_among (blobs_in pool.now texts.now) digest.now) }
+        ≡ action_by (F.found_in pool.now texts.now) digest.now) }
 {
     let Some(seen) = texts.get(digest) else {
         return Ok(None);
@@ -103,14 +160,14 @@ fn action_among(
 }
 
 /// The text that an action names as its command.
-fn command_among(
+fn command_among<F: Finds>(
     alloc: Global,
     pool: &Pool,
-    texts: &FoundTexts<'_>,
+    texts: &F,
     action: &Option<ActionTaken>,
 ) -> Result<Vec<u8>, AllocError>
     ensures { IfOk result (λ command. command.items
-        ≡ command_among (blobs_in pool.now texts.now) (option_map action_taken_shown action.now)) }
+        ≡ command_by (F.found_in pool.now texts.now) (option_map action_taken_shown action.now)) }
 {
     let Some(action) = action else {
         return Ok(Vec::new(alloc));
@@ -182,13 +239,13 @@ pub fn read_task(alloc: Global, pool: &Pool, task: &Task) -> Result<TaskRead, Al
 }
 
 /// The text of a task's command, read off its texts in the pool.
+/// No memory is asked for but for copies of the action and of the command.
 ///
 /// Err: a request for memory was refused.
 pub fn read_task_command(alloc: Global, pool: &Pool, task: &Task) -> Result<Vec<u8>, AllocError>
     ensures { IfOk result (λ command. command.items ≡ (task_in pool.now task.now).command) }
 {
-    let numbers = text_numbers(alloc, pool.key(), &task.texts)?;
-    let texts = FoundTexts::new(&task.texts, &numbers);
+    let texts = ListedTexts::new(&task.texts);
     let action = action_among(alloc, pool, &texts, &task.action)?;
     let command = command_among(alloc, pool, &texts, &action)?;
     Ok(command)

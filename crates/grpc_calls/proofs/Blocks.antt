@@ -59,7 +59,8 @@ block_fits UnsupportedMediaType = (omega arith, omega arith)
 pub fields_small : (block : ResponseBlock) → total_size (fields_of block) ≤ list_limit
 fields_small block = (block_fits block).0
 
-pub read_first : (table : Table) (block : ResponseBlock) → block_of table (block_text First (fields_of block)) ≡ Ok (fields_of block, record { maximum = 0; entries = [] })
+pub read_first : (table : Table) (block : ResponseBlock) →
+    block_of table (block_text First (fields_of block)) ≡ Ok (fields_of block, record { maximum = 0; entries = [] })
 read_first table block = first_read table (fields_of block) (fields_small block)
 
 pub read_later : (table : Table) (block : ResponseBlock) → block_of table (block_text Later (fields_of block)) ≡ Ok (fields_of block, table)

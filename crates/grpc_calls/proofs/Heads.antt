@@ -23,7 +23,8 @@ equal xs ys e = (bytes_eq-Decides xs ys).1 e
 found_in : (ms : List Method) (path : List ℕ) (m : Method) → method_in ms path ≡ Some m → path ≡ path_of m
 found_in [] path m e = absurd cc
 found_in (n ∷ ms) path m e = go (bytes_eq (path_of n) path) refl e (found_in ms path m) where
-  go : (b : Bool) → bytes_eq (path_of n) path ≡ b → cond b (Some n) (method_in ms path) ≡ Some m → (method_in ms path ≡ Some m → path ≡ path_of m) → path ≡ path_of m
+  go : (b : Bool) → bytes_eq (path_of n) path ≡ b → cond b (Some n) (method_in ms path) ≡ Some m →
+      (method_in ms path ≡ Some m → path ≡ path_of m) → path ≡ path_of m
   go true h e later = let is : n ≡ m = cc in sym (same (path_of n) path h) ∙ ap path_of is
   go false h e later = later e
 
@@ -69,13 +70,17 @@ grpc_type_is : (h : Header) → is_grpc_type h ≡ true → IsGrpcType h
 grpc_type_is h e =
     let b = both (bytes_eq h.name (codes "content-type")) (starts_with nat_eq h.value (codes "application/grpc")) e in (
       same h.name (codes "content-type") b.0,
-      (drop (length (codes "application/grpc")) h.value, (starts_is Decides-eqb h.value (codes "application/grpc") (starts_with nat_eq h.value (codes "application/grpc")) refl).0 b.1),
+      (
+        drop (length (codes "application/grpc")) h.value,
+        (starts_is Decides-eqb h.value (codes "application/grpc") (starts_with nat_eq h.value (codes "application/grpc")) refl).0 b.1,
+      ),
     )
 
 is_grpc_type_of : (h : Header) → IsGrpcType h → is_grpc_type h ≡ true
 is_grpc_type_of h g =
     let name = equal h.name (codes "content-type") g.0 in
-    let value = (starts_is Decides-eqb h.value (codes "application/grpc") (starts_with nat_eq h.value (codes "application/grpc")) refl).1 g.1.0 g.1.1 in
+    let value = (starts_is Decides-eqb h.value (codes "application/grpc") (starts_with nat_eq h.value (codes "application/grpc")) refl).1
+    g.1.0 g.1.1 in
     ap (λ (x : Bool). x && starts_with nat_eq h.value (codes "application/grpc")) name ∙ value
 
 either : (a b : Bool) → (a || b) ≡ true → (a ≡ true) ⊎ (b ≡ true)
@@ -92,7 +97,8 @@ on_right false b e = e
 
 grpc_is : (hs : List Header) → list_any is_grpc_type hs ≡ true → IsGrpc hs
 grpc_is [] e = absurd cc
-grpc_is (h ∷ hs) e = elim (either (is_grpc_type h) (list_any is_grpc_type hs) e) [ inl t ↦ inl (grpc_type_is h t) | inr t ↦ inr (grpc_is hs t) ]
+grpc_is (h ∷ hs) e = elim (either (is_grpc_type h) (list_any is_grpc_type hs) e)
+    [ inl t ↦ inl (grpc_type_is h t) | inr t ↦ inr (grpc_is hs t) ]
 
 is_grpc_of : (hs : List Header) → IsGrpc hs → list_any is_grpc_type hs ≡ true
 is_grpc_of [] g = absurd g
@@ -136,9 +142,15 @@ named_path hs m e = ap method_for e ∙ is_path (path_of m) m refl
 call_is : (hs : List Header) (m : Method) → head_of hs ≡ Ok m → IsCall hs m
 call_is hs m e =
     let f = found_by (post_of hs) (grpc_of hs) (named_by hs) m e in
-    record { post = value_is (codes "POST") (value_of (codes ":method") hs) f.post; grpc = grpc_is hs f.grpc; path = path_named hs m f.named }
+    record {
+      post = value_is (codes "POST") (value_of (codes ":method") hs) f.post;
+      grpc = grpc_is hs f.grpc;
+      path =
+          path_named hs m f.named;
+    }
 
-head_at : (hs : List Header) (p g : Bool) (o : Option Method) → post_of hs ≡ p → grpc_of hs ≡ g → named_by hs ≡ o → head_of hs ≡ head_by p g o
+head_at : (hs : List Header) (p g : Bool) (o : Option Method) → post_of hs ≡ p → grpc_of hs ≡ g → named_by hs ≡ o →
+    head_of hs ≡ head_by p g o
 head_at hs p g o a b c = rw (← a, ← b, ← c) refl
 
 post_is : (hs : List Header) → IsPost hs → post_of hs ≡ true
@@ -166,7 +178,8 @@ method_by false g o e = refl
 pub method_fault : (hs : List Header) → (head_of hs ≡ Err BadMethod) ↔ (¬ IsPost hs)
 method_fault hs = (
   λ e h. untrue (post_of hs) (post_is hs h) (method_by (post_of hs) (grpc_of hs) (named_by hs) e),
-  λ none. head_at hs false (grpc_of hs) (named_by hs) (not_true (post_of hs) (λ t. none (value_is (codes "POST") (value_of (codes ":method") hs) t))) refl refl,
+  λ none. head_at hs false (grpc_of hs) (named_by hs)
+      (not_true (post_of hs) (λ t. none (value_is (codes "POST") (value_of (codes ":method") hs) t))) refl refl,
 )
 
 type_by : (p g : Bool) (o : Option Method) → head_by p g o ≡ Err BadContentType → (p ≡ true) × (g ≡ false)
@@ -202,7 +215,11 @@ some_none o m e d = cc
 
 pub path_fault : (hs : List Header) → (head_of hs ≡ Err BadPath) ↔ (IsPost hs × IsGrpc hs × ((m : Method) → ¬ HasPathOf m hs))
 path_fault hs = (
-  λ e. let t = path_by (post_of hs) (grpc_of hs) (named_by hs) e in
-      (value_is (codes "POST") (value_of (codes ":method") hs) t.post, grpc_is hs t.grpc, λ m h. some_none (named_by hs) m (named_path hs m h) t.named),
+  λ e. let t = path_by (post_of hs) (grpc_of hs) (named_by hs) e in (
+    value_is (codes "POST") (value_of (codes ":method") hs) t.post,
+    grpc_is hs t.grpc,
+    λ m h. some_none (named_by hs) m
+        (named_path hs m h) t.named,
+  ),
   λ h. head_at hs true true None (post_is hs h.0) (is_grpc_of hs h.1) (unnamed (named_by hs) (λ m e. h.2 m (path_named hs m e))),
 )

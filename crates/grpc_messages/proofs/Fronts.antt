@@ -59,8 +59,10 @@ whole_more limit t more n e =
 pub fault_more : (limit : ℕ) (t more : List ℕ) (e : MessagesError) → whole_at limit t ≡ Err e → whole_at limit (t ++ more) ≡ Err e
 fault_more limit t more e h = is_fault limit (t ++ more) e (go e (fault_is limit t e h)) where
   go : (d : MessagesError) → IsEnd limit t (Err d) → IsEnd limit (t ++ more) (Err d)
-  go Compressed w = let five = w.0 in let flag = flag_more t more five in let len = length-append t more in (omega arith, λ z. w.1 (sym flag ∙ z))
-  go TooLarge w = let five = w.0 in let large = w.2 in let flag = flag_more t more five in let size = size_more t more five in let len = length-append t more in (omega arith, flag ∙ w.1, omega arith)
+  go Compressed w = let five = w.0 in let flag = flag_more t more five in let len = length-append t more in
+      (omega arith, λ z. w.1 (sym flag ∙ z))
+  go TooLarge w = let five = w.0 in let large = w.2 in let flag = flag_more t more five in let size = size_more t more five in let len =
+      length-append t more in (omega arith, flag ∙ w.1, omega arith)
   go CutOff w = absurd w
   go NoMemory w = absurd w
 

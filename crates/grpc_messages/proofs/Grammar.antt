@@ -36,7 +36,8 @@ is_item : (limit : ℕ) (x m : List ℕ) → IsMessageText limit x m → IsOneIt
 is_item limit x m h =
     let s = four_of h.size h.four in
     let size = ap (big_number 4) (sym s.4) ∙ h.sized in
-    subst (λ (q : List ℕ). IsOneItem (message_format limit) q m) (sym (h.parts ∙ ap (λ (q : List ℕ). (0 ∷ q) ++ m) s.4)) (item_at_front limit s.0 s.1 s.2 s.3 m size h.short)
+    subst (λ (q : List ℕ). IsOneItem (message_format limit) q m) (sym (h.parts ∙ ap (λ (q : List ℕ). (0 ∷ q) ++ m) s.4))
+    (item_at_front limit s.0 s.1 s.2 s.3 m size h.short)
 
 message_text_at : (limit a b c d : ℕ) (r : List ℕ) (n : ℕ) → n ≡ big_number 4 (a ∷ b ∷ c ∷ d ∷ []) → n ≤ limit → n ≤ length r
     → IsMessageText limit (take (5 + n) (0 ∷ a ∷ b ∷ c ∷ d ∷ r)) (take n r)
@@ -60,7 +61,8 @@ message_text_is limit (x ∷ a ∷ b ∷ []) n h = let f = h.fits in absurd (ome
 message_text_is limit (x ∷ a ∷ b ∷ c ∷ []) n h = let f = h.fits in absurd (omega arith)
 
 message_found : (limit : ℕ) (t : List ℕ) (n : ℕ) → whole_at limit t ≡ Ok (Some n) → IsMessageText limit (take (5 + n) t) (message_at t)
-message_found limit t n e = let w = whole_is limit t n e in subst (λ (j : ℕ). IsMessageText limit (take (5 + n) t) (take j (drop 5 t))) w.size (message_text_is limit t n w)
+message_found limit t n e = let w = whole_is limit t n e in
+    subst (λ (j : ℕ). IsMessageText limit (take (5 + n) t) (take j (drop 5 t))) w.size (message_text_is limit t n w)
 
 reads : (limit : ℕ) → Reads (message_format limit) (IsMessageText limit) (IsEnd limit)
 reads limit = record {
@@ -73,7 +75,8 @@ reads limit = record {
 }
 
 split_after : (limit : ℕ) (x m rest : List ℕ) → IsMessageText limit x m → split limit (x ++ rest) ≡ behind (m ∷ []) (split limit rest)
-split_after limit x m rest h = divide_after (message_format limit) (steady limit) (IsMessageText limit) (IsEnd limit) (reads limit) x m rest h
+split_after limit x m rest h = divide_after (message_format limit) (steady limit) (IsMessageText limit) (IsEnd limit)
+    (reads limit) x m rest h
 
 pub split_only : (limit : ℕ) (text : List ℕ) (s : Split) → IsSplit limit text s → split limit text ≡ s
 split_only limit text s h = division_only (message_format limit) (steady limit) (IsMessageText limit) (IsEnd limit) (reads limit) text s h
@@ -97,7 +100,8 @@ pub framed_split : (limit : ℕ) (messages : List (List ℕ)) (rest : List ℕ) 
 framed_split limit [] rest small h = refl
 framed_split limit (m ∷ ms) rest small h =
     let short = h.0 in
-    ap (split limit) (ap (λ (q : List ℕ). q ++ rest) (flat_map-cons framed_message m ms) ∙ append_assoc (framed_message m) (flat_map framed_message ms) rest)
+    ap (split limit) (ap (λ (q : List ℕ). q ++ rest) (flat_map-cons framed_message m ms)
+    ∙ append_assoc (framed_message m) (flat_map framed_message ms) rest)
     ∙ split_after limit (framed_message m) m (flat_map framed_message ms ++ rest) (framed_is limit m short (omega arith))
     ∙ ap (behind (m ∷ [])) (framed_split limit ms rest small h.1)
 
@@ -106,19 +110,23 @@ framed_split limit (m ∷ ms) rest small h =
 framed_size : (m : List ℕ) → length m < 2 ^ 32 → size_of (framed_message m) ≡ length m
 framed_size m fits = big_number-reads_back 4 (length m) m (omega arith)
 
-part_is_unfinished : (limit : ℕ) (m part more : List ℕ) → limit < 2 ^ 32 → length m ≤ limit → framed_message m ≡ part ++ more → 0 < length more → IsUnfinished limit part
+part_is_unfinished : (limit : ℕ) (m part more : List ℕ) → limit < 2 ^ 32 → length m ≤ limit → framed_message m ≡ part ++ more →
+    0 < length more → IsUnfinished limit part
 part_is_unfinished limit m part more small short e some = elim (cases_lt (length part) 5) [
   | inl less ↦ inl less
   | inr five ↦ (
       let flag : flag_of part ≡ 0 = sym (flag_more part more five) ∙ ap flag_of (sym e) in
       let size : size_of part ≡ length m = sym (size_more part more five) ∙ ap size_of (sym e) ∙ framed_size m (omega arith) in
-      let whole : length part + length more ≡ 5 + length m = sym (length-append part more) ∙ ap (length {A = ℕ}) (sym e) ∙ sym (five_more (length m)) in
+      let whole : length part + length more ≡ 5 + length m =
+      sym (length-append part more) ∙ ap (length {A = ℕ}) (sym e) ∙ sym (five_more (length m)) in
       inr (flag, omega arith, omega arith))
 ]
 
-pub part_split : (limit : ℕ) (messages : List (List ℕ)) (m part more : List ℕ) → limit < 2 ^ 32 → AllByRecursion (λ x. length x ≤ limit) messages → length m ≤ limit → framed_message m ≡ part ++ more → 0 < length more
+pub part_split : (limit : ℕ) (messages : List (List ℕ)) (m part more : List ℕ) → limit < 2 ^ 32 →
+    AllByRecursion (λ x. length x ≤ limit) messages → length m ≤ limit → framed_message m ≡ part ++ more → 0 < length more
     → split limit (flat_map framed_message messages ++ part) ≡ record { items = messages; end = Ok part }
 part_split limit messages m part more small h short e some =
     framed_split limit messages part small h
-    ∙ ap (behind messages) (divide_partial (message_format limit) (steady limit) part (is_unfinished limit part (part_is_unfinished limit m part more small short e some)))
+    ∙ ap (behind messages) (divide_partial (message_format limit) (steady limit) part
+    (is_unfinished limit part (part_is_unfinished limit m part more small short e some)))
     ∙ ap (λ (xs : List (List ℕ)). record { items = xs; end = Ok part }) (append-nil messages)

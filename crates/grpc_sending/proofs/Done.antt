@@ -42,13 +42,18 @@ due_number cw x (Ranged s ∷ ps) due h = count_number x.number (part_size (span
 
 none_above : (s n : ℕ) (qs : List StoredQueue) (cw : ℤ) (xs : List Stream) → s ≡ n → AreAbove n xs → NoneDueBelow s qs cw xs
 none_above s n qs cw [] is above = tt
-none_above s n qs cw (x ∷ xs) is above = (λ low. let high = above.0 in absurd (omega (arith, low, high, is)), none_above s n qs cw xs is above.1)
+none_above s n qs cw (x ∷ xs) is above = (
+  λ low. let high = above.0 in
+      absurd (omega (arith, low, high, is)),
+  none_above s n qs cw xs is above.1,
+)
 
 pub first_below : (n : ℕ) (qs : List StoredQueue) (cw : ℤ) (xs : List Stream) (due : Due) → RiseTo n xs → next_due qs cw xs ≡ Some due →
     NoneDueBelow (stream_due due) qs cw xs
 first_below n qs cw [] due rise h = tt
 first_below n qs cw (x ∷ xs) due rise h =
-    let at : (o : Option Due) → due_on qs cw x ≡ o → option_map_or Some o (next_due qs cw xs) ≡ Some due → NoneDueBelow (stream_due due) qs cw (x ∷ xs) = elim [
+    let at : (o : Option Due) → due_on qs cw x ≡ o → option_map_or Some o (next_due qs cw xs) ≡ Some due →
+    NoneDueBelow (stream_due due) qs cw (x ∷ xs) = elim [
       | None ↦ λ is e. (λ low. is, first_below n qs cw xs due rise.2 e)
       | Some z ↦ λ is e.
           let number : stream_due due ≡ x.number = due_number cw x (stored_on x.number qs) due (is ∙ e) in
@@ -73,7 +78,8 @@ count_none s n h = elim (cases_Bool (n == 0)) [
   | inr some ↦ let no : Some (Gives s n) ≡ None = rw some at h in cc
 ]
 
-count_falls : (s size : ℕ) (sw cw low : ℤ) → low ≤ℤ cw → count_due s (part_size size sw cw) ≡ None → count_due s (part_size size sw low) ≡ None
+count_falls : (s size : ℕ) (sw cw low : ℤ) → low ≤ℤ cw → count_due s (part_size size sw cw) ≡ None →
+    count_due s (part_size size sw low) ≡ None
 count_falls s size sw cw low less h =
     let none = count_none s (part_size size sw cw) h in
     let fewer = natural_falls low cw less in
@@ -86,7 +92,8 @@ due_falls cw low x (Encoded block ∷ ps) less h = cc
 due_falls cw low x (Framed bytes ∷ ps) less h = count_falls x.number (length bytes) (window_left x.window) cw low less h
 due_falls cw low x (Ranged s ∷ ps) less h = count_falls x.number (span_size most_read s) (window_left x.window) cw low less h
 
-still_none : (s : ℕ) (qs rs : List StoredQueue) (cw low : ℤ) (xs : List Stream) → KeepsOthers s qs rs → low ≤ℤ cw → NoneDueBelow s qs cw xs →
+still_none : (s : ℕ) (qs rs : List StoredQueue) (cw low : ℤ) (xs : List Stream) → KeepsOthers s qs rs → low ≤ℤ cw →
+    NoneDueBelow s qs cw xs →
     NoneDueBelow s rs low xs
 still_none s qs rs cw low [] keeps less h = tt
 still_none s qs rs cw low (x ∷ xs) keeps less h = (
@@ -96,14 +103,16 @@ still_none s qs rs cw low (x ∷ xs) keeps less h = (
   still_none s qs rs cw low xs keeps less h.1,
 )
 
-none_without : (s : ℕ) (qs : List StoredQueue) (cw : ℤ) (xs : List Stream) → NoneDueBelow s qs cw xs → NoneDueBelow s qs cw (without_stream s xs)
+none_without : (s : ℕ) (qs : List StoredQueue) (cw : ℤ) (xs : List Stream) → NoneDueBelow s qs cw xs →
+    NoneDueBelow s qs cw (without_stream s xs)
 none_without s qs cw [] h = tt
 none_without s qs cw (x ∷ xs) h = elim (cases_Bool (x.number == s)) [
   | inl here ↦ rw here (none_without s qs cw xs h.1)
   | inr there ↦ rw there (h.0, none_without s qs cw xs h.1)
 ]
 
-none_with : (s : ℕ) (qs : List StoredQueue) (cw : ℤ) (xs : List Stream) → NoneDueBelow s qs cw (without_stream s xs) → NoneDueBelow s qs cw xs
+none_with : (s : ℕ) (qs : List StoredQueue) (cw : ℤ) (xs : List Stream) → NoneDueBelow s qs cw (without_stream s xs) →
+    NoneDueBelow s qs cw xs
 none_with s qs cw [] h = tt
 none_with s qs cw (x ∷ xs) h = elim (cases_Bool (x.number == s)) [
   | inl here ↦
@@ -118,7 +127,8 @@ none_with s qs cw (x ∷ xs) h = elim (cases_Bool (x.number == s)) [
 pub done_after : (s : ℕ) (v v1 : Standing) (qs rs : List StoredQueue) → KeepsOthers s qs rs → LeavesOthers s v v1 →
     NoneDueBelow s qs (window_left v.connection_window) v.live → NoneDueBelow s rs (window_left v1.connection_window) v1.live
 done_after s v v1 qs rs keeps leaves h =
-    let others : NoneDueBelow s rs (window_left v1.connection_window) (without_stream s v.live) = none_without s rs (window_left v1.connection_window) v.live
+    let others : NoneDueBelow s rs (window_left v1.connection_window) (without_stream s v.live) =
+    none_without s rs (window_left v1.connection_window) v.live
     (still_none s qs rs (window_left v.connection_window) (window_left v1.connection_window) v.live keeps leaves.connection h) in
     none_with s rs (window_left v1.connection_window) v1.live
     (subst (λ (xs : List Stream). NoneDueBelow s rs (window_left v1.connection_window) xs) (sym leaves.live) others)
@@ -135,7 +145,11 @@ pub leaves_same : (s : ℕ) (v : Standing) → LeavesOthers s v v
 leaves_same s v = record { live = refl; connection = omega (arith, ints) }
 
 pub leaves_more : (s : ℕ) (u v w : Standing) → LeavesOthers s u v → LeavesOthers s v w → LeavesOthers s u w
-leaves_more s u v w a b = record { live = b.live ∙ a.live; connection = (let f = a.connection in let g = b.connection in omega (arith, ints, f, g)) }
+leaves_more s u v w a b = record {
+  live = b.live ∙ a.live;
+  connection =
+      (let f = a.connection in let g = b.connection in omega (arith, ints, f, g));
+}
 
 pub keeps_removed : (s : ℕ) (qs rs : List StoredQueue) → rs ≡ map (stored_first_at s) qs → KeepsOthers s qs rs
 keeps_removed s qs rs is t off = ap (stored_on t) is ∙ stored_changed (λ ps. drop 1 ps) s t qs refl ∙ rw off refl
@@ -145,7 +159,8 @@ keeps_taken s n qs rs is t off = ap (stored_on t) is ∙ stored_changed (stored_
 
 pub keeps_forgotten : (s : ℕ) (w old : StoredSending) (rs : List StoredQueue) → w ≡ old → rs ≡ filter (λ q. not (q.stream == s)) w.queues →
     KeepsOthers s old.queues rs
-keeps_forgotten s w old rs same is t off = ap (stored_on t) is ∙ forgotten_stored s t w.queues off ∙ ap (λ (x : StoredSending). stored_on t x.queues) same
+keeps_forgotten s w old rs same is t off = ap (stored_on t) is ∙ forgotten_stored s t w.queues off
+    ∙ ap (λ (x : StoredSending). stored_on t x.queues) same
 
 pub keeps_more : (s : ℕ) (ps qs rs : List StoredQueue) → KeepsOthers s ps qs → KeepsOthers s qs rs → KeepsOthers s ps rs
 keeps_more s ps qs rs a b t off = b t off ∙ a t off

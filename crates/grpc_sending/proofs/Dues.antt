@@ -30,12 +30,16 @@ use Rattle.grpc_sending.proofs.Rounds.{has_turn, head_turn, content_of, head_liv
 
 -- ---- the same pieces in other queues
 
-puts_same : (v v1 : Standing) (w : Sending) (bs : List ℕ) (p : Position) (rs qs : List Queue) → ((t : ℕ) → pieces_on t qs ≡ pieces_on t rs) → Puts v w v1 (record { pending = bs; position = p; queues = rs }) → Puts v w v1 (record { pending = bs; position = p; queues = qs })
+puts_same : (v v1 : Standing) (w : Sending) (bs : List ℕ) (p : Position) (rs qs : List Queue) →
+    ((t : ℕ) → pieces_on t qs ≡ pieces_on t rs) → Puts v w v1 (record { pending = bs; position = p; queues = rs }) →
+    Puts v w v1 (record { pending = bs; position = p; queues = qs })
 puts_same v v1 w bs p rs qs same puts = λ d os at st.
     let r = puts d os at st in
     (r.0, r.1, r.2, stands_same (record { pending = bs; position = p; queues = rs }) (d ++ map Out r.0) os qs same r.3)
 
-finishes_same : (v v1 : Standing) (w1 : Sending) (s : ℕ) (ended : Bool) (bs : List ℕ) (p : Position) (rs qs : List Queue) → ((t : ℕ) → pieces_on t qs ≡ pieces_on t rs) → Finishes v (record { pending = bs; position = p; queues = qs }) s ended v1 w1 → Finishes v (record { pending = bs; position = p; queues = rs }) s ended v1 w1
+finishes_same : (v v1 : Standing) (w1 : Sending) (s : ℕ) (ended : Bool) (bs : List ℕ) (p : Position) (rs qs : List Queue) →
+    ((t : ℕ) → pieces_on t qs ≡ pieces_on t rs) → Finishes v (record { pending = bs; position = p; queues = qs }) s ended v1 w1 →
+    Finishes v (record { pending = bs; position = p; queues = rs }) s ended v1 w1
 finishes_same v v1 w1 s ended bs p rs qs same finish = λ d os low closed at st.
     finish d os low closed at (stands_same (record { pending = bs; position = p; queues = rs }) d os qs same st)
 
@@ -49,14 +53,17 @@ pub record IsGiven (texts : SourceTexts) (qs : List StoredQueue) (cw : ℤ) (xs 
   pub short : n ≤ 16384
   pub there : n ≤ length (front_bytes texts (stored_on s qs))
   pub front : part ≡ take n (front_bytes texts (stored_on s qs))
-  pub removed : (t : ℕ) → pieces_on t (map (queue_in texts) (map (stored_front_at s n) qs)) ≡ pieces_on t (map (without_front_at s n) (map (queue_in texts) qs))
+  pub removed : (t : ℕ) → pieces_on t (map (queue_in texts) (map (stored_front_at s n) qs))
+      ≡ pieces_on t (map (without_front_at s n) (map (queue_in texts) qs))
 
-pub given : (texts : SourceTexts) (qs : List StoredQueue) (cw : ℤ) (xs : List Stream) (s n : ℕ) → QueuesEndWithin texts qs → next_due qs cw xs ≡ Some (Gives s n) → IsGiven texts qs cw xs s n
+pub given : (texts : SourceTexts) (qs : List StoredQueue) (cw : ℤ) (xs : List Stream) (s n : ℕ) → QueuesEndWithin texts qs →
+    next_due qs cw xs ≡ Some (Gives s n) → IsGiven texts qs cw xs s n
 given texts qs cw xs s n fit h =
     let c = turn_content texts qs cw xs s n fit h in
     let t = has_turn (map (queue_in texts) qs) cw xs (Content s c.part) c.turn in
     let i = content_of cw t.at (pieces_on t.at.number (map (queue_in texts) qs)) s c.part t.turn in
-    let ps : pieces_on s (map (queue_in texts) qs) ≡ Part i.bytes i.ends ∷ i.rest = ap (λ k. pieces_on k (map (queue_in texts) qs)) (sym i.number) ∙ i.pieces in
+    let ps : pieces_on s (map (queue_in texts) qs) ≡ Part i.bytes i.ends ∷ i.rest =
+    ap (λ k. pieces_on k (map (queue_in texts) qs)) (sym i.number) ∙ i.pieces in
     let f : front_bytes texts (stored_on s qs) ≡ i.bytes = front_is texts s qs i.bytes i.ends i.rest fit ps in
     let fits' : n ≤ length i.bytes = omega (arith, i.there, c.size) in
     record {
@@ -70,57 +77,88 @@ given texts qs cw xs s n fit h =
       removed = part_removed texts s n qs i.bytes i.ends i.rest fit ps fits';
     }
 
-pub puts_given : (texts : SourceTexts) (v v1 : Standing) (w old : StoredSending) (s n : ℕ) (bytes : List ℕ) (rs : List StoredQueue) → w ≡ old → v.failed ≡ false → length w.pending < 65536 → QueuesEndWithin texts w.queues → next_due w.queues (window_left v.connection_window) v.live ≡ Some (Gives s n) →
-    ((d : List Entry) (content : List ℕ) → length content ≡ n → CanSend v s n → AreStreams v d → AreStreams v1 (d ++ Out (Data s false content) ∷ [])) →
-    bytes ≡ w.pending ++ text_of (Data s false (take n (front_bytes texts (stored_on s w.queues)))) → rs ≡ map (stored_front_at s n) w.queues →
+pub puts_given : (texts : SourceTexts) (v v1 : Standing) (w old : StoredSending) (s n : ℕ) (bytes : List ℕ) (rs : List StoredQueue) →
+    w ≡ old → v.failed ≡ false → length w.pending < 65536 → QueuesEndWithin texts w.queues →
+    next_due w.queues (window_left v.connection_window) v.live ≡ Some (Gives s n) →
+    ((d : List Entry) (content : List ℕ) → length content ≡ n → CanSend v s n → AreStreams v d →
+    AreStreams v1 (d ++ Out (Data s false content) ∷ [])) →
+    bytes ≡ w.pending ++ text_of (Data s false (take n (front_bytes texts (stored_on s w.queues)))) →
+    rs ≡ map (stored_front_at s n) w.queues →
     Puts v (sending_in texts old) v1 (record { pending = bytes; position = w.position; queues = map (queue_in texts) rs })
 puts_given texts v v1 w old s n bytes rs is alive room fit turn put new queues =
     let i = given texts w.queues (window_left v.connection_window) v.live s n fit turn in
     let part = i.part in
-    let b : bytes ≡ w.pending ++ text_of (Data s false i.part) = new ∙ ap (λ (p : List ℕ). w.pending ++ text_of (Data s false p)) (sym i.front) in
-    puts_same v v1 (sending_in texts old) bytes w.position (map (without_front_at s n) (map (queue_in texts) w.queues)) (map (queue_in texts) rs)
+    let b : bytes ≡ w.pending ++ text_of (Data s false i.part) =
+    new ∙ ap (λ (p : List ℕ). w.pending ++ text_of (Data s false p)) (sym i.front) in
+    puts_same v v1 (sending_in texts old) bytes w.position (map (without_front_at s n) (map (queue_in texts) w.queues))
+    (map (queue_in texts) rs)
     (λ t. ap (λ (qs : List StoredQueue). pieces_on t (map (queue_in texts) qs)) queues ∙ i.removed t)
-    (puts_part_by v v1 (sending_in texts w) (sending_in texts old) s n i.part bytes (map (without_front_at s n) (map (queue_in texts) w.queues)) (ap (sending_in texts) is) alive room i.turn (sym i.size) put b refl)
+    (puts_part_by v v1 (sending_in texts w) (sending_in texts old) s n i.part bytes
+    (map (without_front_at s n) (map (queue_in texts) w.queues)) (ap (sending_in texts) is) alive room i.turn (sym i.size) put b refl)
 
-pub rests_undue : (texts : SourceTexts) (v : Standing) (w old : StoredSending) → w ≡ old → v.failed ≡ false → length w.pending < 65536 → QueuesEndWithin texts w.queues → next_due w.queues (window_left v.connection_window) v.live ≡ None → Rests v (sending_in texts old)
+pub rests_undue : (texts : SourceTexts) (v : Standing) (w old : StoredSending) → w ≡ old → v.failed ≡ false → length w.pending < 65536 →
+    QueuesEndWithin texts w.queues → next_due w.queues (window_left v.connection_window) v.live ≡ None → Rests v (sending_in texts old)
 rests_undue texts v w old is alive room fit turn =
-    subst (λ (x : StoredSending). Rests v (sending_in texts x)) is (rests_none v (sending_in texts w) alive room (turn_none texts w.queues (window_left v.connection_window) v.live fit turn))
+    subst (λ (x : StoredSending). Rests v (sending_in texts x)) is
+    (rests_none v (sending_in texts w) alive room (turn_none texts w.queues (window_left v.connection_window) v.live fit turn))
 
 -- ---- a turn with a block
 
-pub opens_lives : (texts : SourceTexts) (qs : List StoredQueue) (cw : ℤ) (xs : List Stream) (s : ℕ) (block : ResponseBlock) (ended : Bool) → QueuesEndWithin texts qs → next_due qs cw xs ≡ Some (Opens s block ended) → list_any (number_is s) xs ≡ true
-opens_lives texts qs cw xs s block ended fit h = head_lives (map (queue_in texts) qs) cw xs s block ended (turn_head texts qs cw xs s block ended fit h)
+pub opens_lives : (texts : SourceTexts) (qs : List StoredQueue) (cw : ℤ) (xs : List Stream) (s : ℕ) (block : ResponseBlock) (ended : Bool) →
+    QueuesEndWithin texts qs → next_due qs cw xs ≡ Some (Opens s block ended) → list_any (number_is s) xs ≡ true
+opens_lives texts qs cw xs s block ended fit h =
+    head_lives (map (queue_in texts) qs) cw xs s block ended (turn_head texts qs cw xs s block ended fit h)
 
-removed : (texts : SourceTexts) (qs : List StoredQueue) (cw : ℤ) (xs : List Stream) (s : ℕ) (block : ResponseBlock) (ended : Bool) → QueuesEndWithin texts qs → next_due qs cw xs ≡ Some (Opens s block ended) →
-    (t : ℕ) → pieces_on t (map (queue_in texts) (map (stored_first_at s) qs)) ≡ pieces_on t (map (without_first_at s) (map (queue_in texts) qs))
+removed : (texts : SourceTexts) (qs : List StoredQueue) (cw : ℤ) (xs : List Stream) (s : ℕ) (block : ResponseBlock) (ended : Bool) →
+    QueuesEndWithin texts qs → next_due qs cw xs ≡ Some (Opens s block ended) →
+    (t : ℕ) → pieces_on t (map (queue_in texts) (map (stored_first_at s) qs))
+    ≡ pieces_on t (map (without_first_at s) (map (queue_in texts) qs))
 removed texts qs cw xs s block ended fit h =
     let turn = turn_head texts qs cw xs s block ended fit h in
     let t = has_turn (map (queue_in texts) qs) cw xs (Head s block ended) turn in
     let i = head_turn cw t.at (pieces_on t.at.number (map (queue_in texts) qs)) s block ended t.turn in
-    let ps : pieces_on s (map (queue_in texts) qs) ≡ Block block ∷ i.rest = ap (λ k. pieces_on k (map (queue_in texts) qs)) (sym i.number) ∙ i.pieces in
+    let ps : pieces_on s (map (queue_in texts) qs) ≡ Block block ∷ i.rest =
+    ap (λ k. pieces_on k (map (queue_in texts) qs)) (sym i.number) ∙ i.pieces in
     block_removed texts s qs block i.rest fit ps
 
 -- what is kept when a block was put
-pub record HasOpened (w : StoredSending) (s : ℕ) (block : ResponseBlock) (is_end : Bool) (text bytes : List ℕ) (rs : List StoredQueue) : Type 0 where
+pub record HasOpened (w : StoredSending) (s : ℕ) (block : ResponseBlock) (is_end : Bool) (text bytes : List ℕ)
+    (rs : List StoredQueue) : Type 0 where
   pub ends : is_end ≡ is_last block
   pub encoded : text ≡ block_text Later (fields_of block)
   pub put : bytes ≡ w.pending ++ text_of (Headers s is_end true (block_opening w.position ++ text))
   pub queues : rs ≡ map (stored_first_at s) w.queues
 
-pub opens_block : (texts : SourceTexts) (v v1 : Standing) (w old : StoredSending) (s : ℕ) (block : ResponseBlock) (ended last : Bool) (text bytes : List ℕ) (rs : List StoredQueue) → w ≡ old → v.failed ≡ false → length w.pending < 65536 → QueuesEndWithin texts w.queues → next_due w.queues (window_left v.connection_window) v.live ≡ Some (Opens s block ended) → last ≡ false →
-    ((d : List Entry) (end_headers : Bool) (fragment : List ℕ) → AreStreams v d → AreStreams v1 (d ++ Out (Headers s last end_headers fragment) ∷ [])) → HasOpened w s block last text bytes rs →
+pub opens_block : (texts : SourceTexts) (v v1 : Standing) (w old : StoredSending) (s : ℕ) (block : ResponseBlock) (ended last : Bool)
+    (text bytes : List ℕ) (rs : List StoredQueue) → w ≡ old → v.failed ≡ false → length w.pending < 65536 → QueuesEndWithin texts w.queues →
+    next_due w.queues (window_left v.connection_window) v.live ≡ Some (Opens s block ended) → last ≡ false →
+    ((d : List Entry) (end_headers : Bool) (fragment : List ℕ) → AreStreams v d →
+    AreStreams v1 (d ++ Out (Headers s last end_headers fragment) ∷ [])) → HasOpened w s block last text bytes rs →
     Puts v (sending_in texts old) v1 (record { pending = bytes; position = Later; queues = map (queue_in texts) rs })
 opens_block texts v v1 w old s block ended last text bytes rs is alive room fit turn goes_on put h =
-    let h' : HasPut (sending_in texts w) s block last text bytes (map (without_first_at s) (map (queue_in texts) w.queues)) = record { ends = h.ends; encoded = h.encoded; put = h.put; queues = refl } in
+    let h' : HasPut (sending_in texts w) s block last text bytes (map (without_first_at s) (map (queue_in texts) w.queues)) =
+    record { ends = h.ends; encoded = h.encoded; put = h.put; queues = refl } in
     puts_same v v1 (sending_in texts old) bytes Later (map (without_first_at s) (map (queue_in texts) w.queues)) (map (queue_in texts) rs)
-    (λ t. ap (λ (qs : List StoredQueue). pieces_on t (map (queue_in texts) qs)) h.queues ∙ removed texts w.queues (window_left v.connection_window) v.live s block ended fit turn t)
-    (puts_block_by v v1 (sending_in texts w) (sending_in texts old) s block ended last text bytes (map (without_first_at s) (map (queue_in texts) w.queues)) (ap (sending_in texts) is) alive room (turn_head texts w.queues (window_left v.connection_window) v.live s block ended fit turn) goes_on put h')
+    (λ t. ap (λ (qs : List StoredQueue). pieces_on t (map (queue_in texts) qs)) h.queues
+    ∙ removed texts w.queues (window_left v.connection_window) v.live s block ended fit turn t)
+    (puts_block_by v v1 (sending_in texts w) (sending_in texts old) s block ended last text bytes
+    (map (without_first_at s) (map (queue_in texts) w.queues)) (ap (sending_in texts) is) alive room
+    (turn_head texts w.queues (window_left v.connection_window) v.live s block ended fit turn) goes_on put h')
 
-pub opens_last : (texts : SourceTexts) (v v1 v2 : Standing) (w old : StoredSending) (w2 : Sending) (s : ℕ) (block : ResponseBlock) (ended last : Bool) (text bytes : List ℕ) (rs : List StoredQueue) → w ≡ old → v.failed ≡ false → length w.pending < 65536 → QueuesEndWithin texts w.queues → next_due w.queues (window_left v.connection_window) v.live ≡ Some (Opens s block ended) → last ≡ true →
-    ((d : List Entry) (end_headers : Bool) (fragment : List ℕ) → AreStreams v d → AreStreams v1 (d ++ Out (Headers s last end_headers fragment) ∷ [])) → v1.highest ≡ v.highest → HasOpened w s block last text bytes rs →
-    Finishes v1 (record { pending = bytes; position = Later; queues = map (queue_in texts) rs }) s ended v2 w2 → Puts v (sending_in texts old) v2 w2
+pub opens_last : (texts : SourceTexts) (v v1 v2 : Standing) (w old : StoredSending) (w2 : Sending) (s : ℕ) (block : ResponseBlock)
+    (ended last : Bool) (text bytes : List ℕ) (rs : List StoredQueue) → w ≡ old → v.failed ≡ false → length w.pending < 65536 →
+    QueuesEndWithin texts w.queues → next_due w.queues (window_left v.connection_window) v.live ≡ Some (Opens s block ended) → last ≡ true →
+    ((d : List Entry) (end_headers : Bool) (fragment : List ℕ) → AreStreams v d →
+    AreStreams v1 (d ++ Out (Headers s last end_headers fragment) ∷ [])) → v1.highest ≡ v.highest →
+    HasOpened w s block last text bytes rs →
+    Finishes v1 (record { pending = bytes; position = Later; queues = map (queue_in texts) rs }) s ended v2 w2 →
+    Puts v (sending_in texts old) v2 w2
 opens_last texts v v1 v2 w old w2 s block ended last text bytes rs is alive room fit turn ends_it put high h finish =
-    let h' : HasPut (sending_in texts w) s block last text bytes (map (without_first_at s) (map (queue_in texts) w.queues)) = record { ends = h.ends; encoded = h.encoded; put = h.put; queues = refl } in
-    puts_last_by v v1 v2 (sending_in texts w) (sending_in texts old) w2 s block ended last text bytes (map (without_first_at s) (map (queue_in texts) w.queues)) (ap (sending_in texts) is) alive room (turn_head texts w.queues (window_left v.connection_window) v.live s block ended fit turn) ends_it put high h'
+    let h' : HasPut (sending_in texts w) s block last text bytes (map (without_first_at s) (map (queue_in texts) w.queues)) =
+    record { ends = h.ends; encoded = h.encoded; put = h.put; queues = refl } in
+    puts_last_by v v1 v2 (sending_in texts w) (sending_in texts old) w2 s block ended last text bytes
+    (map (without_first_at s) (map (queue_in texts) w.queues)) (ap (sending_in texts) is) alive room
+    (turn_head texts w.queues (window_left v.connection_window) v.live s block ended fit turn) ends_it put high h'
     (finishes_same v1 v2 w2 s ended bytes Later (map (without_first_at s) (map (queue_in texts) w.queues)) (map (queue_in texts) rs)
-    (λ t. ap (λ (qs : List StoredQueue). pieces_on t (map (queue_in texts) qs)) h.queues ∙ removed texts w.queues (window_left v.connection_window) v.live s block ended fit turn t) finish)
+    (λ t. ap (λ (qs : List StoredQueue). pieces_on t (map (queue_in texts) qs)) h.queues
+    ∙ removed texts w.queues (window_left v.connection_window) v.live s block ended fit turn t) finish)

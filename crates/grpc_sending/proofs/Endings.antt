@@ -40,9 +40,11 @@ stays_closed d fs s h = elim (cases_Bool (is_not_closed (d ++ map Out fs) s)) [
   | inr closed ↦ closed
 ]
 
-before : (d : List Entry) (fs : List Frame) (qs rs : List StoredQueue) (s : ℕ) → list_any (ends s) fs ≡ false → AddsNone qs rs → ForgetsEnded qs d → is_ended_by_server (d ++ map Out fs) s ≡ true → (is_not_closed (d ++ map Out fs) s ≡ false) × (stored_on s rs ≡ [])
+before : (d : List Entry) (fs : List Frame) (qs rs : List StoredQueue) (s : ℕ) → list_any (ends s) fs ≡ false → AddsNone qs rs →
+    ForgetsEnded qs d → is_ended_by_server (d ++ map Out fs) s ≡ true → (is_not_closed (d ++ map Out fs) s ≡ false) × (stored_on s rs ≡ [])
 before d fs qs rs s quiet none h e =
-    let is : is_ended_by_server (d ++ map Out fs) s ≡ (is_ended_by_server d s || list_any (ends s) fs) = ap (list_any (ends s)) (sent_more d fs) ∙ list_any-append (ends s) (sent_frames d) fs in
+    let is : is_ended_by_server (d ++ map Out fs) s ≡ (is_ended_by_server d s || list_any (ends s) fs) =
+    ap (list_any (ends s)) (sent_more d fs) ∙ list_any-append (ends s) (sent_frames d) fs in
     let k = h s (later (is_ended_by_server d s) (list_any (ends s) fs) quiet (sym is ∙ e)) in
     (stays_closed d fs s k.0, none s k.1)
 
@@ -51,7 +53,8 @@ reset_quiet t s true = refl
 reset_quiet t s false = refl
 
 -- the frames of a block end its stream, where it is the last
-block_quiet : (d : List Entry) (s t : ℕ) (block : ResponseBlock) (b : Bool) → (is_last block && s == t) ≡ false → list_any (ends t) (block_frame d s block ∷ reset_after s b) ≡ false
+block_quiet : (d : List Entry) (s t : ℕ) (block : ResponseBlock) (b : Bool) → (is_last block && s == t) ≡ false →
+    list_any (ends t) (block_frame d s block ∷ reset_after s b) ≡ false
 block_quiet d s t block b h = ap (λ c. c || list_any (ends t) (reset_after s b)) h ∙ reset_quiet t s b
 
 and_none : (b : Bool) → (b && false) ≡ false
@@ -63,64 +66,98 @@ same_some x y h = cc
 
 -- ---- a turn with bytes
 
-pub given_ends : (texts : SourceTexts) (v : Standing) (w old : StoredSending) (s n : ℕ) (rs : List StoredQueue) → w ≡ old → v.failed ≡ false → length w.pending < 65536 → QueuesEndWithin texts w.queues → next_due w.queues (window_left v.connection_window) v.live ≡ Some (Gives s n) → AddsNone old.queues rs →
-    (d : List Entry) (os : List OwedItem) → AreStreams v d → IsStoredSending texts old d os → ForgetsEnded old.queues d → (fs : List Frame) → next_frames d os ≡ Some fs → ForgetsEnded rs (d ++ map Out fs)
+pub given_ends : (texts : SourceTexts) (v : Standing) (w old : StoredSending) (s n : ℕ) (rs : List StoredQueue) → w ≡ old →
+    v.failed ≡ false → length w.pending < 65536 → QueuesEndWithin texts w.queues →
+    next_due w.queues (window_left v.connection_window) v.live ≡ Some (Gives s n) → AddsNone old.queues rs →
+    (d : List Entry) (os : List OwedItem) → AreStreams v d → IsStoredSending texts old d os → ForgetsEnded old.queues d →
+    (fs : List Frame) → next_frames d os ≡ Some fs → ForgetsEnded rs (d ++ map Out fs)
 given_ends texts v w old s n rs is alive room fit turn none d os at st h fs next =
     let i = given texts w.queues (window_left v.connection_window) v.live s n fit turn in
     let st' : IsSending (sending_in texts w) d os = subst (λ (x : StoredSending). IsSending (sending_in texts x) d os) (sym is) st in
-    let e : frames_of d (Content s i.part) ≡ fs = same_some (frames_of d (Content s i.part)) fs (sym (next_some v (sending_in texts w) d os (Content s i.part) at st' alive room i.turn) ∙ next) in
-    subst (λ (gs : List Frame). ForgetsEnded rs (d ++ map Out gs)) e (λ t. before d (frames_of d (Content s i.part)) old.queues rs t refl none h)
+    let e : frames_of d (Content s i.part) ≡ fs =
+    same_some (frames_of d (Content s i.part)) fs
+    (sym (next_some v (sending_in texts w) d os (Content s i.part) at st' alive room i.turn) ∙ next) in
+    subst (λ (gs : List Frame). ForgetsEnded rs (d ++ map Out gs)) e
+    (λ t. before d (frames_of d (Content s i.part)) old.queues rs t refl none h)
 
 -- ---- a turn with a block
 
-pub opens_ends : (texts : SourceTexts) (v : Standing) (w old : StoredSending) (s : ℕ) (block : ResponseBlock) (ended last : Bool) (rs : List StoredQueue) → w ≡ old → v.failed ≡ false → length w.pending < 65536 → QueuesEndWithin texts w.queues → next_due w.queues (window_left v.connection_window) v.live ≡ Some (Opens s block ended) → last ≡ is_last block → last ≡ false → AddsNone old.queues rs →
-    (d : List Entry) (os : List OwedItem) → AreStreams v d → IsStoredSending texts old d os → ForgetsEnded old.queues d → (fs : List Frame) → next_frames d os ≡ Some fs → ForgetsEnded rs (d ++ map Out fs)
+pub opens_ends : (texts : SourceTexts) (v : Standing) (w old : StoredSending) (s : ℕ) (block : ResponseBlock) (ended last : Bool)
+    (rs : List StoredQueue) → w ≡ old → v.failed ≡ false → length w.pending < 65536 → QueuesEndWithin texts w.queues →
+    next_due w.queues (window_left v.connection_window) v.live ≡ Some (Opens s block ended) → last ≡ is_last block → last ≡ false →
+    AddsNone old.queues rs →
+    (d : List Entry) (os : List OwedItem) → AreStreams v d → IsStoredSending texts old d os → ForgetsEnded old.queues d →
+    (fs : List Frame) → next_frames d os ≡ Some fs → ForgetsEnded rs (d ++ map Out fs)
 opens_ends texts v w old s block ended last rs is alive room fit turn ends_is goes_on none d os at st h fs next =
     let t1 = turn_head texts w.queues (window_left v.connection_window) v.live s block ended fit turn in
     let st' : IsSending (sending_in texts w) d os = subst (λ (x : StoredSending). IsSending (sending_in texts x) d os) (sym is) st in
-    let e : frames_of d (Head s block ended) ≡ fs = same_some (frames_of d (Head s block ended)) fs (sym (next_some v (sending_in texts w) d os (Head s block ended) at st' alive room t1) ∙ next) in
+    let e : frames_of d (Head s block ended) ≡ fs =
+    same_some (frames_of d (Head s block ended)) fs
+    (sym (next_some v (sending_in texts w) d os (Head s block ended) at st' alive room t1) ∙ next) in
     let not_last : is_last block ≡ false = sym ends_is ∙ goes_on in
-    subst (λ (gs : List Frame). ForgetsEnded rs (d ++ map Out gs)) e (λ t. before d (frames_of d (Head s block ended)) old.queues rs t (block_quiet d s t block (is_last block && not ended) (ap (λ b. b && s == t) not_last)) none h)
+    subst (λ (gs : List Frame). ForgetsEnded rs (d ++ map Out gs)) e
+    (λ t. before d (frames_of d (Head s block ended)) old.queues rs t
+    (block_quiet d s t block (is_last block && not ended) (ap (λ b. b && s == t) not_last)) none h)
 
-last_closed : (d : List Entry) (s : ℕ) (block : ResponseBlock) (ended : Bool) → is_last block ≡ true → is_ended_by_client d s ≡ ended → is_not_closed (d ++ map Out (block_frame d s block ∷ reset_after s (is_last block && not ended))) s ≡ false
-last_closed d s block true last by_client = ap (λ b. is_not_closed (d ++ map Out (block_frame d s block ∷ reset_after s (b && false))) s) last ∙ closes d s block last by_client
+last_closed : (d : List Entry) (s : ℕ) (block : ResponseBlock) (ended : Bool) → is_last block ≡ true → is_ended_by_client d s ≡ ended →
+    is_not_closed (d ++ map Out (block_frame d s block ∷ reset_after s (is_last block && not ended))) s ≡ false
+last_closed d s block true last by_client = ap
+    (λ b. is_not_closed (d ++ map Out (block_frame d s block ∷ reset_after s (b && false))) s) last ∙ closes d s block last by_client
 last_closed d s block false last by_client =
     ap (λ b. is_not_closed (d ++ map Out (block_frame d s block ∷ reset_after s (b && true))) s) last
     ∙ ap (λ (x : List Entry). is_not_closed x s) (sym (append_assoc d (Out (block_frame d s block) ∷ []) (Out (RstStream s 0) ∷ [])))
     ∙ reset_closes (d ++ Out (block_frame d s block) ∷ []) s 0
 
-pub last_ends : (texts : SourceTexts) (v : Standing) (w old : StoredSending) (s : ℕ) (block : ResponseBlock) (ended last : Bool) (rs : List StoredQueue) → w ≡ old → v.failed ≡ false → length w.pending < 65536 → QueuesEndWithin texts w.queues → next_due w.queues (window_left v.connection_window) v.live ≡ Some (Opens s block ended) → last ≡ is_last block → last ≡ true → stored_on s rs ≡ [] → AddsNone old.queues rs →
-    (d : List Entry) (os : List OwedItem) → AreStreams v d → IsStoredSending texts old d os → ForgetsEnded old.queues d → (fs : List Frame) → next_frames d os ≡ Some fs → ForgetsEnded rs (d ++ map Out fs)
+pub last_ends : (texts : SourceTexts) (v : Standing) (w old : StoredSending) (s : ℕ) (block : ResponseBlock) (ended last : Bool)
+    (rs : List StoredQueue) → w ≡ old → v.failed ≡ false → length w.pending < 65536 → QueuesEndWithin texts w.queues →
+    next_due w.queues (window_left v.connection_window) v.live ≡ Some (Opens s block ended) → last ≡ is_last block → last ≡ true →
+    stored_on s rs ≡ [] → AddsNone old.queues rs →
+    (d : List Entry) (os : List OwedItem) → AreStreams v d → IsStoredSending texts old d os → ForgetsEnded old.queues d →
+    (fs : List Frame) → next_frames d os ≡ Some fs → ForgetsEnded rs (d ++ map Out fs)
 last_ends texts v w old s block ended last rs is alive room fit turn ends_is ends_it dropped none d os at st h fs next =
     let t1 = turn_head texts w.queues (window_left v.connection_window) v.live s block ended fit turn in
     let st' : IsSending (sending_in texts w) d os = subst (λ (x : StoredSending). IsSending (sending_in texts x) d os) (sym is) st in
-    let e : frames_of d (Head s block ended) ≡ fs = same_some (frames_of d (Head s block ended)) fs (sym (next_some v (sending_in texts w) d os (Head s block ended) at st' alive room t1) ∙ next) in
+    let e : frames_of d (Head s block ended) ≡ fs =
+    same_some (frames_of d (Head s block ended)) fs
+    (sym (next_some v (sending_in texts w) d os (Head s block ended) at st' alive room t1) ∙ next) in
     let i = in_history v (sending_in texts w) d (Head s block ended) at alive t1 in
-    let k = head_turn (window_left (connection_window d)) (stream_at d i.at) (pieces_on i.at (map (queue_in texts) w.queues)) s block ended i.turn in
+    let k = head_turn (window_left (connection_window d)) (stream_at d i.at)
+    (pieces_on i.at (map (queue_in texts) w.queues)) s block ended i.turn in
     let by_client : is_ended_by_client d s ≡ ended = ap (is_ended_by_client d) (sym k.number) ∙ k.ended_by_client in
     let closed = last_closed d s block ended (sym ends_is ∙ ends_it) by_client in
     subst (λ (gs : List Frame). ForgetsEnded rs (d ++ map Out gs)) e (λ t ended'. elim (cases_Bool (s == t)) [
-      | inl same ↦ let n : s ≡ t = eqb-true s t same in (ap (is_not_closed (d ++ map Out (frames_of d (Head s block ended)))) (sym n) ∙ closed, ap (λ m. stored_on m rs) (sym n) ∙ dropped)
-      | inr other ↦ before d (frames_of d (Head s block ended)) old.queues rs t (block_quiet d s t block (is_last block && not ended) (ap (λ b. is_last block && b) other ∙ and_none (is_last block))) none h ended'
+      | inl same ↦ let n : s ≡ t = eqb-true s t same in (
+        ap (is_not_closed (d ++ map Out (frames_of d (Head s block ended)))) (sym n) ∙ closed,
+        ap (λ m. stored_on m rs) (sym n)
+            ∙ dropped,
+      )
+      | inr other ↦ before d (frames_of d (Head s block ended)) old.queues rs t
+          (block_quiet d s t block (is_last block && not ended) (ap (λ b. is_last block && b) other ∙ and_none (is_last block))) none h
+          ended'
     ])
 
 -- ---- turns, one after another
 
 abbrev pub Ending : SourceTexts → Standing → StoredSending → Standing → StoredSending → Type 0
 Ending texts v w v' w' = (d : List Entry) (os : List OwedItem) → AreStreams v d → IsStoredSending texts w d os → ForgetsEnded w.queues d →
-    (e : List Entry) × AreStreams v' e × IsStoredSending texts w' e os × (history_after_pump e os ≡ history_after_pump d os) × ForgetsEnded w'.queues e
+    (e : List Entry) × AreStreams v' e × IsStoredSending texts w' e os × (history_after_pump e os ≡ history_after_pump d os)
+    × ForgetsEnded w'.queues e
 
 pub ending_none : (texts : SourceTexts) (v : Standing) (w : StoredSending) → Ending texts v w v w
 ending_none texts v w = λ d os at st h. (d, at, st, refl, h)
 
-pub ending_more : (texts : SourceTexts) (v v1 v2 : Standing) (w w1 w2 : StoredSending) → Ending texts v w v1 w1 → PutsBy texts v1 w1 v2 w2 → EndsBy texts v1 w1 w2 → Ending texts v w v2 w2
+pub ending_more : (texts : SourceTexts) (v v1 v2 : Standing) (w w1 w2 : StoredSending) → Ending texts v w v1 w1 → PutsBy texts v1 w1 v2 w2 →
+    EndsBy texts v1 w1 w2 → Ending texts v w v2 w2
 ending_more texts v v1 v2 w w1 w2 ending puts ended = λ d os at st h.
     let p = ending d os at st h in
     let q = puts p.0 os p.1 p.2 in
     (p.0 ++ map Out q.0, q.2, q.3, sym (pumped_some p.0 os q.0 p.2.taken q.1) ∙ p.3, ended p.0 os p.1 p.2 p.4 q.0 q.1)
 
-pub ending_by : (texts : SourceTexts) (v v1 : Standing) (w w1 w2 : StoredSending) → Ending texts v w v1 w1 → Rests v1 (sending_in texts w1) → w2 ≡ w1 → (d : List Entry) (os : List OwedItem) → AreStreams v d → IsStoredSending texts w d os → ForgetsEnded w.queues d → ForgetsEnded w2.queues (history_after_pump d os)
+pub ending_by : (texts : SourceTexts) (v v1 : Standing) (w w1 w2 : StoredSending) → Ending texts v w v1 w1 →
+    Rests v1 (sending_in texts w1) → w2 ≡ w1 → (d : List Entry) (os : List OwedItem) → AreStreams v d → IsStoredSending texts w d os →
+    ForgetsEnded w.queues d → ForgetsEnded w2.queues (history_after_pump d os)
 ending_by texts v v1 w w1 w2 ending rests same = λ d os at st h.
     let p = ending d os at st h in
     let e : p.0 ≡ history_after_pump d os = sym (pumped_none p.0 os (rests p.0 os p.1 p.2)) ∙ p.3 in
-    subst (λ (x : StoredSending). ForgetsEnded x.queues (history_after_pump d os)) (sym same) (subst (λ (x : List Entry). ForgetsEnded w1.queues x) e p.4)
+    subst (λ (x : StoredSending). ForgetsEnded x.queues (history_after_pump d os)) (sym same)
+    (subst (λ (x : List Entry). ForgetsEnded w1.queues x) e p.4)

@@ -28,7 +28,8 @@ append-nil [] = refl
 append-nil (x ∷ xs) = ap (λ ys. x ∷ ys) (append-nil xs)
 
 pub received_more : (d : List Entry) (fs : List Frame) → received_frames (d ++ map Out fs) ≡ received_frames d
-received_more d fs = filter_map-append frame_in d (map Out fs) ∙ ap (λ gs. received_frames d ++ gs) (out_received fs) ∙ append-nil (received_frames d)
+received_more d fs = filter_map-append frame_in d (map Out fs) ∙ ap (λ gs. received_frames d ++ gs) (out_received fs)
+    ∙ append-nil (received_frames d)
 
 out_taken : (fs : List Frame) → sum_by count_taken_by (map Out fs) ≡ 0
 out_taken [] = refl
@@ -40,13 +41,17 @@ taken_more d fs = sum_by-append count_taken_by d (map Out fs) ∙ omega (arith, 
 pub bytes_more : (d : List Entry) (fs : List Frame) → bytes_put (d ++ map Out fs) ≡ bytes_put d ++ flat_map text_of fs
 bytes_more d fs = ap (flat_map text_of) (sent_more d fs) ∙ flat_map-append text_of (sent_frames d) fs
 
-pub pending_more : (d : List Entry) (fs : List Frame) → count_taken d ≤ length (bytes_put d) → pending_bytes (d ++ map Out fs) ≡ pending_bytes d ++ flat_map text_of fs
-pending_more d fs h = ap (λ n. drop n (bytes_put (d ++ map Out fs))) (taken_more d fs) ∙ ap (drop (count_taken d)) (bytes_more d fs) ∙ drop-append-le (count_taken d) (bytes_put d) (flat_map text_of fs) h
+pub pending_more : (d : List Entry) (fs : List Frame) → count_taken d ≤ length (bytes_put d) →
+    pending_bytes (d ++ map Out fs) ≡ pending_bytes d ++ flat_map text_of fs
+pending_more d fs h = ap (λ n. drop n (bytes_put (d ++ map Out fs))) (taken_more d fs) ∙ ap (drop (count_taken d)) (bytes_more d fs)
+    ∙ drop-append-le (count_taken d) (bytes_put d) (flat_map text_of fs) h
 
-pub taken_within : (d : List Entry) (fs : List Frame) → count_taken d ≤ length (bytes_put d) → count_taken (d ++ map Out fs) ≤ length (bytes_put (d ++ map Out fs))
+pub taken_within : (d : List Entry) (fs : List Frame) → count_taken d ≤ length (bytes_put d) →
+    count_taken (d ++ map Out fs) ≤ length (bytes_put (d ++ map Out fs))
 taken_within d fs h = omega (arith, taken_more d fs, ap length (bytes_more d fs), length-append (bytes_put d) (flat_map text_of fs))
 
-pub untaken_more : (d : List Entry) (fs : List Frame) → count_taken d ≤ length (bytes_put d) → untaken_count (d ++ map Out fs) ≡ untaken_count d + length (flat_map text_of fs)
+pub untaken_more : (d : List Entry) (fs : List Frame) → count_taken d ≤ length (bytes_put d) →
+    untaken_count (d ++ map Out fs) ≡ untaken_count d + length (flat_map text_of fs)
 untaken_more d fs h = ap length (pending_more d fs h) ∙ length-append (pending_bytes d) (flat_map text_of fs)
 
 pub text_some : (r : RawFrame) → 0 < length (frame_text r)

@@ -25,13 +25,15 @@ use Rattle.grpc_sending.proofs.Stored.{on_in}
 
 ends_append : (ps qs : List Piece) → flat_map ends_of (ps ++ qs) ≡ flat_map ends_of ps ++ flat_map ends_of qs
 ends_append [] qs = refl
-ends_append (p ∷ ps) qs = ap (λ (ts : List (List ℕ)). ends_of p ++ ts) (ends_append ps qs) ∙ assoc (ends_of p) (flat_map ends_of ps) (flat_map ends_of qs) where
-  assoc : (xs ys zs : List (List ℕ)) → xs ++ (ys ++ zs) ≡ (xs ++ ys) ++ zs
-  assoc [] ys zs = refl
-  assoc (x ∷ xs) ys zs = ap (λ (ts : List (List ℕ)). x ∷ ts) (assoc xs ys zs)
+ends_append (p ∷ ps) qs = ap (λ (ts : List (List ℕ)). ends_of p ++ ts) (ends_append ps qs)
+    ∙ assoc (ends_of p) (flat_map ends_of ps) (flat_map ends_of qs) where
+      assoc : (xs ys zs : List (List ℕ)) → xs ++ (ys ++ zs) ≡ (xs ++ ys) ++ zs
+      assoc [] ys zs = refl
+      assoc (x ∷ xs) ys zs = ap (λ (ts : List (List ℕ)). x ∷ ts) (assoc xs ys zs)
 
 -- the messages of some bytes: with the last the range ends
-ends_cut : (text : List ℕ) (m k : ℕ) (bytes : List ℕ) → 0 < m → 0 < length bytes → length bytes ≤ k → flat_map ends_of (message_pieces text m k bytes) ≡ text ∷ []
+ends_cut : (text : List ℕ) (m k : ℕ) (bytes : List ℕ) → 0 < m → 0 < length bytes → length bytes ≤ k →
+    flat_map ends_of (message_pieces text m k bytes) ≡ text ∷ []
 ends_cut text m zero bytes pos some few = absurd (omega (arith, some, few))
 ends_cut text m (suc k) bytes pos some few = elim (cases_Bool (nat_lt m (length bytes))) [
   | inl more ↦
@@ -60,7 +62,8 @@ ends_span s text is =
     ]
 
 -- those of what is kept for a stream
-pub ends_stored : (texts : SourceTexts) (ps : List StoredPiece) → EndWithinTexts texts ps → map texts (sources_in ps) ≡ flat_map ends_of (flat_map (pieces_in texts) ps)
+pub ends_stored : (texts : SourceTexts) (ps : List StoredPiece) → EndWithinTexts texts ps →
+    map texts (sources_in ps) ≡ flat_map ends_of (flat_map (pieces_in texts) ps)
 ends_stored texts [] fit = refl
 ends_stored texts (Encoded block ∷ ps) fit = ends_stored texts ps fit.1
 ends_stored texts (Framed bytes ∷ ps) fit = ends_stored texts ps fit.1
@@ -70,7 +73,8 @@ ends_stored texts (Ranged s ∷ ps) fit =
     ∙ sym (ends_append (span_pieces most_read s (texts s.source)) (flat_map (pieces_in texts) ps))
 
 -- what is kept for a live stream is what is left of what it is owed
-pub left_stored : (texts : SourceTexts) (w : StoredSending) (d : List Entry) (os : List OwedItem) → IsStoredSending texts w d os → has_failed d ≡ false → (s : ℕ) → is_not_closed d s ≡ true → flat_map (pieces_in texts) (stored_on s w.queues) ≡ pieces_left_on d os s
+pub left_stored : (texts : SourceTexts) (w : StoredSending) (d : List Entry) (os : List OwedItem) → IsStoredSending texts w d os →
+    has_failed d ≡ false → (s : ℕ) → is_not_closed d s ≡ true → flat_map (pieces_in texts) (stored_on s w.queues) ≡ pieces_left_on d os s
 left_stored texts w d os st alive s lives =
     sym (
     ap (pieces_after_frames (sent_frames d) s) (sym (append-nil (flat_map pieces_of (items_owed_on s os))))
@@ -79,8 +83,11 @@ left_stored texts w d os st alive s lives =
     ∙ on_in texts s w.queues
     )
 
-held_on : (texts : SourceTexts) (w : StoredSending) (d : List Entry) (os : List OwedItem) → IsStoredSending texts w d os → QueuesEndWithin texts w.queues → has_failed d ≡ false → (s : ℕ) → is_not_closed d s ≡ true → map texts (sources_in (stored_on s w.queues)) ≡ ranges_left_on d os s
-held_on texts w d os st fit alive s lives = ends_stored texts (stored_on s w.queues) (fit s) ∙ ap (flat_map ends_of) (left_stored texts w d os st alive s lives)
+held_on : (texts : SourceTexts) (w : StoredSending) (d : List Entry) (os : List OwedItem) → IsStoredSending texts w d os →
+    QueuesEndWithin texts w.queues → has_failed d ≡ false → (s : ℕ) → is_not_closed d s ≡ true →
+    map texts (sources_in (stored_on s w.queues)) ≡ ranges_left_on d os s
+held_on texts w d os st fit alive s lives = ends_stored texts (stored_on s w.queues) (fit s)
+    ∙ ap (flat_map ends_of) (left_stored texts w d os st alive s lives)
 
 -- ---- live streams, in rising order
 
@@ -129,7 +136,8 @@ live_rise d = rise_kept (is_not_closed d) (opened_streams d) (rising_rise 0 (map
 all_kept : (f : ℕ → Bool) (ns : List ℕ) → AllByRecursion (λ (n : ℕ). f n ≡ true) (filter f ns)
 all_kept f [] = tt
 all_kept f (x ∷ xs) = go (f x) refl (all_kept f xs) where
-  go : (b : Bool) → f x ≡ b → AllByRecursion (λ (n : ℕ). f n ≡ true) (filter f xs) → AllByRecursion (λ (n : ℕ). f n ≡ true) (cond b (x ∷ filter f xs) (filter f xs))
+  go : (b : Bool) → f x ≡ b → AllByRecursion (λ (n : ℕ). f n ≡ true) (filter f xs) →
+      AllByRecursion (λ (n : ℕ). f n ≡ true) (cond b (x ∷ filter f xs) (filter f xs))
   go true is later = (is, later)
   go false is later = later
 
@@ -138,7 +146,8 @@ all_kept f (x ∷ xs) = go (f x) refl (all_kept f xs) where
 -- a number below all of these is none of them
 not_below : (n : ℕ) (ns : List ℕ) → IsBelow n ns → has_stream ns n ≡ false
 not_below n [] h = refl
-not_below n (x ∷ xs) h = let off : (x == n) ≡ false = let lt = h.0 in grind (arith, nat_tests) in ap (λ b. b || has_stream xs n) off ∙ not_below n xs h.1
+not_below n (x ∷ xs) h = let off : (x == n) ≡ false = let lt = h.0 in grind (arith, nat_tests) in
+    ap (λ b. b || has_stream xs n) off ∙ not_below n xs h.1
 
 not_first : (n s : ℕ) (ns : List ℕ) → (n == s) ≡ false → has_stream ns s ≡ false → has_stream (n ∷ ns) s ≡ false
 not_first n s ns off h = ap (λ b. b || has_stream ns s) off ∙ h
@@ -169,7 +178,8 @@ abbrev kept_on : SourceTexts → List StoredQueue → ℕ → Texts
 kept_on texts qs s = map texts (sources_in (stored_on s qs))
 
 -- streams above the first queue's do not see it
-later_same : (texts : SourceTexts) (q : StoredQueue) (qs : List StoredQueue) (ns : List ℕ) → IsBelow q.stream ns → flat_map (kept_on texts (q ∷ qs)) ns ≡ flat_map (kept_on texts qs) ns
+later_same : (texts : SourceTexts) (q : StoredQueue) (qs : List StoredQueue) (ns : List ℕ) → IsBelow q.stream ns →
+    flat_map (kept_on texts (q ∷ qs)) ns ≡ flat_map (kept_on texts qs) ns
 later_same texts q qs [] h = refl
 later_same texts q qs (n ∷ ns) h =
     let off : (q.stream == n) ≡ false = let lt = h.0 in grind (arith, nat_tests) in
@@ -183,21 +193,25 @@ none_on texts (n ∷ ns) = none_on texts ns
 abbrev held_texts : SourceTexts → List StoredQueue → Texts
 held_texts texts qs = map texts (sources_held qs)
 
-first_held : (texts : SourceTexts) (q : StoredQueue) (qs : List StoredQueue) → held_texts texts (q ∷ qs) ≡ map texts (sources_in q.pieces) ++ held_texts texts qs
+first_held : (texts : SourceTexts) (q : StoredQueue) (qs : List StoredQueue) →
+    held_texts texts (q ∷ qs) ≡ map texts (sources_in q.pieces) ++ held_texts texts qs
 first_held texts q qs = map-append texts (sources_in q.pieces) (sources_held qs)
 
 -- the first queue is of none of these streams, and so has nothing
-first_none : (texts : SourceTexts) (q : StoredQueue) (qs : List StoredQueue) → stored_on q.stream (q ∷ qs) ≡ [] → held_texts texts (q ∷ qs) ≡ held_texts texts qs
+first_none : (texts : SourceTexts) (q : StoredQueue) (qs : List StoredQueue) → stored_on q.stream (q ∷ qs) ≡ [] →
+    held_texts texts (q ∷ qs) ≡ held_texts texts qs
 first_none texts q qs none =
     let here : (q.stream == q.stream) ≡ true = grind (arith, nat_tests) in
     let empty : q.pieces ≡ [] = ap (λ b. cond b q.pieces (stored_on q.stream qs)) (sym here) ∙ none in
     first_held texts q qs ∙ ap (λ (ps : List StoredPiece). map texts (sources_in ps) ++ held_texts texts qs) empty
 
 -- queues in rising order of their streams, beside streams in rising order
-in_order : (texts : SourceTexts) (qs : List StoredQueue) (ns : List ℕ) → AreSorted qs → Rise ns → AreOn ns qs → held_texts texts qs ≡ flat_map (kept_on texts qs) ns
+in_order : (texts : SourceTexts) (qs : List StoredQueue) (ns : List ℕ) → AreSorted qs → Rise ns → AreOn ns qs →
+    held_texts texts qs ≡ flat_map (kept_on texts qs) ns
 in_order texts [] ns sorted rise on = sym (none_on texts ns)
 in_order texts (q ∷ qs) ns sorted rise on = go ns (λ ms up at. in_order texts qs ms sorted.1 up at) rise on where
-  go : (ns : List ℕ) → ((ms : List ℕ) → Rise ms → AreOn ms qs → held_texts texts qs ≡ flat_map (kept_on texts qs) ms) → Rise ns → AreOn ns (q ∷ qs) → held_texts texts (q ∷ qs) ≡ flat_map (kept_on texts (q ∷ qs)) ns
+  go : (ns : List ℕ) → ((ms : List ℕ) → Rise ms → AreOn ms qs → held_texts texts qs ≡ flat_map (kept_on texts qs) ms) → Rise ns →
+      AreOn ns (q ∷ qs) → held_texts texts (q ∷ qs) ≡ flat_map (kept_on texts (q ∷ qs)) ns
   go [] later rise on = first_none texts q qs (on q.stream refl) ∙ later [] tt (on_rest [] q qs sorted.0 on)
   go (n ∷ ns) later rise on = elim (cases_Bool (q.stream == n)) [
     | inl same ↦
@@ -205,7 +219,8 @@ in_order texts (q ∷ qs) ns sorted rise on = go ns (λ ms up at. in_order texts
         let gone : stored_on n qs ≡ [] = ap (λ m. stored_on m qs) (sym e) ∙ above_none q.stream qs sorted.0 in
         let below : IsBelow q.stream ns = subst (λ (m : ℕ). IsBelow m ns) (sym e) rise.0 in
         first_held texts q qs
-        ∙ ap (λ (ts : Texts). map texts (sources_in q.pieces) ++ ts) (later ns rise.1 (on_later n ns qs gone (on_rest (n ∷ ns) q qs sorted.0 on)) ∙ sym (later_same texts q qs ns below))
+        ∙ ap (λ (ts : Texts). map texts (sources_in q.pieces) ++ ts)
+        (later ns rise.1 (on_later n ns qs gone (on_rest (n ∷ ns) q qs sorted.0 on)) ∙ sym (later_same texts q qs ns below))
         ∙ ap (λ b. map texts (sources_in (cond b q.pieces (stored_on n qs))) ++ flat_map (kept_on texts (q ∷ qs)) ns) (sym same)
     | inr off ↦ elim (cases_Bool (nat_lt q.stream n)) [
       | inl less ↦
@@ -216,15 +231,19 @@ in_order texts (q ∷ qs) ns sorted rise on = go ns (λ ms up at. in_order texts
           ∙ sym (later_same texts q qs (n ∷ ns) below)
       | inr more ↦
           let f = ltb-false q.stream n more in
-          let ne : (q.stream ≡ n → ⊥) = λ e. let same : (q.stream == n) ≡ true = grind (arith, nat_tests) in let no : true ≡ false = sym same ∙ off in (let z : ⊥ = cc in z) in
+          let ne : (q.stream ≡ n → ⊥) = λ e. let same : (q.stream == n) ≡ true = grind (arith, nat_tests) in let no : true ≡ false =
+          sym same ∙ off in (let z : ⊥ = cc in z) in
           let lt : n < q.stream = omega (arith, f, ne) in
           let none : stored_on n (q ∷ qs) ≡ [] = above_none n (q ∷ qs) (lt, above_more n q.stream qs lt sorted.0) in
-          go ns later rise.1 (on_later n ns (q ∷ qs) none on) ∙ ap (λ (ps : List StoredPiece). map texts (sources_in ps) ++ flat_map (kept_on texts (q ∷ qs)) ns) (sym none)
+          go ns later rise.1 (on_later n ns (q ∷ qs) none on)
+          ∙ ap (λ (ps : List StoredPiece). map texts (sources_in ps) ++ flat_map (kept_on texts (q ∷ qs)) ns) (sym none)
     ]
   ]
 
 -- what each live stream has
-each_left : (texts : SourceTexts) (w : StoredSending) (d : List Entry) (os : List OwedItem) → IsStoredSending texts w d os → QueuesEndWithin texts w.queues → has_failed d ≡ false → (ns : List ℕ) → AllByRecursion (λ (n : ℕ). is_not_closed d n ≡ true) ns → flat_map (kept_on texts w.queues) ns ≡ flat_map (ranges_left_on d os) ns
+each_left : (texts : SourceTexts) (w : StoredSending) (d : List Entry) (os : List OwedItem) → IsStoredSending texts w d os →
+    QueuesEndWithin texts w.queues → has_failed d ≡ false → (ns : List ℕ) → AllByRecursion (λ (n : ℕ). is_not_closed d n ≡ true) ns →
+    flat_map (kept_on texts w.queues) ns ≡ flat_map (ranges_left_on d os) ns
 each_left texts w d os st fit alive [] h = refl
 each_left texts w d os st fit alive (n ∷ ns) h =
     ap (λ (ts : Texts). ts ++ flat_map (kept_on texts w.queues) ns) (held_on texts w d os st fit alive n h.0)

@@ -31,7 +31,8 @@ heard_taken d e h =
     let one : sum_by count_taken_by (e ∷ []) ≡ 0 = ap (λ n. 0 + n) h.taken in
     omega (arith, sum_by-append count_taken_by d (e ∷ []), one)
 
-pub stands_heard : (w : Sending) (d : List Entry) (os : List OwedItem) (e : Entry) → IsHeard e → IsSending w d os → IsSending w (d ++ e ∷ []) os
+pub stands_heard : (w : Sending) (d : List Entry) (os : List OwedItem) (e : Entry) → IsHeard e → IsSending w d os →
+    IsSending w (d ++ e ∷ []) os
 stands_heard w d os e h st =
     let same : sent_frames (d ++ e ∷ []) ≡ sent_frames d = heard_sent d e h in
     let bytes : bytes_put (d ++ e ∷ []) ≡ bytes_put d = ap (flat_map text_of) same in
@@ -43,11 +44,13 @@ stands_heard w d os e h st =
       queues = λ alive s lives more.
           let alive' : has_failed d ≡ false = ap (list_any is_goaway) (sym same) ∙ alive in
           let lives' : is_not_closed d s ≡ true = live_falls d (e ∷ []) s lives in
-          ap (λ (fs : List Frame). pieces_after_frames fs s (flat_map pieces_of (items_owed_on s os) ++ more)) same ∙ st.queues alive' s lives' more;
+          ap (λ (fs : List Frame). pieces_after_frames fs s (flat_map pieces_of (items_owed_on s os) ++ more)) same
+          ∙ st.queues alive' s lives' more;
     }
 
 pub frame_heard : (w : Sending) (d : List Entry) (os : List OwedItem) (f : RawFrame) → IsSending w d os → IsSending w (d ++ In f ∷ []) os
 frame_heard w d os f st = stands_heard w d os (In f) (record { put = refl; taken = refl }) st
 
-pub fault_heard : (w : Sending) (d : List Entry) (os : List OwedItem) (e : FrameError) → IsSending w d os → IsSending w (d ++ Unreadable e ∷ []) os
+pub fault_heard : (w : Sending) (d : List Entry) (os : List OwedItem) (e : FrameError) → IsSending w d os →
+    IsSending w (d ++ Unreadable e ∷ []) os
 fault_heard w d os e st = stands_heard w d os (Unreadable e) (record { put = refl; taken = refl }) st

@@ -31,7 +31,8 @@ AreFilled ps = AllByRecursion HasBytes ps
 filled_cut : (text : List ℕ) (n k : ℕ) (bytes : List ℕ) → AreFilled (message_pieces text n k bytes)
 filled_cut text n zero bytes = tt
 filled_cut text n (suc k) bytes = elim (cases_Bool (nat_lt n (length bytes))) [
-  | inl more ↦ let some : 0 < length (framed_message (read_message (take n bytes))) = simp length-append (omega arith) in rw more (some, filled_cut text n k (drop n bytes))
+  | inl more ↦ let some : 0 < length (framed_message (read_message (take n bytes))) = simp length-append (omega arith) in
+      rw more (some, filled_cut text n k (drop n bytes))
   | inr last ↦ let some : 0 < length (framed_message (read_message bytes)) = simp length-append (omega arith) in rw last (some, tt)
 ]
 
@@ -43,13 +44,16 @@ filled_items : (is : List Item) → AreFilled (flat_map pieces_of is)
 filled_items [] = tt
 filled_items (Headed block ∷ is) = (tt, filled_items is)
 filled_items (Message message ∷ is) = (simp length-append (omega arith), filled_items is)
-filled_items (Range digest text from count ∷ is) = filled_more (read_pieces text (take count (drop from text))) (flat_map pieces_of is) (filled_cut text most_read (length (take count (drop from text))) (take count (drop from text))) (filled_items is)
+filled_items (Range digest text from count ∷ is) =
+    filled_more (read_pieces text (take count (drop from text))) (flat_map pieces_of is)
+    (filled_cut text most_read (length (take count (drop from text))) (take count (drop from text))) (filled_items is)
 
 filled_front : (n : ℕ) (ps : List Piece) → AreFilled ps → AreFilled (without_front n ps)
 filled_front n [] h = tt
 filled_front n (Block block ∷ ps) h = h
 filled_front n (Part bytes ends ∷ ps) h = elim (cases_Bool (nat_lt n (length bytes))) [
-  | inl less ↦ let lt : n < length bytes = ltb-true n (length bytes) less in let some : 0 < length (drop n bytes) = omega (arith, length-drop n bytes) in rw less (some, h.1)
+  | inl less ↦ let lt : n < length bytes = ltb-true n (length bytes) less in let some : 0 < length (drop n bytes) =
+      omega (arith, length-drop n bytes) in rw less (some, h.1)
   | inr all ↦ rw all h.1
 ]
 
@@ -111,8 +115,14 @@ waits d s (Part bytes ends ∷ ps) h none =
 all_wait : (d : List Entry) (os : List OwedItem) (ss : List ℕ) → first_of (frames_for d os) ss ≡ None → AllByRecursion (WaitsOn d os) ss
 all_wait d os [] h = tt
 all_wait d os (s ∷ ss) h =
-    let at : (o : Option (List Frame)) → frames_for d os s ≡ o → option_map_or Some o (first_of (frames_for d os) ss) ≡ None → AllByRecursion (WaitsOn d os) (s ∷ ss) = elim [
-      | None ↦ λ is e. (waits d s (pieces_left_on d os s) (filled_left (sent_frames d) s (flat_map pieces_of (items_owed_on s os)) (filled_items (items_owed_on s os))) is, all_wait d os ss e)
+    let at : (o : Option (List Frame)) → frames_for d os s ≡ o → option_map_or Some o (first_of (frames_for d os) ss) ≡ None →
+    AllByRecursion (WaitsOn d os) (s ∷ ss) = elim [
+      | None ↦ λ is e. (
+        waits d s (pieces_left_on d os s)
+            (filled_left (sent_frames d) s (flat_map pieces_of (items_owed_on s os)) (filled_items (items_owed_on s os))) is,
+        all_wait d os ss
+            e,
+      )
       | Some fs ↦ λ is e. let z : ⊥ = cc in absurd z
     ] in
     at (frames_for d os s) refl h

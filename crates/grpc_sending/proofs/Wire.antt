@@ -44,4 +44,6 @@ tag_is = refl
 pub read_is : (bytes : List ℕ) → 0 < length bytes → length bytes < 2097152 → read_message bytes ≡ records_text (bytes_field 10 bytes)
 read_is bytes some small =
     let full : (length bytes == 0) ≡ false = grind (arith, nat_tests) in
-    sym (rw full (append-nil (varint 82 ++ (varint (length bytes) ++ bytes))) ∙ ap (λ (t : List ℕ). t ++ (varint (length bytes) ++ bytes)) tag_is ∙ ap (λ (t : List ℕ). 82 ∷ (t ++ bytes)) (varint_is (length bytes) small))
+    sym (rw full (append-nil (varint 82 ++ (varint (length bytes) ++ bytes)))
+    ∙ ap (λ (t : List ℕ). t ++ (varint (length bytes) ++ bytes)) tag_is
+    ∙ ap (λ (t : List ℕ). 82 ∷ (t ++ bytes)) (varint_is (length bytes) small))

@@ -1,6 +1,6 @@
 -- What becomes of the connections of a port when a table of them changes.
 use Rattle.std.proofs.Common.{◌≡◌, ◌==◌, ◌||◌, refl, ap, sym, subst, ◌∙◌, ℕ, Bool, true, false, if◌then◌else◌, ◌++◌, inl, inr, nat_eq, List, [], ◌∷◌, Option, Some, None, is_some, IfSome, IsSomeAnd}
-use Rattle.std.specs.HashMap.{HashMap, IsReordered, Updates, WritesThrough}
+use Rattle.std.specs.HashMap.{HashMap, WritesThrough}
 use Rattle.std.proofs.lemmas.Bool.{ne_eqb, true≢false}
 use Rattle.std.proofs.lemmas.Bool.Decides.{eqb_tells}
 use Rattle.host_sockets.specs.declared.lingering.Lingering.{Lingering}
@@ -25,32 +25,31 @@ module _ {W S : Type 0} (happened : W → Option (List WireEvent)) (c : ℕ) whe
         λ d apart. updates.2 d (ne_eqb c d (λ same. apart (sym same))),
       )
 
-module _ {W S : Type 0} (happened : W → Option (List WireEvent)) (c : ℕ) where
+module _ {W : Type 0} (happened : W → Option (List WireEvent)) (c : ℕ) where
   -- one is put in
-  pub put_in : (number : W → Option ℕ) (old room new : HashMap ℕ (Watched W) S) (w : Watched W)
+  pub put_in : (number : W → Option ℕ) (old room new : List (ℕ × Watched W)) (w : Watched W)
       (x : W) (before after : Option (List W))
-      → IsReordered nat_eq old room → Updates nat_eq room new c (Some w) → w.wire ≡ x
-      → IsLetIn happened number c before after x
-      → IsSomeAnd (wire_at c new.entries)
-      (λ v. IsLetIn happened number c before after v.wire)
-      × OthersHold c old.entries new.entries
-  put_in number old room new w x before after reordered updates is let_in = (
+      → ((d : ℕ) → wire_at d room ≡ wire_at d old) → wire_at c new ≡ Some w → OthersHold c room new
+      → w.wire ≡ x → IsLetIn happened number c before after x
+      → IsSomeAnd (wire_at c new) (λ v. IsLetIn happened number c before after v.wire)
+      × OthersHold c old new
+  put_in number old room new w x before after same there others is let_in = (
     subst (λ (o : Option (Watched W)). IsSomeAnd o
-        (λ v. IsLetIn happened number c before after v.wire)) (sym updates.1)
+        (λ v. IsLetIn happened number c before after v.wire)) (sym there)
         (subst (λ (y : W). IsLetIn happened number c before after y) (sym is) let_in),
-    λ d apart. updates.2 d (ne_eqb c d (λ same. apart (sym same))) ∙ reordered.2 d,
+    λ d apart. others d apart ∙ same d,
   )
 
   -- one is taken out, of which this is kept
-  pub taken_out : (old new : HashMap ℕ (Watched W) S) (w : Watched W)
+  pub taken_out : (old new : List (ℕ × Watched W)) (w : Watched W)
       (lingered lingering : List (Lingering W))
-      → Updates nat_eq old new c None → Some w ≡ wire_at c old.entries
+      → wire_at c new ≡ None → OthersHold c old new → Some w ≡ wire_at c old
       → IsKept happened (Some w) lingered lingering
-      → Closes happened c old.entries lingered new.entries lingering
-  taken_out old new w lingered lingering updates was is_kept = (
-    updates.1,
+      → Closes happened c old lingered new lingering
+  taken_out old new w lingered lingering gone others was is_kept = (
+    gone,
     subst (λ (o : Option (Watched W)). IsKept happened o lingered lingering) was is_kept,
-    λ d apart. updates.2 d (ne_eqb c d (λ same. apart (sym same))),
+    others,
   )
 
 -- one becomes this, through what the table lent
@@ -115,11 +114,11 @@ none_is_told None P is = tt
 none_is_told (Some w) P is = absurd (true≢false (ap is_some is))
 
 -- one that was put in is told
-pub put_is_told : {W S : Type 0} (c : ℕ) (room new : HashMap ℕ (Watched W) S) (w : Watched W)
-    → Updates nat_eq room new c (Some w) → w.may_read ≡ true
-    → IsSomeAnd (wire_at c new.entries) (λ v. v.may_read ≡ true)
-put_is_told {W} c room new w updates is =
-    subst (λ (o : Option (Watched W)). IsSomeAnd o (λ v. v.may_read ≡ true)) (sym updates.1) is
+pub put_is_told : {W : Type 0} (c : ℕ) (new : List (ℕ × Watched W)) (w : Watched W)
+    → wire_at c new ≡ Some w → w.may_read ≡ true
+    → IsSomeAnd (wire_at c new) (λ v. v.may_read ≡ true)
+put_is_told {W} c new w there is =
+    subst (λ (o : Option (Watched W)). IsSomeAnd o (λ v. v.may_read ≡ true)) (sym there) is
 
 module _ {W : Type 0} (happened : W → Option (List WireEvent)) where
   -- what was shut is put among those that linger, where there is room

@@ -2,7 +2,7 @@
 -- something is left of which nothing more is told nobody waits for long.
 use Rattle.std.specs.Prelude.{◌≡◌, ◌⊎◌, ◌||◌, ℕ, Bool, true, min, if◌then◌else◌, nat_lt, List, length, slice_get, IfSome, Option, None, Some, Result, Ok, Err, ⊤}
 use Rattle.std.specs.List.{AllByRecursion, AllZip, list_any}
-use Rattle.std.specs.HashMap.{values}
+use Rattle.std.specs.Map.{values_of}
 use Rattle.std.specs.IoError.{error_kind}
 use Rattle.std.specs.declared.io.Error.{Error}
 use Rattle.std.specs.declared.io.ErrorKind.TheVariants.{WouldBlock}
@@ -50,10 +50,13 @@ abbrev pub AreTold : {D W : Type 0} → List (Port D W) → List (Port D W) → 
 AreTold old new = AllZip OnlyTold old new
 
 -- this is told at a port: of its door, or of the connection of a number, if there is one
+abbrev pub IsToldTo : {W : Type 0} → ℕ → News → List (ℕ × Watched W) → Type 0
+IsToldTo c news wires = IfSome (wire_at c wires) (λ w.
+    (news.may_read ≡ true → w.may_read ≡ true) × (news.may_write ≡ true → w.may_write ≡ true))
+
 abbrev pub IsToldOf : {D W : Type 0} → Option ℕ → News → Port D W → Type 0
 IsToldOf None news port = port.may_wait ≡ true
-IsToldOf (Some c) news port = IfSome (wire_at c port.wires.entries) (λ w.
-    (news.may_read ≡ true → w.may_read ≡ true) × (news.may_write ≡ true → w.may_write ≡ true))
+IsToldOf (Some c) news port = IsToldTo c news port.wires.entries
 
 -- all that a host learned is told at its ports, where it is known
 abbrev pub IsPassedOn : {D W : Type 0} → News → List (Port D W) → Type 0
@@ -65,7 +68,7 @@ ArePassedOn learned ports =
 
 -- whether something may have come on an open connection that was not taken
 abbrev pub may_read : {D W : Type 0} → Port D W → Bool
-may_read port = list_any (λ w. w.may_read) (values port.wires)
+may_read port = list_any (λ w. w.may_read) (values_of port.wires.entries)
 
 -- whether something may have come on the connection of a number; of one that is not open it is to be
 -- asked

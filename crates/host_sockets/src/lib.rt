@@ -13,6 +13,7 @@ mod counts;
 mod laws;
 mod lingering;
 mod news;
+mod open_wires;
 mod port;
 mod watched;
 

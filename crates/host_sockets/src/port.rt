@@ -5,12 +5,12 @@ ghost use Rattle.std.specs.List.{list_any};
 ghost use Rattle.std.specs.Io.{ReadsAtMost, WritesAtMost};
 ghost use Rattle.wires.specs.Wires.{read_events, write_events};
 ghost use Rattle.host_sockets.specs.Ports.{Closes, HappensOn, LetsIn, OnlyClosedGo, OpenStay, has_open, on, wire_at};
-ghost use Rattle.host_sockets.specs.Told.{ArePassedOn, AreTold, IsPassedOn, IsToldOf, OnlyTold, StaysTold, StaysToldAt, has_more, may_read, may_read_on};
+ghost use Rattle.host_sockets.specs.Told.{ArePassedOn, AreTold, IsPassedOn, IsToldOf, OnlyTold, StaysTold, StaysToldAt, has_more, may_read_on};
 
 use crate::counts::SocketCounts;
 use crate::lingering::{LINGERING_LIMIT, Lingering, Room};
+use crate::open_wires::OpenWires;
 use crate::watched::Watched;
-use keyed_maps::{KeyedTable, MapKey};
 use std::alloc::Global;
 use std::io::{self, ErrorKind};
 use std::net::SocketAddr;
@@ -25,7 +25,7 @@ pub(crate) struct Port<D: Door> {
     /// Whether a client may wait at it: one came since the port was found empty.
     may_wait: bool,
     /// By their numbers.
-    wires: KeyedTable<u32, Watched<D::Wire>>,
+    wires: OpenWires<D::Wire>,
     /// Those that were closed.
     lingering: Vec<Lingering<D::Wire>>,
 }
@@ -41,7 +41,7 @@ impl<D: Door> Port<D> {
             address,
             door,
             may_wait: true,
-            wires: KeyedTable::with_hasher(alloc, MapKey::known()),
+            wires: OpenWires::new(alloc),
             lingering: Vec::with_capacity(alloc, LINGERING_LIMIT)?,
         })
     }
@@ -67,9 +67,7 @@ impl<D: Door> Port<D> {
         ensures stays { OnlyTold self.old self.new }
         ensures told { IsToldOf (Some connection) news.now self.new }
     {
-        if let Some(watched) = self.wires.get_mut(&connection) {
-            watched.tell(news);
-        }
+        self.wires.tell(connection, news);
     }
 
     /// Whether there is something to do at it of which nothing more is told: a client may wait, a
@@ -77,7 +75,7 @@ impl<D: Door> Port<D> {
     pub(crate) fn has_more(&self) -> bool
         ensures { result ≡ has_more self.now }
     {
-        self.may_wait || !self.lingering.is_empty() || self.may_read()
+        self.may_wait || !self.lingering.is_empty() || self.wires.may_read()
     }
 
     /// Whether something may have come on the connection of a number. Of one that is not open it is
@@ -85,17 +83,7 @@ impl<D: Door> Port<D> {
     pub(crate) fn may_read_on(&self, connection: u32) -> bool
         ensures { result ≡ may_read_on connection self.now }
     {
-        match self.wires.get(&connection) {
-            Some(watched) => watched.may_read(),
-            None => true,
-        }
-    }
-
-    /// Whether something may have come on an open connection.
-    fn may_read(&self) -> bool
-        ensures { result ≡ may_read self.now }
-    {
-        self.wires.values().any(|watched| watched.may_read())
+        self.wires.may_read_on(connection)
     }
 
     /// Gives the next client that waits this number. `WouldBlock` says that none waits. Any other
@@ -117,7 +105,7 @@ impl<D: Door> Port<D> {
         ensures lingering { self.new.lingering ≡ self.old.lingering }
     {
         // Where memory is refused for it the client waits at the port, and is not reset.
-        if self.wires.reserve(1).is_err() {
+        if self.wires.reserve().is_err() {
             return Err(io::Error::from(ErrorKind::OutOfMemory));
         }
         if !self.may_wait {
@@ -131,10 +119,8 @@ impl<D: Door> Port<D> {
                 return Err(error);
             }
         };
-        match self.wires.insert(connection, Watched::new(wire)) {
-            Ok(_) => Ok(()),
-            Err(_) => unreachable!(),
-        }
+        self.wires.insert(connection, Watched::new(wire));
+        Ok(())
     }
 
     /// Takes bytes that came on a connection, and says how many. `WouldBlock` says that none did.
@@ -149,10 +135,7 @@ impl<D: Door> Port<D> {
         ensures address { self.new.address ≡ self.old.address }
         ensures lingering { self.new.lingering ≡ self.old.lingering }
     {
-        match self.wires.get_mut(&connection) {
-            Some(watched) => watched.read(room),
-            None => Err(io::Error::from(ErrorKind::NotConnected)),
-        }
+        self.wires.read(connection, room)
     }
 
     /// Sends the first of these bytes on a connection, and says how many. `WouldBlock` says that
@@ -166,10 +149,7 @@ impl<D: Door> Port<D> {
         ensures address { self.new.address ≡ self.old.address }
         ensures lingering { self.new.lingering ≡ self.old.lingering }
     {
-        match self.wires.get_mut(&connection) {
-            Some(watched) => watched.write(bytes),
-            None => Err(io::Error::from(ErrorKind::NotConnected)),
-        }
+        self.wires.write(connection, bytes)
     }
 
     /// Sends no more on a connection, and keeps it from this moment on for what its client still
@@ -180,7 +160,7 @@ impl<D: Door> Port<D> {
         ensures door { self.new.door ≡ self.old.door }
         ensures address { self.new.address ≡ self.old.address }
     {
-        let Some(watched) = self.wires.remove(&connection) else {
+        let Some(watched) = self.wires.remove(connection) else {
             return Err(io::Error::from(ErrorKind::NotConnected));
         };
         let mut wire = watched.wire;

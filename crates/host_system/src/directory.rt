@@ -41,15 +41,8 @@ impl<'a> Drop for HostDirectory<'a> {
 
 impl<'a> HostDirectory<'a> {
     /// The directory at a path. Where the path ends in a link, it is none.
-    pub fn open(rt: &'a HostRuntime, path: &str) -> io::Result<HostDirectory<'a>> {
+    pub(crate) fn open(rt: &'a HostRuntime, path: &str) -> io::Result<HostDirectory<'a>> {
         opened(rt, os::open_dir_at(libc::AT_FDCWD, path.as_bytes()))
-    }
-
-    /// A path by which another process of this user finds what has this name in this directory, or
-    /// that itself, `.`, as long as it is open.
-    pub fn shown_path(&self, alloc: Global, name: &str) -> Result<String, AllocError> {
-        let (process, descriptor) = (libc::getpid(), self.descriptor);
-        format!(in alloc; "/proc/{process}/fd/{descriptor}/{name}")
     }
 
     /// A path to what has this name in this directory, as long as that is open.
@@ -120,6 +113,11 @@ impl<'a> Directory for HostDirectory<'a> {
         let path = self.text_of(b".")?;
         let found = fs::metadata(self.rt, path.as_str())?;
         Ok(facts_of(&found))
+    }
+
+    fn shown_path(&self, alloc: Global, name: &str) -> Result<String, AllocError> {
+        let (process, descriptor) = (libc::getpid(), self.descriptor);
+        format!(in alloc; "/proc/{process}/fd/{descriptor}/{name}")
     }
 
     fn list(&self, room: &mut [u8]) -> io::Result<usize> {

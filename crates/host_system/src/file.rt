@@ -49,6 +49,7 @@ pub(crate) fn facts_of(found: &Metadata) -> Facts {
         },
         size: found.len(),
         mode: found.permissions().mode(),
+        owner: found.uid(),
     }
 }
 
@@ -59,6 +60,8 @@ impl OpenFile for HostFile {
     ghost stood_at = { λ _ _. ⊤ };
 
     ghost may_write = { λ _. ⊤ };
+
+    ghost gave = { λ _ _ _. ⊤ };
 
     fn facts(&self) -> io::Result<Facts> {
         let found = self.file.metadata()?;

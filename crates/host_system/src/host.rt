@@ -1,15 +1,17 @@
 //! What this host offers to programs of actions, and what stands there.
 
-ghost use Rattle.std.specs.Prelude.{⊤};
+ghost use Rattle.std.specs.Prelude.{None, ⊤};
 
+use crate::directory::HostDirectory;
 use crate::file::{HostFile, facts_of};
 use std::alloc::Global;
 use std::fs::{self, OpenOptions};
 use std::io::{self, ErrorKind};
 use std::os::unix::fs::OpenOptionsExt;
 use std::process::{Command, Stdio};
-use std::time::Instant;
-use system::{Facts, Host, is_no_child};
+use std::thread;
+use std::time::{Duration, Instant, SystemTime, UNIX_EPOCH};
+use system::{Facts, Host, WorkHost, is_no_child};
 
 /// A program that every host has.
 const SHELL: &str = "/bin/sh";
@@ -67,6 +69,29 @@ impl<'a> Host for HostSystem<'a> {
             .mode(mode)
             .open(self.rt, path)?;
         Ok(HostFile::new(file))
+    }
+}
+
+impl<'a> WorkHost for HostSystem<'a> {
+    type Directory = HostDirectory<'a>;
+
+    ghost top = { None };
+
+    fn since_1970(&self) -> io::Result<Duration> {
+        let now = SystemTime::now(self.rt)?;
+        Ok(now.duration_since(UNIX_EPOCH).unwrap_or(Duration::ZERO))
+    }
+
+    fn pause(&self, time: Duration) {
+        thread::sleep(self.rt, time);
+    }
+
+    fn make_directories(&self, path: &str) -> io::Result<()> {
+        fs::create_dir_all(self.rt, path)
+    }
+
+    fn open_directory(&self, path: &str) -> io::Result<HostDirectory<'a>> {
+        HostDirectory::open(self.rt, path)
     }
 }
 

@@ -45,18 +45,13 @@ impl Command for HostCommand {
 #[derive(Drop)]
 pub struct HostChild {
     child: process::Child,
+    /// The number of its process.
+    number: u32,
     /// How it ended, once a look told that.
     ended: Option<Ending>,
 }
 
-impl HostChild {
-    /// The number of its process.
-    pub fn number(&self) -> u32 {
-        self.child.id()
-    }
-}
-
-fn ending_of(status: ExitStatus) -> Ending
+pub(crate) fn ending_of(status: ExitStatus) -> Ending
     ensures { result ≡ ending_of status }
 {
     Ending {
@@ -68,9 +63,16 @@ fn ending_of(status: ExitStatus) -> Ending
 impl Child for HostChild {
     ghost ended = { λ c. c.ended };
 
+    ghost number = { λ c. c.number };
+
+    fn number(&self) -> u32 {
+        self.number
+    }
+
     fn look(&mut self) -> io::Result<Option<Ending>>
         ensures told { IfOk result (λ ending. self.new.ended ≡ ending) }
         ensures kept { OnErr result (self.new.ended ≡ self.old.ended) }
+        ensures number { self.new.number ≡ self.old.number }
         ensures own { IfOk result (λ ending. ending
             ≡ option_map ending_of (child_status self.new.child)) }
     {
@@ -122,6 +124,11 @@ impl<'a> Spawner for HostSpawner<'a> {
             .stdout(output.stream()?)
             .stderr(error.stream()?);
         let child = command.command.spawn(self.rt)?;
-        Ok(HostChild { child, ended: None })
+        let number = child.id();
+        Ok(HostChild {
+            child,
+            number,
+            ended: None,
+        })
     }
 }

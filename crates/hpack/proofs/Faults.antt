@@ -41,16 +41,20 @@ groups_sound : (left : ℕ) (bytes : List ℕ) → Sound (groups_at left bytes)
 unfolding groups_at
 groups_sound left [] = tt
 groups_sound left (b ∷ bs) =
-    either (ltb b 128) (Ok (b, bs)) (cond (leb left 1) (Err Integer) (groups_at (left - 1) bs >>= λ high. below_limit (128 * high.0 + (b - 128)) high.1)) tt
+    either (ltb b 128) (Ok (b, bs)) (cond (leb left 1) (Err Integer)
+    (groups_at (left - 1) bs >>= λ high. below_limit (128 * high.0 + (b - 128)) high.1)) tt
     (either (leb left 1) (Err Integer) (groups_at (left - 1) bs >>= λ high. below_limit (128 * high.0 + (b - 128)) high.1) tt
-    (bind (groups_at (left - 1) bs) (λ high. below_limit (128 * high.0 + (b - 128)) high.1) (groups_sound (left - 1) bs) (λ high. limit_sound (128 * high.0 + (b - 128)) high.1)))
+    (bind (groups_at (left - 1) bs) (λ high. below_limit (128 * high.0 + (b - 128)) high.1) (groups_sound (left - 1) bs)
+    (λ high. limit_sound (128 * high.0 + (b - 128)) high.1)))
 
 integer_sound : (full prefix : ℕ) (bytes : List ℕ) → Sound (integer_at full prefix bytes)
 unfolding integer_at
 integer_sound full prefix bytes =
-    either (ltb prefix full) (Ok (prefix, bytes)) (cond (ltb full prefix) (Err Integer) (groups_at 5 bytes >>= λ beyond. below_limit (full + beyond.0) beyond.1)) tt
+    either (ltb prefix full) (Ok (prefix, bytes))
+    (cond (ltb full prefix) (Err Integer) (groups_at 5 bytes >>= λ beyond. below_limit (full + beyond.0) beyond.1)) tt
     (either (ltb full prefix) (Err Integer) (groups_at 5 bytes >>= λ beyond. below_limit (full + beyond.0) beyond.1) tt
-    (bind (groups_at 5 bytes) (λ beyond. below_limit (full + beyond.0) beyond.1) (groups_sound 5 bytes) (λ beyond. limit_sound (full + beyond.0) beyond.1)))
+    (bind (groups_at 5 bytes) (λ beyond. below_limit (full + beyond.0) beyond.1) (groups_sound 5 bytes)
+    (λ beyond. limit_sound (full + beyond.0) beyond.1)))
 
 octets_sound : (count : ℕ) (bytes : List ℕ) → Sound (octets_at count bytes)
 octets_sound count bytes = either (ltb (length bytes) count) (Err TooShort) (Ok (take count bytes, drop count bytes)) tt tt
@@ -63,9 +67,12 @@ string_sound : (bytes : List ℕ) → Sound (string_at bytes)
 unfolding string_at
 string_sound [] = tt
 string_sound (b ∷ bs) =
-    either (ltb b 128) (integer_at 127 b bs >>= λ n. octets_at n.0 n.1) (integer_at 127 (b - 128) bs >>= λ n. octets_at n.0 n.1 >>= finished)
+    either (ltb b 128) (integer_at 127 b bs >>= λ n. octets_at n.0 n.1)
+    (integer_at 127 (b - 128) bs >>= λ n. octets_at n.0 n.1 >>= finished)
     (bind (integer_at 127 b bs) (λ n. octets_at n.0 n.1) (integer_sound 127 b bs) (λ n. octets_sound n.0 n.1))
-    (bind (integer_at 127 (b - 128) bs) (λ n. octets_at n.0 n.1 >>= finished) (integer_sound 127 (b - 128) bs) (λ n. bind (octets_at n.0 n.1) finished (octets_sound n.0 n.1) (λ s. bind (expansion s.0) (λ text. Ok (text, s.1)) (expanded_sound (text_of_octets s.0)) (λ text. tt))))
+    (bind (integer_at 127 (b - 128) bs) (λ n. octets_at n.0 n.1 >>= finished) (integer_sound 127 (b - 128) bs)
+    (λ n. bind (octets_at n.0 n.1) finished (octets_sound n.0 n.1)
+    (λ s. bind (expansion s.0) (λ text. Ok (text, s.1)) (expanded_sound (text_of_octets s.0)) (λ text. tt))))
 
 there_sound : {A : Type 0} (o : Option A) → Sound (entry_or_fault o)
 there_sound None = tt
@@ -75,7 +82,8 @@ name_sound : (table : Table) (full prefix : ℕ) (bytes : List ℕ) → Sound (n
 unfolding name_at
 name_sound table full prefix bytes =
     bind (integer_at full prefix bytes) (λ i. cond (eqb i.0 0) (string_at i.1) (entry_name table i)) (integer_sound full prefix bytes)
-    (λ i. either (eqb i.0 0) (string_at i.1) (entry_name table i) (string_sound i.1) (bind (entry_or_fault (header_at table i.0)) (λ entry. Ok (entry.name, i.1)) (there_sound (header_at table i.0)) (λ entry. tt)))
+    (λ i. either (eqb i.0 0) (string_at i.1) (entry_name table i) (string_sound i.1)
+    (bind (entry_or_fault (header_at table i.0)) (λ entry. Ok (entry.name, i.1)) (there_sound (header_at table i.0)) (λ entry. tt)))
 
 literal_sound : (table : Table) (full prefix : ℕ) (bytes : List ℕ) → Sound (literal_at table full prefix bytes)
 unfolding literal_at
@@ -98,11 +106,19 @@ field_sound table (b ∷ bs) =
     let update = bind (integer_at 31 (b - 32) bs) refused (integer_sound 31 (b - 32) bs) (λ x. tt) in
     let never = bind (literal_at table 15 (b - 16) bs) (kept table) (literal_sound table 15 (b - 16) bs) (λ x. tt) in
     let without = bind (literal_at table 15 b bs) (kept table) (literal_sound table 15 b bs) (λ x. tt) in
-    either (ltb b 16) (literal_at table 15 b bs >>= kept table) (cond (ltb b 32) (literal_at table 15 (b - 16) bs >>= kept table) (cond (ltb b 64) (integer_at 31 (b - 32) bs >>= refused) (cond (ltb b 128) (literal_at table 63 (b - 64) bs >>= added table) (indexed_at table (b - 128) bs >>= kept table)))) without
-    (either (ltb b 32) (literal_at table 15 (b - 16) bs >>= kept table) (cond (ltb b 64) (integer_at 31 (b - 32) bs >>= refused) (cond (ltb b 128) (literal_at table 63 (b - 64) bs >>= added table) (indexed_at table (b - 128) bs >>= kept table))) never
-    (either (ltb b 64) (integer_at 31 (b - 32) bs >>= refused) (cond (ltb b 128) (literal_at table 63 (b - 64) bs >>= added table) (indexed_at table (b - 128) bs >>= kept table)) update
-    (either (ltb b 128) (literal_at table 63 (b - 64) bs >>= added table) (indexed_at table (b - 128) bs >>= kept table) incremental indexed)))
+    either (ltb b 16) (literal_at table 15 b bs >>= kept table)
+    (cond (ltb b 32) (literal_at table 15 (b - 16) bs >>= kept table)
+    (cond (ltb b 64) (integer_at 31 (b - 32) bs >>= refused)
+    (cond (ltb b 128) (literal_at table 63 (b - 64) bs >>= added table) (indexed_at table (b - 128) bs >>= kept table)))) without
+    (either (ltb b 32) (literal_at table 15 (b - 16) bs >>= kept table)
+    (cond (ltb b 64) (integer_at 31 (b - 32) bs >>= refused)
+    (cond (ltb b 128) (literal_at table 63 (b - 64) bs >>= added table) (indexed_at table (b - 128) bs >>= kept table))) never
+    (either (ltb b 64) (integer_at 31 (b - 32) bs >>= refused)
+    (cond (ltb b 128) (literal_at table 63 (b - 64) bs >>= added table) (indexed_at table (b - 128) bs >>= kept table)) update
+    (either (ltb b 128) (literal_at table 63 (b - 64) bs >>= added table)
+    (indexed_at table (b - 128) bs >>= kept table) incremental indexed)))
 
 pub update_sound : (bytes : List ℕ) → Sound (update_at bytes)
 update_sound [] = tt
-update_sound (b ∷ bs) = bind (integer_at 31 (b - 32) bs) checked (integer_sound 31 (b - 32) bs) (λ m. either (ltb largest_table m.0) (Err SizeUpdate) (Ok m) tt tt)
+update_sound (b ∷ bs) = bind (integer_at 31 (b - 32) bs) checked (integer_sound 31 (b - 32) bs)
+    (λ m. either (ltb largest_table m.0) (Err SizeUpdate) (Ok m) tt tt)

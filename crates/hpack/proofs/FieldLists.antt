@@ -19,7 +19,8 @@ pub count_of : (ls : List FieldLengths) (text : List ℕ) → length (headers_in
 count_of [] text = refl
 count_of (l ∷ ls) text = let n = count_of ls (drop l.value (drop l.name text)) in omega arith
 
-pushed : (ls : List FieldLengths) (text more : List ℕ) (l : FieldLengths) → fields_length ls ≡ length text → headers_in (ls ++ l ∷ []) (text ++ more) ≡ headers_in ls text ++ header_in l more ∷ []
+pushed : (ls : List FieldLengths) (text more : List ℕ) (l : FieldLengths) → fields_length ls ≡ length text →
+    headers_in (ls ++ l ∷ []) (text ++ more) ≡ headers_in ls text ++ header_in l more ∷ []
 pushed [] [] more l h = refl
 pushed [] (x ∷ xs) more l h = absurd (omega arith)
 pushed (k ∷ ls) text more l h =
@@ -34,12 +35,15 @@ pushed (k ∷ ls) text more l h =
     rw (name, behind, value, others, last) refl
 
 -- a field that was added behind the others
-pub headers_push : (ls : List FieldLengths) (before text : List ℕ) (l : FieldLengths) → fields_length ls ≡ length before → BeginsWith before text → headers_in (ls ++ l ∷ []) text ≡ headers_in ls before ++ header_in l (text_behind before text) ∷ []
+pub headers_push : (ls : List FieldLengths) (before text : List ℕ) (l : FieldLengths) → fields_length ls ≡ length before →
+    BeginsWith before text → headers_in (ls ++ l ∷ []) text ≡ headers_in ls before ++ header_in l (text_behind before text) ∷ []
 headers_push ls before text l total is = ap (headers_in (ls ++ l ∷ [])) is ∙ pushed ls before (text_behind before text) l total
 
 pub length_behind : (before text : List ℕ) → BeginsWith before text → length text ≡ length before + length (text_behind before text)
 length_behind before text is = ap (length {A = ℕ}) is ∙ length-append before (text_behind before text)
 
-pub slice_behind : (before text whole : List ℕ) (n : ℕ) → n ≡ length before → whole ≡ text → take (length whole - n) (drop n whole) ≡ text_behind before text
+pub slice_behind : (before text whole : List ℕ) (n : ℕ) → n ≡ length before → whole ≡ text →
+    take (length whole - n) (drop n whole) ≡ text_behind before text
 slice_behind before text whole n at is =
-    rw (is, at) (ap (λ (k : ℕ). take k (drop (length before) text)) (sym (length-drop (length before) text)) ∙ take-length (drop (length before) text))
+    rw (is, at) (ap (λ (k : ℕ). take k (drop (length before) text)) (sym (length-drop (length before) text))
+    ∙ take-length (drop (length before) text))

@@ -22,7 +22,8 @@ slice_get-append [] ys i le = ap (slice_get ys) (omega arith)
 slice_get-append (x ∷ xs) ys zero le = absurd (omega arith)
 slice_get-append (x ∷ xs) ys (suc i) le = slice_get-append xs ys i (omega arith) ∙ ap (slice_get ys) (omega arith)
 
-pub indexed_static : (entries : List Header) (index : ℕ) → 0 < index → index ≤ 61 → header_by_index entries index ≡ slice_get static_table (index - 1)
+pub indexed_static : (entries : List Header) (index : ℕ) → 0 < index → index ≤ 61 →
+    header_by_index entries index ≡ slice_get static_table (index - 1)
 indexed_static entries index some near =
     let long = static_length in
     let test : eqb index 0 ≡ false = grind (arith, nat_tests) in

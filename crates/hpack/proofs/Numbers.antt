@@ -19,8 +19,10 @@ pub groups_takes : (left : ℕ) (bytes : List ℕ) (x : ℕ × List ℕ) → 0 <
 unfolding groups_at
 groups_takes left [] x pos e = absurd cc
 groups_takes left (b ∷ bs) x pos e =
-    elim (chosen (ltb b 128) (Ok (b, bs)) (cond (leb left 1) (Err Integer) (groups_at (left - 1) bs >>= λ high. below_limit (128 * high.0 + (b - 128)) high.1)) (Ok x) e) [
-      | inl h ↦ let small = ltb-true b 128 h.0 in subst (λ y. Takes left (b ∷ bs) y) (ok_is (b, bs) x h.1) (record { front = b ∷ []; groups = (small, refl); short = omega arith; small = omega arith; parts = refl })
+    elim (chosen (ltb b 128) (Ok (b, bs)) (cond (leb left 1) (Err Integer)
+    (groups_at (left - 1) bs >>= λ high. below_limit (128 * high.0 + (b - 128)) high.1)) (Ok x) e) [
+      | inl h ↦ let small = ltb-true b 128 h.0 in subst (λ y. Takes left (b ∷ bs) y) (ok_is (b, bs) x h.1)
+          (record { front = b ∷ []; groups = (small, refl); short = omega arith; small = omega arith; parts = refl })
       | inr h ↦
           let big = ltb-false b 128 h.0 in
           let p = passed (leb left 1) Integer (groups_at (left - 1) bs >>= λ high. below_limit (128 * high.0 + (b - 128)) high.1) x h.1 in
@@ -29,10 +31,17 @@ groups_takes left (b ∷ bs) x pos e =
           let m = met (ltb (128 * q.0.0 + (b - 128)) (2 ^ 32)) Integer (Ok (128 * q.0.0 + (b - 128), q.0.1)) x q.2 in
           let t = groups_takes (left - 1) bs q.0 (omega arith) q.1 in
           subst (λ y. Takes left (b ∷ bs) y) (ok_is (128 * q.0.0 + (b - 128), q.0.1) x m.1)
-          (record { front = b ∷ t.front; groups = more_groups b t.front q.0.0 big t.groups; short = (let l = t.short in omega arith); small = ltb-true (128 * q.0.0 + (b - 128)) (2 ^ 32) m.0; parts = ap (λ (y : List ℕ). b ∷ y) t.parts })
+          (record {
+            front = b ∷ t.front;
+            groups = more_groups b t.front q.0.0 big t.groups;
+            short = (let l = t.short in omega arith);
+            small = ltb-true (128 * q.0.0 + (b - 128)) (2 ^ 32) m.0;
+            parts = ap (λ (y : List ℕ). b ∷ y) t.parts;
+          })
     ]
 
-pub groups_again : (left : ℕ) (front rest : List ℕ) (n : ℕ) → length front ≤ left → AreGroups front n → n < 2 ^ 32 → groups_at left (front ++ rest) ≡ Ok (n, rest)
+pub groups_again : (left : ℕ) (front rest : List ℕ) (n : ℕ) → length front ≤ left → AreGroups front n → n < 2 ^ 32 →
+    groups_at left (front ++ rest) ≡ Ok (n, rest)
 unfolding groups_at
 groups_again left [] rest n short h small = absurd h
 groups_again left (b ∷ []) rest n short h small =
@@ -48,11 +57,15 @@ groups_again left (b ∷ c ∷ cs) rest n short h small =
     rw (test, more, tail, below) (ap (λ (k : ℕ). Ok (k, rest)) (sym is))
 
 -- what is read behind a prefix is spelled with it
-pub integer_takes : (flags full prefix : ℕ) (bytes : List ℕ) (x : ℕ × List ℕ) → integer_at full prefix bytes ≡ Ok x → Fronts (λ front. IsInteger flags full ((flags + prefix) ∷ front) x.0) bytes x.1
+pub integer_takes : (flags full prefix : ℕ) (bytes : List ℕ) (x : ℕ × List ℕ) → integer_at full prefix bytes ≡ Ok x →
+    Fronts (λ front. IsInteger flags full ((flags + prefix) ∷ front) x.0) bytes x.1
 unfolding integer_at
 integer_takes flags full prefix bytes x e =
-    elim (chosen (ltb prefix full) (Ok (prefix, bytes)) (cond (ltb full prefix) (Err Integer) (groups_at 5 bytes >>= λ beyond. below_limit (full + beyond.0) beyond.1)) (Ok x) e) [
-      | inl h ↦ let small = ltb-true prefix full h.0 in subst (λ (y : ℕ × List ℕ). Fronts (λ front. IsInteger flags full ((flags + prefix) ∷ front) y.0) bytes y.1) (ok_is (prefix, bytes) x h.1) (record { front = []; holds = (refl, small); parts = refl })
+    elim (chosen (ltb prefix full) (Ok (prefix, bytes))
+    (cond (ltb full prefix) (Err Integer) (groups_at 5 bytes >>= λ beyond. below_limit (full + beyond.0) beyond.1)) (Ok x) e) [
+      | inl h ↦ let small = ltb-true prefix full h.0 in
+          subst (λ (y : ℕ × List ℕ). Fronts (λ front. IsInteger flags full ((flags + prefix) ∷ front) y.0) bytes y.1)
+          (ok_is (prefix, bytes) x h.1) (record { front = []; holds = (refl, small); parts = refl })
       | inr h ↦
           let least = ltb-false prefix full h.0 in
           let p = passed (ltb full prefix) Integer (groups_at 5 bytes >>= λ beyond. below_limit (full + beyond.0) beyond.1) x h.1 in
@@ -61,11 +74,18 @@ integer_takes flags full prefix bytes x e =
           let m = met (ltb (full + q.0.0) (2 ^ 32)) Integer (Ok (full + q.0.0, q.0.1)) x q.2 in
           let t = groups_takes 5 bytes q.0 (omega arith) q.1 in
           let same : flags + prefix ≡ flags + full = omega arith in
-          subst (λ (y : ℕ × List ℕ). Fronts (λ front. IsInteger flags full ((flags + prefix) ∷ front) y.0) bytes y.1) (ok_is (full + q.0.0, q.0.1) x m.1)
-          (record { front = t.front; holds = long flags full (flags + prefix) t.front q.0.0 same t.groups t.short (ltb-true (full + q.0.0) (2 ^ 32) m.0); parts = t.parts })
+          subst (λ (y : ℕ × List ℕ). Fronts (λ front. IsInteger flags full ((flags + prefix) ∷ front) y.0) bytes y.1)
+          (ok_is (full + q.0.0, q.0.1) x m.1)
+          (record {
+            front = t.front;
+            holds = long flags full (flags + prefix) t.front q.0.0 same t.groups t.short
+                (ltb-true (full + q.0.0) (2 ^ 32) m.0);
+            parts = t.parts;
+          })
     ]
   where
-    long : (flags full first : ℕ) (front : List ℕ) (beyond : ℕ) → first ≡ flags + full → AreGroups front beyond → length front ≤ 5 → full + beyond < 2 ^ 32 → IsInteger flags full (first ∷ front) (full + beyond)
+    long : (flags full first : ℕ) (front : List ℕ) (beyond : ℕ) → first ≡ flags + full → AreGroups front beyond → length front ≤ 5 →
+        full + beyond < 2 ^ 32 → IsInteger flags full (first ∷ front) (full + beyond)
     long flags full first [] beyond is groups short small = absurd groups
     long flags full first (c ∷ cs) beyond is groups short small = (is, beyond, refl, groups, short, small)
 
@@ -90,4 +110,11 @@ integer_again flags full (b ∷ c ∷ cs) rest n h =
     let test : ltb full full ≡ false = le-ltb full full (omega arith) in
     let groups = groups_again 5 (c ∷ cs) rest beyond h.4 h.3 (omega arith) in
     let below : ltb (full + beyond) (2 ^ 32) ≡ true = lt-ltb (full + beyond) (2 ^ 32) (omega arith) in
-    record { prefix = full; more = c ∷ cs; within = omega arith; parts = ap (λ (k : ℕ). k ∷ c ∷ cs) h.0; read = rw (test, groups, below) (ap (λ (k : ℕ). Ok (k, rest)) (sym is)) }
+    record {
+      prefix = full;
+      more = c ∷ cs;
+      within = omega arith;
+      parts = ap (λ (k : ℕ). k ∷ c ∷ cs) h.0;
+      read =
+          rw (test, groups, below) (ap (λ (k : ℕ). Ok (k, rest)) (sym is));
+    }

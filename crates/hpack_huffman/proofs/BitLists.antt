@@ -26,17 +26,21 @@ bits_low zero high low = refl
 bits_low (suc count) high low =
     let power = pow-suc 2 count in
     let positive = pow_pos count in
-    let split : high * 2 ^ suc count + low ≡ (2 * high + low / 2 ^ count) * 2 ^ count + low % 2 ^ count = rw power (omega (arith, shr_split low count)) in
-    let quotient : (high * 2 ^ suc count + low) / 2 ^ count ≡ 2 * high + low / 2 ^ count = rw split (shr_high (2 * high + low / 2 ^ count) count (low % 2 ^ count) (omega arith)) in
+    let split : high * 2 ^ suc count + low ≡ (2 * high + low / 2 ^ count) * 2 ^ count + low % 2 ^ count =
+    rw power (omega (arith, shr_split low count)) in
+    let quotient : (high * 2 ^ suc count + low) / 2 ^ count ≡ 2 * high + low / 2 ^ count =
+    rw split (shr_high (2 * high + low / 2 ^ count) count (low % 2 ^ count) (omega arith)) in
     let first : (high * 2 ^ suc count + low) / 2 ^ count % 2 ≡ low / 2 ^ count % 2 = rw quotient (omega arith) in
     let twice : high * 2 ^ suc count + low ≡ (2 * high) * 2 ^ count + low = rw power (omega arith) in
     rw first (ap (λ (xs : List ℕ). low / 2 ^ count % 2 ∷ xs) (ap (bits count) twice ∙ bits_low count (2 * high) low))
 
 pub bits_mod : (count k n : ℕ) → count ≤ k → bits count (n % 2 ^ k) ≡ bits count n
 bits_mod count k n le =
-    let power : 2 ^ k ≡ 2 ^ (k - count) * 2 ^ count = ap (λ (j : ℕ). 2 ^ j) (let e : k ≡ (k - count) + count = omega arith in e) ∙ pow-add 2 (k - count) count in
+    let power : 2 ^ k ≡ 2 ^ (k - count) * 2 ^ count =
+    ap (λ (j : ℕ). 2 ^ j) (let e : k ≡ (k - count) + count = omega arith in e) ∙ pow-add 2 (k - count) count in
     let split : n / 2 ^ k * 2 ^ k + n % 2 ^ k ≡ n = shr_split n k in
-    let high : n / 2 ^ k * 2 ^ k ≡ (n / 2 ^ k * 2 ^ (k - count)) * 2 ^ count = ap (λ (p : ℕ). n / 2 ^ k * p) power ∙ sym (mul_assoc (n / 2 ^ k) (2 ^ (k - count)) (2 ^ count)) in
+    let high : n / 2 ^ k * 2 ^ k ≡ (n / 2 ^ k * 2 ^ (k - count)) * 2 ^ count =
+    ap (λ (p : ℕ). n / 2 ^ k * p) power ∙ sym (mul_assoc (n / 2 ^ k) (2 ^ (k - count)) (2 ^ count)) in
     sym (bits_low count (n / 2 ^ k * 2 ^ (k - count)) (n % 2 ^ k)) ∙ ap (bits count) (ap (λ (p : ℕ). p + n % 2 ^ k) (sym high) ∙ split)
 
 -- bits as a number
@@ -58,7 +62,8 @@ small_mod : (count n : ℕ) → n < 2 ^ count → n % 2 ^ count ≡ n
 small_mod count n lt = mod-eq_of_lt lt
 
 pub same_from_bits : (count m n : ℕ) → m < 2 ^ count → n < 2 ^ count → bits count m ≡ bits count n → m ≡ n
-same_from_bits count m n p q e = sym (small_mod count m p) ∙ sym (value_of-bits count m) ∙ ap value_of e ∙ value_of-bits count n ∙ small_mod count n q
+same_from_bits count m n p q e = sym (small_mod count m p) ∙ sym (value_of-bits count m) ∙ ap value_of e ∙ value_of-bits count n
+    ∙ small_mod count n q
 
 -- a number below a power of two that is one less than it has only ones
 pub bits_ones : (count : ℕ) → bits count (2 ^ count - 1) ≡ replicate count 1

@@ -42,7 +42,8 @@ eos_is = (refl, refl)
 
 -- ---- ranks
 
-rank_step : (n symbol : ℕ) (ls : List ℕ) → symbol < length ls → slice_index ls symbol ≡ n → count_of n (take (symbol + 1) ls) ≡ count_of n (take symbol ls) + 1
+rank_step : (n symbol : ℕ) (ls : List ℕ) → symbol < length ls → slice_index ls symbol ≡ n →
+    count_of n (take (symbol + 1) ls) ≡ count_of n (take symbol ls) + 1
 unfolding count_of
 rank_step n symbol ls lt e = count_by_more_yes (λ (l : ℕ). l == n) ls symbol 0 lt (eq-eqb (slice_index ls symbol) n e)
 
@@ -95,19 +96,24 @@ not_shorter s t more le len e =
     let end = first_code (code_length s) + count_of (code_length s) lengths in
     let power = pow-suc 2 more in
     let turned : end * 2 ^ suc more ≡ 2 ^ more * (2 * end) = rw power (omega arith) in
-    let scaled : (code_value s + 1) * 2 ^ suc more ≤ end * 2 ^ suc more = mul-le (code_value s + 1) (2 ^ suc more) end (2 ^ suc more) (code_below s le) (omega arith) in
+    let scaled : (code_value s + 1) * 2 ^ suc more ≤ end * 2 ^ suc more =
+    mul-le (code_value s + 1) (2 ^ suc more) end (2 ^ suc more) (code_below s le) (omega arith) in
     let grows : 2 ^ more * (2 * end) ≤ first_code (code_length t) = rw len (first_grows (code_length s) more) in
     let there : (code_value s + 1) * 2 ^ suc more ≤ code_value t = omega arith in
     let high = le-div (code_value s + 1) (code_value t) (2 ^ suc more) (pow_pos (suc more)) there in
     omega arith
 
-high_bits : (s t : ℕ) (rest : List ℕ) → s ≤ eos → t ≤ eos → code_length t ≡ code_length s + length rest → code t ≡ code s ++ rest → code_value t / 2 ^ length rest ≡ code_value s
+high_bits : (s t : ℕ) (rest : List ℕ) → s ≤ eos → t ≤ eos → code_length t ≡ code_length s + length rest → code t ≡ code s ++ rest →
+    code_value t / 2 ^ length rest ≡ code_value s
 unfolding code
 high_bits s t rest p q len e =
     let n = code_length s in
     let low = code_value t / 2 ^ length rest in
-    let split : code t ≡ bits n low ++ bits (length rest) (code_value t) = ap (λ (k : ℕ). bits k (code_value t)) len ∙ bits-add n (length rest) (code_value t) in
-    let front : bits n low ≡ bits n (code_value s) = sym (take_at (bits n low) (bits (length rest) (code_value t)) n (length-bits n low)) ∙ ap (take n) (sym split ∙ e) ∙ take_at (bits n (code_value s)) rest n (length-bits n (code_value s)) in
+    let split : code t ≡ bits n low ++ bits (length rest) (code_value t) =
+    ap (λ (k : ℕ). bits k (code_value t)) len ∙ bits-add n (length rest) (code_value t) in
+    let front : bits n low ≡ bits n (code_value s) =
+    sym (take_at (bits n low) (bits (length rest) (code_value t)) n (length-bits n low)) ∙ ap (take n) (sym split ∙ e)
+    ∙ take_at (bits n (code_value s)) rest n (length-bits n (code_value s)) in
     let fits : code_value t < 2 ^ (n + length rest) = rw (← len) (code_fits t q) in
     same_from_bits n low (code_value s) (shr_below (code_value t) n (length rest) fits) (code_fits s p) front
 
@@ -117,7 +123,8 @@ length-code symbol = length-bits (code_length symbol) (code_value symbol)
 
 pub prefix_free : (s t : ℕ) → s ≤ eos → t ≤ eos → (rest : List ℕ) → code t ≡ code s ++ rest → s ≡ t
 prefix_free s t p q rest e =
-    let len : code_length t ≡ code_length s + length rest = sym (length-code t) ∙ ap length e ∙ length-append (code s) rest ∙ ap (λ (k : ℕ). k + length rest) (length-code s) in
+    let len : code_length t ≡ code_length s + length rest =
+    sym (length-code t) ∙ ap length e ∙ length-append (code s) rest ∙ ap (λ (k : ℕ). k + length rest) (length-code s) in
     go rest len (high_bits s t rest p q len e)
   where
     go : (rest : List ℕ) → code_length t ≡ code_length s + length rest → code_value t / 2 ^ length rest ≡ code_value s → s ≡ t

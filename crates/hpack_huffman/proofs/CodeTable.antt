@@ -34,7 +34,9 @@ among_here window c cs lt h =
     let count = count_to c h.start in
     let more = number - c.first in
     let symbol = slice_index SYMBOLS (c.place + more) in
-    let row = and_parts (nat_le c.length 30 && c.first * low == h.start) (c.limit == (c.first + count) * low && all_below (entry_ok c) count) ((and_parts (row_ok h.start c) (rows_ok c.limit cs) h.rows).0) in
+    let row = and_parts (nat_le c.length 30 && c.first * low == h.start)
+    (c.limit == (c.first + count) * low && all_below (entry_ok c) count)
+    ((and_parts (row_ok h.start c) (rows_ok c.limit cs) h.rows).0) in
     let head = and_parts (nat_le c.length 30) (c.first * low == h.start) row.0 in
     let tail = and_parts (c.limit == (c.first + count) * low) (all_below (entry_ok c) count) row.1 in
     let short : c.length ≤ 30 = leb-true c.length 30 head.0 in
@@ -63,10 +65,12 @@ among_here window c cs lt h =
     }
 
 -- the same at a place of the whole table
-pub among_at : (window : ℕ) (rows : List Codes) (i : ℕ) (d : Codes) → i < length rows → window < (get_or rows i d).limit → IsInRows window (drop i rows) → IsIn window (get_or rows i d)
+pub among_at : (window : ℕ) (rows : List Codes) (i : ℕ) (d : Codes) → i < length rows → window < (get_or rows i d).limit →
+    IsInRows window (drop i rows) → IsIn window (get_or rows i d)
 among_at window rows i d there lt h = among_here window (get_or rows i d) (drop (i + 1) rows) lt (rw (← drop_more rows i d there) h)
 
-pub among_next : (window : ℕ) (rows : List Codes) (i : ℕ) (d : Codes) → i < length rows → (get_or rows i d).limit ≤ window → IsInRows window (drop i rows) → IsInRows window (drop (i + 1) rows)
+pub among_next : (window : ℕ) (rows : List Codes) (i : ℕ) (d : Codes) → i < length rows → (get_or rows i d).limit ≤ window →
+    IsInRows window (drop i rows) → IsInRows window (drop (i + 1) rows)
 among_next window rows i d there le h = among_rest window (get_or rows i d) (drop (i + 1) rows) le (rw (← drop_more rows i d there) h)
 
 pub among_end : (window : ℕ) (rows : List Codes) (i : ℕ) → window < EOS → length rows ≤ i → IsInRows window (drop i rows) → ⊥
@@ -76,13 +80,15 @@ among_end window rows i lt past h = among_none window lt (rw (← drop_all i row
 
 -- the octet begins with no short code, or with this one
 unfoldable short_ok : ℕ → ℕ → ℕ → Bool
-short_ok length symbol octet = (length == 0) || (nat_le length 8 && (code_length symbol == length && code_value symbol == octet / 2 ^ (8 - length)))
+short_ok length symbol octet = (length == 0) ||
+    (nat_le length 8 && (code_length symbol == length && code_value symbol == octet / 2 ^ (8 - length)))
 
 all_short : all_below (λ octet. short_ok (slice_index SHORT_LENGTHS octet) (slice_index SHORT_SYMBOLS octet) octet) 256 ≡ true
 unfolding lengths code_length count_of first_code code_value short_ok
 all_short = refl
 
-short_here : (window length symbol : ℕ) → short_ok length symbol (window / 2 ^ 22) ≡ true → (length ≡ 0 → ⊥) → OpensWith window symbol length
+short_here : (window length symbol : ℕ) → short_ok length symbol (window / 2 ^ 22) ≡ true → (length ≡ 0 → ⊥) →
+    OpensWith window symbol length
 unfolding short_ok code
 short_here window length symbol h some =
     let octet = window / 2 ^ 22 in
@@ -95,7 +101,8 @@ short_here window length symbol h some =
           let len : code_length symbol ≡ length = eqb-true (code_length symbol) length values.0 in
           let low : 22 + (8 - length) ≡ 30 - length = omega arith in
           let num : code_value symbol ≡ window / 2 ^ (30 - length) =
-          eqb-true (code_value symbol) (octet / 2 ^ (8 - length)) values.1 ∙ shr-shr window 22 (8 - length) ∙ ap (λ (k : ℕ). window / 2 ^ k) low in
+          eqb-true (code_value symbol) (octet / 2 ^ (8 - length)) values.1 ∙ shr-shr window 22 (8 - length)
+          ∙ ap (λ (k : ℕ). window / 2 ^ k) low in
           let whole : 30 ≡ length + (30 - length) = omega arith in
           record {
             short = omega arith;
@@ -108,4 +115,5 @@ pub are_short : AreShort SHORT_LENGTHS SHORT_SYMBOLS
 are_short window lt some =
     let octet = window / 2 ^ 22 in
     short_here window (slice_index SHORT_LENGTHS octet) (slice_index SHORT_SYMBOLS octet)
-    (all_below_at (λ octet. short_ok (slice_index SHORT_LENGTHS octet) (slice_index SHORT_SYMBOLS octet) octet) 256 octet all_short (omega arith)) some
+    (all_below_at (λ octet. short_ok (slice_index SHORT_LENGTHS octet) (slice_index SHORT_SYMBOLS octet) octet) 256 octet all_short
+    (omega arith)) some

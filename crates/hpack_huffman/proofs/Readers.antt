@@ -12,10 +12,12 @@ unfolding bits_of
 bits_of-cons octet octets = refl
 
 -- an octet is taken into the buffer
-pub push_octet : (held buffer octet : ℕ) → held + 8 ≤ 64 → octet < 2 ^ 8 → bits (held + 8) (bit_or (buffer * 2 ^ 8 % 2 ^ 64) octet) ≡ bits held buffer ++ bits 8 octet
+pub push_octet : (held buffer octet : ℕ) → held + 8 ≤ 64 → octet < 2 ^ 8 →
+    bits (held + 8) (bit_or (buffer * 2 ^ 8 % 2 ^ 64) octet) ≡ bits held buffer ++ bits 8 octet
 push_octet held buffer octet fits lt =
     let shifted : buffer * 2 ^ 8 % 2 ^ 64 ≡ (buffer % 2 ^ 56) * 2 ^ 8 = omega arith in
-    let joined : bit_or (buffer * 2 ^ 8 % 2 ^ 64) octet ≡ (buffer % 2 ^ 56) * 2 ^ 8 + octet = rw shifted (or_shifted (buffer % 2 ^ 56) 8 octet lt) in
+    let joined : bit_or (buffer * 2 ^ 8 % 2 ^ 64) octet ≡ (buffer % 2 ^ 56) * 2 ^ 8 + octet =
+    rw shifted (or_shifted (buffer % 2 ^ 56) 8 octet lt) in
     let high : ((buffer % 2 ^ 56) * 2 ^ 8 + octet) / 2 ^ 8 ≡ buffer % 2 ^ 56 = shr_high (buffer % 2 ^ 56) 8 octet lt in
     ap (bits (held + 8)) joined ∙ bits-add held 8 ((buffer % 2 ^ 56) * 2 ^ 8 + octet)
     ∙ ap (λ (n : ℕ). bits held n ++ bits 8 ((buffer % 2 ^ 56) * 2 ^ 8 + octet)) high
@@ -23,14 +25,17 @@ push_octet held buffer octet fits lt =
     ∙ ap (λ (xs : List ℕ). bits held buffer ++ xs) (bits_low 8 (buffer % 2 ^ 56) octet)
 
 -- a window of bits that are all held
-pub window_full : (held buffer : ℕ) (rest : List ℕ) → 30 ≤ held → bits 30 (buffer / 2 ^ (held - 30) % 2 ^ 30) ≡ window_of (bits held buffer ++ rest)
+pub window_full : (held buffer : ℕ) (rest : List ℕ) → 30 ≤ held →
+    bits 30 (buffer / 2 ^ (held - 30) % 2 ^ 30) ≡ window_of (bits held buffer ++ rest)
 unfolding window_of
 window_full held buffer rest le =
     let n = buffer / 2 ^ (held - 30) in
     let low = bits (held - 30) buffer in
-    let split : bits held buffer ≡ bits 30 n ++ low = ap (λ (k : ℕ). bits k buffer) (let e : held ≡ 30 + (held - 30) = omega arith in e) ∙ bits-add 30 (held - 30) buffer in
+    let split : bits held buffer ≡ bits 30 n ++ low =
+    ap (λ (k : ℕ). bits k buffer) (let e : held ≡ 30 + (held - 30) = omega arith in e) ∙ bits-add 30 (held - 30) buffer in
     let parts : (bits held buffer ++ rest) ++ replicate 30 1 ≡ bits 30 n ++ (low ++ (rest ++ replicate 30 1)) =
-    append_assoc (bits held buffer) rest (replicate 30 1) ∙ ap (λ (xs : List ℕ). xs ++ (rest ++ replicate 30 1)) split ∙ append_assoc (bits 30 n) low (rest ++ replicate 30 1) in
+    append_assoc (bits held buffer) rest (replicate 30 1) ∙ ap (λ (xs : List ℕ). xs ++ (rest ++ replicate 30 1)) split
+    ∙ append_assoc (bits 30 n) low (rest ++ replicate 30 1) in
     bits_mod 30 30 n (omega arith) ∙ sym (ap (take 30) parts ∙ take_at (bits 30 n) (low ++ (rest ++ replicate 30 1)) 30 (length-bits 30 n))
 
 -- a window of fewer bits
@@ -38,7 +43,8 @@ window_short : (bs : List ℕ) (missing : ℕ) → length bs + missing ≡ 30 �
 unfolding window_of
 window_short bs missing e =
     let whole : 30 ≡ missing + length bs = omega arith in
-    let long : length (bs ++ replicate missing 1) ≡ 30 = length-append bs (replicate missing 1) ∙ ap (λ (k : ℕ). length bs + k) (length-replicate missing 1) ∙ e in
+    let long : length (bs ++ replicate missing 1) ≡ 30 =
+    length-append bs (replicate missing 1) ∙ ap (λ (k : ℕ). length bs + k) (length-replicate missing 1) ∙ e in
     ap (λ (k : ℕ). take 30 (bs ++ replicate k 1)) whole
     ∙ ap (λ (xs : List ℕ). take 30 (bs ++ xs)) (sym (replicate-append-replicate missing (length bs) 1))
     ∙ ap (take 30) (sym (append_assoc bs (replicate missing 1) (replicate (length bs) 1)))
@@ -50,10 +56,12 @@ bits_padded held missing low whole =
     let positive = pow_pos missing in
     let number : (low + 1) * 2 ^ missing - 1 ≡ low * 2 ^ missing + (2 ^ missing - 1) = omega arith in
     let high : (low * 2 ^ missing + (2 ^ missing - 1)) / 2 ^ missing ≡ low = shr_high low missing (2 ^ missing - 1) (omega arith) in
-    let ones : bits missing (low * 2 ^ missing + (2 ^ missing - 1)) ≡ replicate missing 1 = bits_low missing low (2 ^ missing - 1) ∙ bits_ones missing in
+    let ones : bits missing (low * 2 ^ missing + (2 ^ missing - 1)) ≡ replicate missing 1 =
+    bits_low missing low (2 ^ missing - 1) ∙ bits_ones missing in
     rw (number, whole, bits-add held missing (low * 2 ^ missing + (2 ^ missing - 1)), high, ones) refl
 
-pub window_end : (held buffer : ℕ) (octets : List ℕ) → held < 30 → octets ≡ [] → bits 30 ((buffer % 2 ^ held + 1) * 2 ^ (30 - held) - 1) ≡ window_of (bits held buffer ++ bits_of octets)
+pub window_end : (held buffer : ℕ) (octets : List ℕ) → held < 30 → octets ≡ [] →
+    bits 30 ((buffer % 2 ^ held + 1) * 2 ^ (30 - held) - 1) ≡ window_of (bits held buffer ++ bits_of octets)
 unfolding bits_of
 window_end held buffer octets lt none =
     let whole : 30 ≡ held + (30 - held) = omega arith in
@@ -64,7 +72,8 @@ window_end held buffer octets lt none =
     ∙ ap window_of (sym (append-nil (bits held buffer)) ∙ ap (λ (xs : List ℕ). bits held buffer ++ bits_of xs) (sym none))
 
 pub taken : (held buffer octet : ℕ) (octets : List ℕ) → held + 8 ≤ 64 → octet < 2 ^ 8 → 0 < length octets → octet ≡ get_or octets 0 0
-    → bits (held + 8) (bit_or (buffer * 2 ^ 8 % 2 ^ 64) octet) ++ bits_of (take (length octets - 1) (drop 1 octets)) ≡ bits held buffer ++ bits_of octets
+    → bits (held + 8) (bit_or (buffer * 2 ^ 8 % 2 ^ 64) octet) ++ bits_of (take (length octets - 1) (drop 1 octets)) ≡ bits held buffer
+    ++ bits_of octets
 taken held buffer octet octets fits lt some first =
     let left : take (length octets - 1) (drop 1 octets) ≡ drop 1 octets = take_rest octets 1 in
     let whole : octets ≡ octet ∷ drop 1 octets = drop_more octets 0 0 some ∙ ap (λ (b : ℕ). b ∷ drop 1 octets) (sym first) in
@@ -86,9 +95,11 @@ pub end_is : (held buffer : ℕ) → held < 30 → IsEnd held buffer
 end_is held buffer lt =
     let one : 1 * 2 ^ held % 2 ^ 64 ≡ 2 ^ held = one_shl held 64 (omega arith) in
     let positive = pow_pos held in
-    let whole : 2 ^ held * 2 ^ (30 - held) ≡ 2 ^ 30 = sym (pow-add 2 held (30 - held)) ∙ ap (λ (k : ℕ). 2 ^ k) (let e : held + (30 - held) ≡ 30 = omega arith in e) in
+    let whole : 2 ^ held * 2 ^ (30 - held) ≡ 2 ^ 30 =
+    sym (pow-add 2 held (30 - held)) ∙ ap (λ (k : ℕ). 2 ^ k) (let e : held + (30 - held) ≡ 30 = omega arith in e) in
     let low : buffer % 2 ^ held + 1 ≤ 2 ^ held = let h = mod_below buffer (2 ^ held) positive in omega arith in
-    let most : (buffer % 2 ^ held + 1) * 2 ^ (30 - held) ≤ 2 ^ held * 2 ^ (30 - held) = mul-le (buffer % 2 ^ held + 1) (2 ^ (30 - held)) (2 ^ held) (2 ^ (30 - held)) low (omega arith) in
+    let most : (buffer % 2 ^ held + 1) * 2 ^ (30 - held) ≤ 2 ^ held * 2 ^ (30 - held) =
+    mul-le (buffer % 2 ^ held + 1) (2 ^ (30 - held)) (2 ^ held) (2 ^ (30 - held)) low (omega arith) in
     let product = (buffer % 2 ^ held + 1) * 2 ^ (30 - held) in
     let bound : product ≤ 2 ^ 30 = omega arith in
     let kept : product % 2 ^ 64 ≡ product = omega arith in

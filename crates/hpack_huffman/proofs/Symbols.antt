@@ -22,19 +22,25 @@ begins_from bs front rest e =
 below_found : (n s : ℕ) (bs rest : List ℕ) → s < n → n ≤ 257 → bs ≡ code s ++ rest → symbol_below n bs ≡ Some s
 unfolding symbol_below
 below_found zero s bs rest lt le e = absurd (omega arith)
-below_found (suc n) s bs rest lt le e = go (starts_with nat_eq bs (code n)) refl (λ lower. below_found n s bs rest lower (omega arith) e) where
-  go : (b : Bool) → starts_with nat_eq bs (code n) ≡ b → (s < n → symbol_below n bs ≡ Some s) → (if b then Some n else symbol_below n bs) ≡ Some s
-  go true h lower = let same : n ≡ s = one_symbol n s (omega arith) (omega arith) (drop (length (code n)) bs) rest (sym (begins_is bs (code n) h) ∙ e) in ap (λ (k : ℕ). Some k) same
-  go false h lower = elim (cases_eq s n) [
-    | inl same ↦ absurd (both_ways (starts_with nat_eq bs (code n)) h (begins_from bs (code n) rest (e ∙ ap (λ (k : ℕ). code k ++ rest) same)))
-    | inr other ↦ lower (omega arith)
-  ]
+below_found (suc n) s bs rest lt le e = go (starts_with nat_eq bs (code n)) refl
+    (λ lower. below_found n s bs rest lower (omega arith) e) where
+      go : (b : Bool) → starts_with nat_eq bs (code n) ≡ b → (s < n → symbol_below n bs ≡ Some s) →
+          (if b then Some n else symbol_below n bs) ≡ Some s
+      go true h lower = let same : n ≡ s = one_symbol n s (omega arith) (omega arith) (drop (length (code n)) bs) rest
+          (sym (begins_is bs (code n) h) ∙ e) in ap (λ (k : ℕ). Some k) same
+      go false h lower = elim (cases_eq s n) [
+        | inl same ↦ absurd (both_ways (starts_with nat_eq bs (code n)) h
+            (begins_from bs (code n) rest (e ∙ ap (λ (k : ℕ). code k ++ rest) same)))
+        | inr other ↦ lower (omega arith)
+      ]
 
 below_is : (n s : ℕ) (bs : List ℕ) → symbol_below n bs ≡ Some s → (s < n) × (bs ≡ code s ++ drop (length (code s)) bs)
 unfolding symbol_below
 below_is zero s bs e = absurd cc
 below_is (suc n) s bs e = go (starts_with nat_eq bs (code n)) refl e (λ h. below_is n s bs h) where
-  go : (b : Bool) → starts_with nat_eq bs (code n) ≡ b → (if b then Some n else symbol_below n bs) ≡ Some s → (symbol_below n bs ≡ Some s → (s < n) × (bs ≡ code s ++ drop (length (code s)) bs)) → (s < suc n) × (bs ≡ code s ++ drop (length (code s)) bs)
+  go : (b : Bool) → starts_with nat_eq bs (code n) ≡ b → (if b then Some n else symbol_below n bs) ≡ Some s →
+      (symbol_below n bs ≡ Some s → (s < n) × (bs ≡ code s ++ drop (length (code s)) bs)) →
+      (s < suc n) × (bs ≡ code s ++ drop (length (code s)) bs)
   go true h e lower = let same : n ≡ s = cc in (omega arith, rw (← same) (begins_is bs (code n) h))
   go false h e lower = let found = lower e in (omega arith, found.1)
 

@@ -20,10 +20,12 @@ Text = Result (List ℕ) HuffmanError
 nothing_none : symbol_at [] ≡ None
 nothing_none = ones_none 0 (omega arith)
 
-shorter : (bs : List ℕ) (s k : ℕ) → s ≤ eos → bs ≡ code s ++ drop (code_length s) bs → length bs ≤ suc k → length (drop (code_length s) bs) ≤ k
+shorter : (bs : List ℕ) (s k : ℕ) → s ≤ eos → bs ≡ code s ++ drop (code_length s) bs → length bs ≤ suc k →
+    length (drop (code_length s) bs) ≤ k
 shorter bs s k le e short =
     let some = code_length_least s le in
-    let whole : length bs ≡ length (code s) + length (drop (code_length s) bs) = ap length e ∙ length-append (code s) (drop (code_length s) bs) in
+    let whole : length bs ≡ length (code s) + length (drop (code_length s) bs) =
+    ap length e ∙ length-append (code s) (drop (code_length s) bs) in
     let long = length-code s in
     omega arith
 
@@ -54,7 +56,8 @@ text_step (b ∷ bs) = go (symbol_at (b ∷ bs)) refl where
   go None e = refl
   go (Some s) e =
       let is = symbol_at_is s (b ∷ bs) e in
-      let rest = text_more (length bs) (length (drop (code_length s) (b ∷ bs))) (drop (code_length s) (b ∷ bs)) (shorter (b ∷ bs) s (length bs) is.0 is.1 (omega arith)) (omega arith) in
+      let rest = text_more (length bs) (length (drop (code_length s) (b ∷ bs))) (drop (code_length s) (b ∷ bs))
+      (shorter (b ∷ bs) s (length bs) is.0 is.1 (omega arith)) (omega arith) in
       rw rest refl
 
 pub text_symbol : (s : ℕ) (bs rest : List ℕ) → s < 256 → bs ≡ code s ++ rest → text_of_bits bs ≡ with_first s (text_of_bits rest)
@@ -85,7 +88,8 @@ ones_all (b ∷ bs) h =
 
 pub is_padding-ones : (n : ℕ) → n ≤ 7 → is_padding (replicate n 1) ≡ true
 unfolding is_padding
-is_padding-ones n le = and_from (nat_le (length (replicate n 1)) 7) (list_all (λ (b : ℕ). b == 1) (replicate n 1)) (le-leb (length (replicate n 1)) 7 (let long = length-replicate {A = ℕ} n 1 in omega arith)) (all_ones n)
+is_padding-ones n le = and_from (nat_le (length (replicate n 1)) 7) (list_all (λ (b : ℕ). b == 1) (replicate n 1))
+    (le-leb (length (replicate n 1)) 7 (let long = length-replicate {A = ℕ} n 1 in omega arith)) (all_ones n)
 
 pub is_padding_is : (bs : List ℕ) → is_padding bs ≡ true → (length bs ≤ 7) × (bs ≡ replicate (length bs) 1)
 unfolding is_padding
@@ -144,7 +148,8 @@ record MeetsEos (bs : List ℕ) : Type 0 where
 ok : List ℕ → Text
 ok text = Ok text
 
-prepended : (s : ℕ) (bs : List ℕ) (text : List ℕ) (rest : List ℕ) (end : List ℕ) → bs ≡ code s ++ rest → rest ≡ codes_of text ++ end → bs ≡ codes_of (s ∷ text) ++ end
+prepended : (s : ℕ) (bs : List ℕ) (text : List ℕ) (rest : List ℕ) (end : List ℕ) → bs ≡ code s ++ rest → rest ≡ codes_of text ++ end →
+    bs ≡ codes_of (s ∷ text) ++ end
 prepended s bs text rest end e parts = e ∙ ap (λ (xs : List ℕ). code s ++ xs) parts ∙ sym (codes_of-cons s text end)
 
 -- how reading goes on, by what begins the bits
@@ -156,7 +161,8 @@ end_is : (bs text : List ℕ) → (if is_padding bs then ok [] else Err Padding)
 unfolding ok codes_of
 end_is bs text e = go (is_padding bs) refl e where
   go : (b : Bool) → is_padding bs ≡ b → (if b then ok [] else Err Padding) ≡ Ok text → Spells bs text
-  go true h e = let none : [] ≡ text = cc in let is = is_padding_is bs h in subst (Spells bs) none (record { padding = length bs; short = is.0; symbols = tt; parts = is.1 })
+  go true h e = let none : [] ≡ text = cc in let is = is_padding_is bs h in
+      subst (Spells bs) none (record { padding = length bs; short = is.0; symbols = tt; parts = is.1 })
   go false h e = absurd cc
 
 end_err : (bs : List ℕ) (d : HuffmanError) → (if is_padding bs then ok [] else Err Padding) ≡ Err d → d ≡ Padding
@@ -182,7 +188,8 @@ spells_in (suc most) bs text e = go (symbol_at bs) refl e (λ u rest h. spells_i
       → ((u rest : List ℕ) → text_in most u ≡ Ok rest → Spells u rest) → Spells bs text
   go None h e later = end_is bs text e
   go (Some s) h e later = symbol (s == eos) refl e where
-    symbol : (b : Bool) → (s == eos) ≡ b → (if b then Err Eos else with_first s (text_in most (drop (code_length s) bs))) ≡ Ok text → Spells bs text
+    symbol : (b : Bool) → (s == eos) ≡ b → (if b then Err Eos else with_first s (text_in most (drop (code_length s) bs))) ≡ Ok text →
+        Spells bs text
     symbol true k e = absurd cc
     symbol false k e =
         let is = symbol_at_is s bs h in
@@ -204,16 +211,29 @@ meets_in (suc most) bs e = go (symbol_at bs) refl e (λ u h. meets_in most u h) 
       → ((u : List ℕ) → text_in most u ≡ Err Eos → MeetsEos u) → MeetsEos bs
   go None h e later = let other = end_err bs Eos e in absurd cc
   go (Some s) h e later = symbol (s == eos) refl e where
-    symbol : (b : Bool) → (s == eos) ≡ b → (if b then Err Eos else with_first s (text_in most (drop (code_length s) bs))) ≡ Err Eos → MeetsEos bs
+    symbol : (b : Bool) → (s == eos) ≡ b → (if b then Err Eos else with_first s (text_in most (drop (code_length s) bs))) ≡ Err Eos →
+        MeetsEos bs
     symbol true k e =
         let is = symbol_at_is s bs h in
         let same = eqb-true s eos k in
-        record { front = []; rest = drop (code_length s) bs; symbols = tt; parts = is.1 ∙ ap (λ (k : ℕ). code k ++ drop (code_length s) bs) same }
+        record {
+          front = [];
+          rest = drop (code_length s) bs;
+          symbols = tt;
+          parts =
+              is.1 ∙ ap (λ (k : ℕ). code k ++ drop (code_length s) bs) same;
+        }
     symbol false k e =
         let is = symbol_at_is s bs h in
         let rest = later (drop (code_length s) bs) (first_err s (text_in most (drop (code_length s) bs)) Eos e) in
         let lt : s < 256 = let other = eqb-false s eos k in omega arith in
-        record { front = s ∷ rest.front; rest = rest.rest; symbols = (lt, rest.symbols); parts = prepended s bs rest.front (drop (code_length s) bs) (code eos ++ rest.rest) is.1 rest.parts }
+        record {
+          front = s ∷ rest.front;
+          rest = rest.rest;
+          symbols = (lt, rest.symbols);
+          parts =
+              prepended s bs rest.front (drop (code_length s) bs) (code eos ++ rest.rest) is.1 rest.parts;
+        }
 
 never_memory : (most : ℕ) (bs : List ℕ) → text_in most bs ≡ Err NoMemory → ⊥
 unfolding text_in ok
@@ -237,13 +257,20 @@ pub read_meets : (octets : List ℕ) → text_of_octets octets ≡ Err Eos → H
 unfolding text_of_octets text_of_bits
 read_meets octets e =
     let m = meets_in (length (bits_of octets)) (bits_of octets) e in
-    record { front = m.front; rest = m.rest; symbols = m.symbols; parts = m.parts ∙ sym (append_assoc (codes_of m.front) (code eos) m.rest) }
+    record {
+      front = m.front;
+      rest = m.rest;
+      symbols = m.symbols;
+      parts =
+          m.parts ∙ sym (append_assoc (codes_of m.front) (code eos) m.rest);
+    }
 
 pub text_of_octets-never_memory : (octets : List ℕ) → text_of_octets octets ≡ Err NoMemory → ⊥
 unfolding text_of_octets text_of_bits
 text_of_octets-never_memory octets e = never_memory (length (bits_of octets)) (bits_of octets) e
 
-pub read_refused : (octets : List ℕ) → ((text : List ℕ) → IsHuffman octets text → ⊥) → (HasEos octets → ⊥) → text_of_octets octets ≡ Err Padding
+pub read_refused : (octets : List ℕ) → ((text : List ℕ) → IsHuffman octets text → ⊥) → (HasEos octets → ⊥) →
+    text_of_octets octets ≡ Err Padding
 read_refused octets spelled met = go (text_of_octets octets) refl where
   go : (read : Text) → text_of_octets octets ≡ read → read ≡ Err Padding
   go (Ok text) e = absurd (spelled text (read_grammar octets text e))

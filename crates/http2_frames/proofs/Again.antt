@@ -42,7 +42,8 @@ reset_again s n p q = let e = big_number-reads_back 4 n [] (omega arith) in grin
 no_settings : (ss : List Setting) → ss ≡ [] → length (settings_text ss) ≡ 0
 no_settings ss e = rw e refl
 
-settings_again_at : (ack : Bool) (ss : List Setting) → AllByRecursion IsSetting ss → (ack ≡ true → ss ≡ []) → frame_of (raw_of (Settings ack ss)) ≡ Ok (Settings ack ss)
+settings_again_at : (ack : Bool) (ss : List Setting) → AllByRecursion IsSetting ss → (ack ≡ true → ss ≡ []) →
+    frame_of (raw_of (Settings ack ss)) ≡ Ok (Settings ack ss)
 settings_again_at true ss h none =
     let e = settings_again ss h in
     let l = no_settings ss (none refl) in
@@ -82,7 +83,20 @@ other : (k c : ℕ) → CONTINUATION < k → c ≤ 9 → (k == c) ≡ false
 other k c p q = grind arith
 
 unknown_again : (k g s : ℕ) (d : List ℕ) → CONTINUATION < k → frame_of (raw_of (Unknown k g s d)) ≡ Ok (Unknown k g s d)
-unknown_again k g s d p = rw (other k 0 p (omega arith), other k 1 p (omega arith), other k 2 p (omega arith), other k 3 p (omega arith), other k 4 p (omega arith), other k 5 p (omega arith), other k 6 p (omega arith), other k 7 p (omega arith), other k 8 p (omega arith), other k 9 p (omega arith)) refl
+unknown_again k g s d p = rw (
+  other k 0 p (omega arith),
+  other k 1 p (omega arith),
+  other k 2 p (omega arith),
+  other k 3 p
+      (omega arith),
+  other k 4 p (omega arith),
+  other k 5 p (omega arith),
+  other k 6 p (omega arith),
+  other k 7 p (omega arith),
+  other k 8 p
+      (omega arith),
+  other k 9 p (omega arith),
+) refl
 
 pub again : (f : Frame) → IsWritable f → frame_of (raw_of f) ≡ Ok f
 again (Data s e d) h = data_again s e d h.0.0
@@ -138,8 +152,20 @@ spelled (f ∷ fs) h =
     let w = fits f h.0 in
     (text_of f, flat_map text_of fs, flat_map-cons text_of f fs, frame_text_is (raw_of f) w.small w.low, spelled fs h.1)
 
-pub texts_again : (p : List ℕ) (fs : List Frame) → AllByRecursion IsWritable fs → split p (p ++ flat_map text_of fs) ≡ record { items = map raw_of fs; end = Ok [] }
+pub texts_again : (p : List ℕ) (fs : List Frame) → AllByRecursion IsWritable fs →
+    split p (p ++ flat_map text_of fs) ≡ record { items = map raw_of fs; end = Ok [] }
 texts_again p fs h =
     let text : List ℕ = flat_map text_of fs in
     split_only p (p ++ text) (record { items = map raw_of fs; end = Ok [] })
-    (inl (text, refl, record { front = text; rest = []; parts = sym (append-nil text); items = spelled fs h; end = (refl, inl (omega arith)) }))
+    (inl (
+      text,
+      refl,
+      record {
+        front = text;
+        rest = [];
+        parts = sym (append-nil text);
+        items = spelled fs h;
+        end =
+            (refl, inl (omega arith));
+      },
+    ))

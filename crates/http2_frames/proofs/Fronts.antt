@@ -101,4 +101,5 @@ joined_first (b ∷ bs) received h =
     let w = h (λ e. cc) in
     let short = w.1 in
     let long = w.2 in
-    sym (frame_more (b ∷ bs) received (big_number 3 (b ∷ bs)) (is_whole (b ∷ bs) (big_number 3 (b ∷ bs)) (record { size = refl; short = short; fits = omega arith })))
+    sym (frame_more (b ∷ bs) received (big_number 3 (b ∷ bs))
+    (is_whole (b ∷ bs) (big_number 3 (b ∷ bs)) (record { size = refl; short = short; fits = omega arith })))

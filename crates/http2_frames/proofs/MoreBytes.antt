@@ -23,14 +23,27 @@ grows_as : (s s' u u' : Split) → s ≡ s' → u ≡ u' → Grows s' u' → Gro
 grows_as s s' u u' a b g = subst (λ (x : Split). Grows x u) (sym a) (subst (λ (x : Split). Grows s' x) (sym b) g)
 
 off_longer : (p t more : List ℕ) → Leaves p t → Leaves p (t ++ more)
-off_longer p t more h = record { same = h.same; wanted = h.wanted; found = h.found; rest = h.rest; more = h.more ++ more; preface_is = h.preface_is; text_is = ap (λ (q : List ℕ). q ++ more) h.text_is ∙ append_assoc h.same (h.found ∷ h.more) more; other = h.other }
+off_longer p t more h = record {
+  same = h.same;
+  wanted = h.wanted;
+  found = h.found;
+  rest = h.rest;
+  more = h.more ++ more;
+  preface_is =
+      h.preface_is;
+  text_is = ap (λ (q : List ℕ). q ++ more) h.text_is ∙ append_assoc h.same (h.found ∷ h.more) more;
+  other = h.other;
+}
 
 split_grows : (p t more : List ℕ) → Grows (split p t) (split p (t ++ more))
 split_grows p t more = go (compared p t) where
   go : Compared p t → Grows (split p t) (split p (t ++ more))
-  go (inl (after, e)) = grows_as _ (split_frames after) _ (split_frames (after ++ more)) (past_only p t after e) (past_only p (t ++ more) (after ++ more) (ap (λ (q : List ℕ). q ++ more) e ∙ append_assoc p after more)) (grows frame_format steady after more)
+  go (inl (after, e)) = grows_as _ (split_frames after) _ (split_frames (after ++ more)) (past_only p t after e)
+      (past_only p (t ++ more) (after ++ more) (ap (λ (q : List ℕ). q ++ more) e ∙ append_assoc p after more))
+      (grows frame_format steady after more)
   go (inr (inl h)) = grows_as _ (rest_only t) _ (split p (t ++ more)) (short_only p t h) refl (from_rest t (split p (t ++ more)))
-  go (inr (inr h)) = grows_as _ (fault_only Preface) _ (fault_only Preface) (off_only p t h) (off_only p (t ++ more) (off_longer p t more h)) (from_fault Preface)
+  go (inr (inr h)) = grows_as _ (fault_only Preface) _ (fault_only Preface) (off_only p t h)
+      (off_only p (t ++ more) (off_longer p t more h)) (from_fault Preface)
 
 pub more_frames : (p t more : List ℕ) → (later : List RawFrame) × ((split p (t ++ more)).items ≡ (split p t).items ++ later)
 more_frames p t more = (split_grows p t more).more

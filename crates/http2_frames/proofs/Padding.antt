@@ -7,11 +7,13 @@ use Rattle.http2_frames.specs.declared.frame.Frame.{Frame}
 use Rattle.http2_frames.specs.Frames.{lead_length, pad_length, unpadded_content, may_be_padded, is_misaddressed, is_missized, is_overpadded, frame_of, IsPadded}
 
 -- xs in three parts, the last of them n long
-three_parts : (xs : List ℕ) (m n : ℕ) → m ≤ length xs → n ≤ length xs - m → xs ≡ take m xs ++ (slice_range xs m (length xs - n) ++ drop (length xs - n) xs)
+three_parts : (xs : List ℕ) (m n : ℕ) → m ≤ length xs → n ≤ length xs - m →
+    xs ≡ take m xs ++ (slice_range xs m (length xs - n) ++ drop (length xs - n) xs)
 three_parts xs m n p q =
     let k : ℕ = length xs - n - m in
     let back : drop k (drop m xs) ≡ drop (length xs - n) xs = drop-drop k m xs ∙ ap (λ (j : ℕ). drop j xs) (omega arith) in
-    sym (take-append-drop m xs) ∙ ap (λ (ys : List ℕ). take m xs ++ ys) (sym (take-append-drop k (drop m xs)) ∙ ap (λ (ys : List ℕ). take k (drop m xs) ++ ys) back)
+    sym (take-append-drop m xs) ∙ ap (λ (ys : List ℕ). take m xs ++ ys)
+    (sym (take-append-drop k (drop m xs)) ∙ ap (λ (ys : List ℕ). take k (drop m xs) ++ ys) back)
 
 untaken : {A : Type 0} (b : Bool) (e : ErrorCode) (r : Result A ErrorCode) (x : A) → cond b (Err e) r ≡ Ok x → (b ≡ false) × (r ≡ Ok x)
 untaken true e r x h = absurd cc

@@ -30,7 +30,8 @@ big_two a b rest p q =
     let low : n % 256 ≡ b = omega arith in
     rw (high, low) refl
 
-pub big_four : (a b c d : ℕ) (rest : List ℕ) → a < 256 → b < 256 → c < 256 → d < 256 → big_bytes 4 (big_number 4 (a ∷ b ∷ c ∷ d ∷ rest)) ≡ a ∷ b ∷ c ∷ d ∷ []
+pub big_four : (a b c d : ℕ) (rest : List ℕ) → a < 256 → b < 256 → c < 256 → d < 256 →
+    big_bytes 4 (big_number 4 (a ∷ b ∷ c ∷ d ∷ rest)) ≡ a ∷ b ∷ c ∷ d ∷ []
 big_four a b c d rest p q r s =
     let n : ℕ = big_number 4 (a ∷ b ∷ c ∷ d ∷ rest) in
     let one : n / 256 ^ 3 % 256 ≡ a = omega arith in
@@ -42,16 +43,20 @@ big_four a b c d rest p q r s =
 joined : (x x' y y' : List ℕ) → x ≡ x' → y ≡ y' → x ++ y ≡ x' ++ y'
 joined x x' y y' p q = rw (p, q) refl
 
-six_more : (a b c d e f : ℕ) (rest : List ℕ) → AreBytes (a ∷ b ∷ c ∷ d ∷ e ∷ f ∷ rest) → setting_text (setting_at (a ∷ b ∷ c ∷ d ∷ e ∷ f ∷ rest)) ≡ a ∷ b ∷ c ∷ d ∷ e ∷ f ∷ []
-six_more a b c d e f rest h = joined _ (a ∷ b ∷ []) _ (c ∷ d ∷ e ∷ f ∷ []) (big_two a b (c ∷ d ∷ e ∷ f ∷ rest) (h 0) (h 1)) (big_four c d e f rest (h 2) (h 3) (h 4) (h 5))
+six_more : (a b c d e f : ℕ) (rest : List ℕ) → AreBytes (a ∷ b ∷ c ∷ d ∷ e ∷ f ∷ rest) →
+    setting_text (setting_at (a ∷ b ∷ c ∷ d ∷ e ∷ f ∷ rest)) ≡ a ∷ b ∷ c ∷ d ∷ e ∷ f ∷ []
+six_more a b c d e f rest h = joined _ (a ∷ b ∷ []) _ (c ∷ d ∷ e ∷ f ∷ []) (big_two a b (c ∷ d ∷ e ∷ f ∷ rest) (h 0) (h 1))
+    (big_four c d e f rest (h 2) (h 3) (h 4) (h 5))
 
-pub settings_back : (count : ℕ) (bytes : List ℕ) → AreBytes bytes → length bytes ≡ 6 * count → settings_text (settings_in count bytes) ≡ bytes
+pub settings_back : (count : ℕ) (bytes : List ℕ) → AreBytes bytes → length bytes ≡ 6 * count →
+    settings_text (settings_in count bytes) ≡ bytes
 settings_back zero [] h e = refl
 settings_back zero (x ∷ xs) h e = absurd (omega arith)
 settings_back (suc count) (a ∷ b ∷ c ∷ d ∷ e ∷ f ∷ rest) h len =
     let first = six_more a b c d e f rest h in
     let others = settings_back count rest (λ (k : ℕ). h (suc (suc (suc (suc (suc (suc k))))))) (omega arith) in
-    flat_map-cons setting_text (setting_at (a ∷ b ∷ c ∷ d ∷ e ∷ f ∷ rest)) (settings_in count rest) ∙ joined _ (a ∷ b ∷ c ∷ d ∷ e ∷ f ∷ []) _ rest first others
+    flat_map-cons setting_text (setting_at (a ∷ b ∷ c ∷ d ∷ e ∷ f ∷ rest)) (settings_in count rest)
+    ∙ joined _ (a ∷ b ∷ c ∷ d ∷ e ∷ f ∷ []) _ rest first others
 settings_back (suc count) (a ∷ b ∷ c ∷ d ∷ e ∷ []) h len = absurd (omega arith)
 settings_back (suc count) (a ∷ b ∷ c ∷ d ∷ []) h len = absurd (omega arith)
 settings_back (suc count) (a ∷ b ∷ c ∷ []) h len = absurd (omega arith)
@@ -81,4 +86,5 @@ settings_again (s ∷ ss) h =
     let text = flat_map-cons setting_text s ss in
     let rest : List ℕ = settings_text ss in
     let first = settings_first (setting_text s ++ rest) (omega arith) in
-    ap settings_of text ∙ first ∙ ap (λ (x : Setting). x ∷ settings_of rest) (setting_again s rest h.0) ∙ ap (λ (xs : List Setting). s ∷ xs) (settings_again ss h.1)
+    ap settings_of text ∙ first ∙ ap (λ (x : Setting). x ∷ settings_of rest) (setting_again s rest h.0)
+    ∙ ap (λ (xs : List Setting). s ∷ xs) (settings_again ss h.1)

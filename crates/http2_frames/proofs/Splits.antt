@@ -30,7 +30,8 @@ at_least p t e = let same = ap (length {A = ℕ}) e in let len = length-append p
 pub past_more : (p t more : List ℕ) → starts_with nat_eq t p ≡ true → split p (t ++ more) ≡ split_frames (drop (length p) t ++ more)
 past_more p t more e =
     let is = begins p t e in
-    past p (t ++ more) (begin p (t ++ more) (drop (length p) t ++ more) (ap (λ (x : List ℕ). x ++ more) is ∙ append_assoc p (drop (length p) t) more))
+    past p (t ++ more) (begin p (t ++ more) (drop (length p) t ++ more)
+    (ap (λ (x : List ℕ). x ++ more) is ∙ append_assoc p (drop (length p) t) more))
     ∙ ap split_frames (drop-append-le (length p) t more (at_least p t is))
 
 -- two beginnings of one text
@@ -40,8 +41,10 @@ off_front p t more rest e d h = elim (cases_lt (length t) (length p)) [
   | inr more ↦ untrue (starts_with nat_eq t p) (begin p t (drop (length p) t) (front_of t _ p rest h more)) e
 ]
 
-pub off_more : (p t more : List ℕ) → starts_with nat_eq t p ≡ false → starts_with nat_eq p t ≡ false → split p (t ++ more) ≡ fault_only Preface
+pub off_more : (p t more : List ℕ) → starts_with nat_eq t p ≡ false → starts_with nat_eq p t ≡ false →
+    split p (t ++ more) ≡ fault_only Preface
 off_more p t more e d =
     off p (t ++ more)
     (not_true _ (λ h. off_front p t more (drop (length p) (t ++ more)) e d (begins p (t ++ more) h)))
-    (not_true _ (λ h. untrue (starts_with nat_eq p t) (begin t p (more ++ drop (length (t ++ more)) p) (begins (t ++ more) p h ∙ append_assoc t more (drop (length (t ++ more)) p))) d))
+    (not_true _ (λ h. untrue (starts_with nat_eq p t)
+    (begin t p (more ++ drop (length (t ++ more)) p) (begins (t ++ more) p h ∙ append_assoc t more (drop (length (t ++ more)) p))) d))

@@ -8,7 +8,8 @@ use Rattle.http2_frames.specs.Writing.{header_text, text_of}
 three : (old header numbers debug : List ℕ) → ((old ++ header) ++ numbers) ++ debug ≡ old ++ (header ++ (numbers ++ debug))
 three old header numbers debug = append_assoc (old ++ header) numbers debug ∙ append_assoc old header (numbers ++ debug)
 
-pub go_away_text : (old first second third debug : List ℕ) (n last code : ℕ) → n ≡ 8 + length debug → first ≡ old ++ header_text n GOAWAY 0 0
+pub go_away_text : (old first second third debug : List ℕ) (n last code : ℕ) → n ≡ 8 + length debug →
+    first ≡ old ++ header_text n GOAWAY 0 0
     → second ≡ first ++ (big_bytes 4 last ++ big_bytes 4 code) → third ≡ second ++ debug → third ≡ old ++ text_of (GoAway last code debug)
 go_away_text old first second third debug n last code size a b d =
     let numbers : List ℕ = big_bytes 4 last ++ big_bytes 4 code in

@@ -75,7 +75,8 @@ pub record EachAnswer (P : Frame → Type 0) (a : StreamEvent) : Type 0 where
   pub stream_update : IfFrame P a.stream_update
   pub reset : IfFrame P a.reset
 
-with_frame : (P : Frame → Type 0) (o : Option Frame) (fs : List Frame) → IfFrame P o → AllByRecursion P fs → AllByRecursion P (option_to_list o ++ fs)
+with_frame : (P : Frame → Type 0) (o : Option Frame) (fs : List Frame) → IfFrame P o → AllByRecursion P fs →
+    AllByRecursion P (option_to_list o ++ fs)
 with_frame P None fs h hs = hs
 with_frame P (Some f) fs h hs = (h, hs)
 
@@ -106,14 +107,23 @@ AreControl r = OkThen IsControl r
 data_control : (v : Standing) (n s : ℕ) (e : Bool) (bytes : List ℕ) → AreControl (on_data v n s e bytes)
 data_control v n s e bytes =
     split AreControl (is_idle v s) _ _ (λ _. tt)
-    (λ _. split AreControl (is_receiving v s) _ _ (λ _. record { acknowledgement = tt; connection_update = update_control 0 n; stream_update = split (IfFrame IsControlAnswer) e None (window_update s n) (λ _. tt) (λ _. update_control s n); reset = tt })
-    (λ _. split AreControl (is_remembered v s) _ _ (λ _. record { acknowledgement = tt; connection_update = update_control 0 n; stream_update = tt; reset = tt })
+    (λ _. split AreControl (is_receiving v s) _ _
+    (λ _. record {
+      acknowledgement = tt;
+      connection_update = update_control 0 n;
+      stream_update =
+          split (IfFrame IsControlAnswer) e None (window_update s n) (λ _. tt) (λ _. update_control s n);
+      reset = tt;
+    })
+    (λ _. split AreControl (is_remembered v s) _ _
+    (λ _. record { acknowledgement = tt; connection_update = update_control 0 n; stream_update = tt; reset = tt })
     (λ _. record { acknowledgement = tt; connection_update = update_control 0 n; stream_update = tt; reset = tt })))
 
 request_control : (v : Standing) (block : HeaderList) → IsControl (on_request v block)
 request_control v block =
     split IsControl (nat_le 100 (length v.live)) _ _ (λ _. error_control v block.stream RefusedStream)
-    (λ _. split IsControl (not (is_well_formed_request block.fields)) _ _ (λ _. error_control v block.stream ProtocolError) (λ _. event_control _))
+    (λ _. split IsControl (not (is_well_formed_request block.fields)) _ _ (λ _. error_control v block.stream ProtocolError)
+    (λ _. event_control _))
 
 trailers_control : (v : Standing) (s : ℕ) (e : Bool) → IsControl (on_trailers v s e)
 trailers_control v s true = event_control _
@@ -128,7 +138,8 @@ given_control v (Ok (Some block)) =
     (λ _. split AreControl (is_receiving v block.stream) _ _ (λ _. trailers_control v block.stream block.end_stream)
     (λ _. split AreControl (is_remembered v block.stream) _ _ (λ _. event_control Nothing) (λ _. tt))))
 
-settings_by : (fault : Option ErrorCode) → AreControl (option_map_or Err fault (Ok (record no_effect { acknowledgement = Some (Settings true []) })))
+settings_by : (fault : Option ErrorCode) → AreControl
+    (option_map_or Err fault (Ok (record no_effect { acknowledgement = Some (Settings true []) })))
 settings_by None = record { acknowledgement = (refl, refl); connection_update = tt; stream_update = tt; reset = tt }
 settings_by (Some code) = tt
 
@@ -148,7 +159,8 @@ stream_update_control v s n =
     (λ _. split AreControl (list_any (overflows s n) v.live) _ _ (λ _. error_control v s FlowControlError) (λ _. event_control Nothing))))
 
 connection_update_control : (v : Standing) (n : ℕ) → AreControl (on_connection_update v n)
-connection_update_control v n = split AreControl (n == 0) _ _ (λ _. tt) (λ _. split AreControl (may_grow n v.connection_window) _ _ (λ _. event_control Nothing) (λ _. tt))
+connection_update_control v n = split AreControl (n == 0) _ _ (λ _. tt)
+    (λ _. split AreControl (may_grow n v.connection_window) _ _ (λ _. event_control Nothing) (λ _. tt))
 
 content_control : (v : Standing) (n : ℕ) (g : Frame) → IsSized g → AreControl (on_content v n g)
 content_control v n (Data s e bytes) sized = data_control v n s e bytes
@@ -159,8 +171,10 @@ content_control v n (Settings ack settings) sized = settings_control v ack setti
 content_control v n (PushPromise flags s payload) sized = tt
 content_control v n (Ping ack o) sized = ping_control ack o sized
 content_control v n (GoAway s code b) sized = event_control Nothing
-content_control v n (WindowUpdate s m) sized = split AreControl (s == 0) _ _ (λ _. connection_update_control v m) (λ _. stream_update_control v s m)
-content_control v n (Continuation s end_headers fragment) sized = given_control v (list_of_continuation v.table v.unfinished end_headers fragment)
+content_control v n (WindowUpdate s m) sized =
+    split AreControl (s == 0) _ _ (λ _. connection_update_control v m) (λ _. stream_update_control v s m)
+content_control v n (Continuation s end_headers fragment) sized =
+    given_control v (list_of_continuation v.table v.unfinished end_headers fragment)
 content_control v n (Unknown k f s p) sized = event_control Nothing
 
 frame_control : (v : Standing) (n : ℕ) (r : Result Frame ErrorCode) → OkThen IsSized r → AreControl (on_frame_of v n r)
@@ -172,7 +186,8 @@ answer_control v f =
     split AreControl v.failed _ _ (λ _. event_control Nothing)
     (λ _. split AreControl (is_in_turn v f) _ _ (λ _. frame_control v (length f.payload) (frame_of f) (frame_sized f)) (λ _. tt))
 
-pub answers_are_control : (v : Standing) (f : RawFrame) (a : StreamEvent) → answer_to v f ≡ Ok a → AllByRecursion IsControlAnswer (control_frames a)
+pub answers_are_control : (v : Standing) (f : RawFrame) (a : StreamEvent) → answer_to v f ≡ Ok a →
+    AllByRecursion IsControlAnswer (control_frames a)
 answers_are_control v f a is = each_answer IsControlAnswer a (subst AreControl is (answer_control v f))
 
 -- ---- their payloads
@@ -181,7 +196,8 @@ abbrev pub IsShort : Frame → Type 0
 IsShort g = length (raw_of g).payload ≤ 8
 
 -- by the four frames that answer
-pub answer_elim : (P : Frame → Type 0) → ((ack : Bool) (settings : List Setting) → IsControlAnswer (Settings ack settings) → P (Settings ack settings)) → ((ack : Bool) (o : List ℕ) → IsControlAnswer (Ping ack o) → P (Ping ack o))
+pub answer_elim : (P : Frame → Type 0) → ((ack : Bool) (settings : List Setting) → IsControlAnswer (Settings ack settings) →
+    P (Settings ack settings)) → ((ack : Bool) (o : List ℕ) → IsControlAnswer (Ping ack o) → P (Ping ack o))
     → ((s n : ℕ) → P (WindowUpdate s n)) → ((s code : ℕ) → P (RstStream s code)) → (g : Frame) → IsControlAnswer g → P g
 answer_elim P settings ping update reset (Settings ack list) h = settings ack list h
 answer_elim P settings ping update reset (Ping ack o) h = ping ack o h
@@ -196,7 +212,8 @@ answer_elim P settings ping update reset (Continuation s x b) h = absurd h
 answer_elim P settings ping update reset (Unknown k f s p) h = absurd h
 
 pub answer_is_short : (g : Frame) → IsControlAnswer g → IsShort g
-answer_is_short = answer_elim IsShort (λ ack settings h. rw h.1 (omega arith)) (λ ack o h. rw h.1 (omega arith)) (λ s n. omega arith) (λ s code. omega arith)
+answer_is_short = answer_elim IsShort (λ ack settings h. rw h.1 (omega arith)) (λ ack o h. rw h.1 (omega arith)) (λ s n. omega arith)
+    (λ s code. omega arith)
 
 all_short : (fs : List Frame) → AllByRecursion IsControlAnswer fs → AllByRecursion IsShort fs
 all_short [] h = tt

@@ -41,7 +41,8 @@ at_listed : (d : List Entry) (s : ℕ) (ts : List ℕ) → list_any (number_is s
 at_listed d s [] = refl
 at_listed d s (t ∷ ts) = ap (λ b. t == s || b) (at_listed d s ts)
 
-kept_numbers : (d : List Entry) (k : Stream → Bool) (ts : List ℕ) → numbers_of (filter k (map (stream_at d) ts)) ≡ filter (λ t. k (stream_at d t)) ts
+kept_numbers : (d : List Entry) (k : Stream → Bool) (ts : List ℕ) →
+    numbers_of (filter k (map (stream_at d) ts)) ≡ filter (λ t. k (stream_at d t)) ts
 kept_numbers d k ts = ap numbers_of (filter-map k (stream_at d) ts) ∙ at_numbers d (filter (λ t. k (stream_at d t)) ts)
 
 filter_all : (p : ℕ → Bool) → ((t : ℕ) → p t ≡ true) → (ts : List ℕ) → filter p ts ≡ ts
@@ -49,7 +50,8 @@ filter_all p all [] = refl
 filter_all p all (t ∷ ts) = rw (all t) (ap (λ us. t ∷ us) (filter_all p all ts))
 
 -- what a test says of each number, by what it says of s
-unclosed_by : (p : ℕ → Bool) (s : ℕ) (b : Bool) (ts : List ℕ) → p s ≡ b → filter (λ t. not (t == s && p t)) ts ≡ cond b (other_streams s ts) ts
+unclosed_by : (p : ℕ → Bool) (s : ℕ) (b : Bool) (ts : List ℕ) → p s ≡ b →
+    filter (λ t. not (t == s && p t)) ts ≡ cond b (other_streams s ts) ts
 unclosed_by p s true ts is = filter_agree _ _ (λ t. elim (cases_Bool (t == s)) [
   | inl same ↦ let e : p t ≡ true = ap p (eqb-true t s same) ∙ is in rw (same, e) refl
   | inr other ↦ rw other refl
@@ -60,7 +62,8 @@ unclosed_by p s false ts is = filter_all _ (λ t. elim (cases_Bool (t == s)) [
 ]) ts
 
 end_after : (d : List Entry) (s : ℕ) → numbers_of (unclosed s (standing d).live) ≡ live_after_end d s
-end_after d s = kept_numbers d (λ x. not (x.number == s && x.ended_by_server)) (live_streams d) ∙ unclosed_by (is_ended_by_server d) s (is_ended_by_server d s) (live_streams d) refl
+end_after d s = kept_numbers d (λ x. not (x.number == s && x.ended_by_server)) (live_streams d)
+    ∙ unclosed_by (is_ended_by_server d) s (is_ended_by_server d s) (live_streams d) refl
 
 numbers_are : (d : List Entry) (e : Event) → numbers_after (standing d) e ≡ live_after d e
 numbers_are d Nothing = at_numbers d (live_streams d)
@@ -72,38 +75,48 @@ numbers_are d (Cancel s) = kept_numbers d (λ x. not (x.number == s)) (live_stre
 
 -- ---- a frame
 
-received_with : (d : List Entry) (f : RawFrame) (g : Frame) → frame_of f ≡ Ok g → received_frames (d ++ In f ∷ []) ≡ received_frames d ++ g ∷ []
+received_with : (d : List Entry) (f : RawFrame) (g : Frame) → frame_of f ≡ Ok g →
+    received_frames (d ++ In f ∷ []) ≡ received_frames d ++ g ∷ []
 received_with d f g says =
     let one : filter_map frame_in (In f ∷ []) ≡ g ∷ [] = rw says refl in
     filter_map-append frame_in d (In f ∷ []) ∙ ap (λ xs. received_frames d ++ xs) one
 
 -- where the event's stream stands, and the live streams after the frame and what is put for it
 abbrev ToldOf : List Entry → RawFrame → StreamEvent → Type 0
-ToldOf d f a = IsOnAt (standing d) (highest_stream (d ++ In f ∷ [])) a.event × (numbers_of (after_content (standing d) a (frame_of f)).live ≡ numbers_after (standing d) a.event)
+ToldOf d f a = IsOnAt (standing d) (highest_stream (d ++ In f ∷ [])) a.event
+    × (numbers_of (after_content (standing d) a (frame_of f)).live ≡ numbers_after (standing d) a.event)
 
-frame_told : (d : List Entry) (f : RawFrame) (g : Frame) (a : StreamEvent) → frame_of f ≡ Ok g → on_content (standing d) (length f.payload) g ≡ Ok a → ToldOf d f a
+frame_told : (d : List Entry) (f : RawFrame) (g : Frame) (a : StreamEvent) → frame_of f ≡ Ok g →
+    on_content (standing d) (length f.payload) g ≡ Ok a → ToldOf d f a
 frame_told d f g a says is =
     let v = standing d in
-    let t : Told v (top (received_frames d ++ g ∷ [])) (after_frame_in v g) a = subst (OkThen (Told v (top (received_frames d ++ g ∷ [])) (after_frame_in v g))) is (content_told (received_frames d) (sent_frames d) (length f.payload) g) in (
+    let t : Told v (top (received_frames d ++ g ∷ [])) (after_frame_in v g) a =
+    subst (OkThen (Told v (top (received_frames d ++ g ∷ [])) (after_frame_in v g))) is
+    (content_told (received_frames d) (sent_frames d) (length f.payload) g) in (
       subst (λ (rs : List Frame). IsOnAt v (top rs) a.event) (sym (received_with d f g says)) t.stream,
       ap (λ (r : Result Frame ErrorCode). numbers_of (after_content v a r).live) says ∙ t.live,
     )
 
 -- after the tests before the content
-read_told : (d : List Entry) (f : RawFrame) (r : Result Frame ErrorCode) (a : StreamEvent) → frame_of f ≡ r → on_frame_of (standing d) (length f.payload) r ≡ Ok a → ToldOf d f a
+read_told : (d : List Entry) (f : RawFrame) (r : Result Frame ErrorCode) (a : StreamEvent) → frame_of f ≡ r →
+    on_frame_of (standing d) (length f.payload) r ≡ Ok a → ToldOf d f a
 read_told d f (Ok g) a says is = frame_told d f g a says is
 read_told d f (Err code) a says is = cc
 
-turn_told : (d : List Entry) (f : RawFrame) (b : Bool) (a : StreamEvent) → cond b (on_frame_of (standing d) (length f.payload) (frame_of f)) (Err ProtocolError) ≡ Ok a → ToldOf d f a
+turn_told : (d : List Entry) (f : RawFrame) (b : Bool) (a : StreamEvent) →
+    cond b (on_frame_of (standing d) (length f.payload) (frame_of f)) (Err ProtocolError) ≡ Ok a → ToldOf d f a
 turn_told d f true a is = read_told d f (frame_of f) a refl is
 turn_told d f false a is = cc
 
 told : (d : List Entry) (f : RawFrame) (a : StreamEvent) → has_failed d ≡ false → answer_after d f ≡ Ok a → ToldOf d f a
-told d f a fine is = turn_told d f (is_in_turn (standing d) f) a (sym (cond_is_false (has_failed d) (Ok no_effect) (on_raw_frame (standing d) f) fine) ∙ is)
+told d f a fine is = turn_told d f (is_in_turn (standing d) f) a
+    (sym (cond_is_false (has_failed d) (Ok no_effect) (on_raw_frame (standing d) f) fine) ∙ is)
 
 -- an event after a connection error is none
-failed_is_nothing : (P : Event → Type 0) (d : List Entry) (f : RawFrame) (a : StreamEvent) → P Nothing → has_failed d ≡ true → answer_after d f ≡ Ok a → P a.event
-failed_is_nothing P d f a h bad is = subst (OkThen (λ (x : StreamEvent). P x.event)) (sym (cond_is_true (has_failed d) (Ok no_effect) (on_raw_frame (standing d) f) bad) ∙ is) h
+failed_is_nothing : (P : Event → Type 0) (d : List Entry) (f : RawFrame) (a : StreamEvent) → P Nothing → has_failed d ≡ true →
+    answer_after d f ≡ Ok a → P a.event
+failed_is_nothing P d f a h bad is = subst (OkThen (λ (x : StreamEvent). P x.event))
+    (sym (cond_is_true (has_failed d) (Ok no_effect) (on_raw_frame (standing d) f) bad) ∙ is) h
 
 -- ---- the stream of an event
 
@@ -120,28 +133,34 @@ event_on_stream d f a is = elim (cases_Bool (has_failed d)) [
   | inr fine ↦ on_stream d (highest_stream (d ++ In f ∷ [])) a.event (told d f a fine is).0
 ]
 
-low : (d : List Entry) (f : RawFrame) (s t : ℕ) → has_stream (live_streams d) t ≡ true → Some t ≡ Some s → s ≤ highest_stream (d ++ In f ∷ [])
+low : (d : List Entry) (f : RawFrame) (s t : ℕ) → has_stream (live_streams d) t ≡ true → Some t ≡ Some s →
+    s ≤ highest_stream (d ++ In f ∷ [])
 low d f s t lives names =
     let same : t ≡ s = ap (λ (o : Option ℕ). unwrap_or o 0) names in
     omega (arith, (listed_is_live d t lives).1, highest_rises d (In f ∷ []), same)
 
-named_low : (d : List Entry) (f : RawFrame) (s : ℕ) (e : Event) → IsOnAt (standing d) (highest_stream (d ++ In f ∷ [])) e → stream_of_event e ≡ Some s → s ≤ highest_stream (d ++ In f ∷ [])
+named_low : (d : List Entry) (f : RawFrame) (s : ℕ) (e : Event) → IsOnAt (standing d) (highest_stream (d ++ In f ∷ [])) e →
+    stream_of_event e ≡ Some s → s ≤ highest_stream (d ++ In f ∷ [])
 named_low d f s Nothing is names = cc
-named_low d f s (Request t fields end_stream) is names = let same : t ≡ s = ap (λ (o : Option ℕ). unwrap_or o 0) names in omega (arith, is.1, same)
+named_low d f s (Request t fields end_stream) is names = let same : t ≡ s = ap (λ (o : Option ℕ). unwrap_or o 0) names in
+    omega (arith, is.1, same)
 named_low d f s (Content t content end_stream) is names = low d f s t (sym (at_listed d t (live_streams d)) ∙ is) names
 named_low d f s (Trailers t) is names = low d f s t (sym (at_listed d t (live_streams d)) ∙ is) names
 named_low d f s (Cancel t) is names = low d f s t (sym (at_listed d t (live_streams d)) ∙ is) names
 
-pub named_is_opened : (d : List Entry) (f : RawFrame) (a : StreamEvent) (s : ℕ) → answer_after d f ≡ Ok a → stream_of_event a.event ≡ Some s → s ≤ highest_stream (d ++ In f ∷ [])
+pub named_is_opened : (d : List Entry) (f : RawFrame) (a : StreamEvent) (s : ℕ) → answer_after d f ≡ Ok a →
+    stream_of_event a.event ≡ Some s → s ≤ highest_stream (d ++ In f ∷ [])
 named_is_opened d f a s is = elim (cases_Bool (has_failed d)) [
   | inl bad ↦ failed_is_nothing (λ (e : Event). stream_of_event e ≡ Some s → s ≤ highest_stream (d ++ In f ∷ [])) d f a (λ names. cc) bad is
   | inr fine ↦ named_low d f s a.event (told d f a fine is).0
 ]
 
 -- a request is on the highest stream that is opened with it
-pub request_is_highest : (d : List Entry) (f : RawFrame) (a : StreamEvent) (s : ℕ) (fields : List Header) (end_stream : Bool) → answer_after d f ≡ Ok a → a.event ≡ Request s fields end_stream → highest_stream (d ++ In f ∷ []) ≡ s
+pub request_is_highest : (d : List Entry) (f : RawFrame) (a : StreamEvent) (s : ℕ) (fields : List Header) (end_stream : Bool) →
+    answer_after d f ≡ Ok a → a.event ≡ Request s fields end_stream → highest_stream (d ++ In f ∷ []) ≡ s
 request_is_highest d f a s fields end_stream is = elim (cases_Bool (has_failed d)) [
-  | inl bad ↦ failed_is_nothing (λ (e : Event). e ≡ Request s fields end_stream → highest_stream (d ++ In f ∷ []) ≡ s) d f a (λ names. cc) bad is
+  | inl bad ↦ failed_is_nothing (λ (e : Event). e ≡ Request s fields end_stream → highest_stream (d ++ In f ∷ []) ≡ s) d f a
+      (λ names. cc) bad is
   | inr fine ↦ λ names. (subst (λ (e : Event). IsOnAt (standing d) (highest_stream (d ++ In f ∷ [])) e) names (told d f a fine is).0).1
 ]
 
@@ -162,7 +181,8 @@ no_goaway (Continuation s x b ∷ fs) h = absurd h.0
 no_goaway (Unknown k f s p ∷ fs) h = absurd h.0
 
 -- no connection error comes of it
-pub stays_whole : (d : List Entry) (f : RawFrame) (a : StreamEvent) → has_failed d ≡ false → answer_after d f ≡ Ok a → has_failed (d ++ entries_of d f) ≡ false
+pub stays_whole : (d : List Entry) (f : RawFrame) (a : StreamEvent) → has_failed d ≡ false → answer_after d f ≡ Ok a →
+    has_failed (d ++ entries_of d f) ≡ false
 stays_whole d f a fine is =
     let none : list_any is_goaway (control_frames a) ≡ false = no_goaway (control_frames a) (answers_are_control (standing d) f a is) in
     has_failed-append d (entries_of d f)
@@ -171,12 +191,14 @@ stays_whole d f a fine is =
     ∙ ap (list_any is_goaway) (all_sent (control_frames a))
     ∙ none
 
-pub live_after_frame : (v : Standing) (d : List Entry) (f : RawFrame) (a : StreamEvent) → AreStreams v d → has_failed d ≡ false → answer_after d f ≡ Ok a → live_streams (d ++ entries_of d f) ≡ live_after d a.event
+pub live_after_frame : (v : Standing) (d : List Entry) (f : RawFrame) (a : StreamEvent) → AreStreams v d → has_failed d ≡ false →
+    answer_after d f ≡ Ok a → live_streams (d ++ entries_of d f) ≡ live_after d a.event
 live_after_frame v d f a h fine is =
     let e = d ++ entries_of d f in
     let there : AreStreams (step_by (standing d) f a) e = at_law d f a fine (h.state fine).idle is in
     let same : step_by (standing d) f a ≡ standing e = (there.state (stays_whole d f a fine is)).is in
-    let step : step_by (standing d) f a ≡ after_content (standing d) a (frame_of f) = cond_is_false (has_failed d) (standing d) (after_content (standing d) a (frame_of f)) fine in
+    let step : step_by (standing d) f a ≡ after_content (standing d) a (frame_of f) =
+    cond_is_false (has_failed d) (standing d) (after_content (standing d) a (frame_of f)) fine in
     sym (at_numbers e (live_streams e))
     ∙ ap (λ (w : Standing). numbers_of w.live) (sym same ∙ step)
     ∙ (told d f a fine is).1

@@ -99,11 +99,13 @@ shut_stays : (v : Standing) (s : ℕ) (e : Bool) → is_receiving v s ≡ false 
 shut_stays v s true shut = rw shut refl
 shut_stays v s false shut = refl
 
-end_numbers : (v : Standing) (s : ℕ) (e : Bool) → is_receiving v s ≡ true → numbers_of (after_client_end v s e).live ≡ cond e (numbers_of (unclosed s v.live)) (numbers_of v.live)
+end_numbers : (v : Standing) (s : ℕ) (e : Bool) → is_receiving v s ≡ true →
+    numbers_of (after_client_end v s e).live ≡ cond e (numbers_of (unclosed s v.live)) (numbers_of v.live)
 end_numbers v s false open_to = refl
 end_numbers v s true open_to = rw open_to (marked_numbers s (unclosed s v.live))
 
-ends_live : (v : Standing) (hs : HeaderState) (s : ℕ) (e : Bool) → (after_client_end (with_headers v hs) s e).live ≡ (after_client_end v s e).live
+ends_live : (v : Standing) (hs : HeaderState) (s : ℕ) (e : Bool) →
+    (after_client_end (with_headers v hs) s e).live ≡ (after_client_end v s e).live
 ends_live v hs s e = elim (cases_Bool (e && list_any (receives s) v.live)) [
   | inl ends ↦ rw ends refl
   | inr stays ↦ rw stays refl
@@ -115,9 +117,11 @@ cancelled_on : (v : Standing) (h s : ℕ) → IsOnAt v h (cancel_event v s)
 cancelled_on v h s = split (IsOnAt v h) (is_live_at v s) (Cancel s) Nothing (λ lives. lives) (λ _. tt)
 
 cancelled_numbers : (v : Standing) (s : ℕ) → numbers_of (without_stream s v.live) ≡ numbers_after v (cancel_event v s)
-cancelled_numbers v s = split (λ e. numbers_of (without_stream s v.live) ≡ numbers_after v e) (is_live_at v s) (Cancel s) Nothing (λ _. refl) (λ none. ap numbers_of (none_without s v.live none))
+cancelled_numbers v s = split (λ e. numbers_of (without_stream s v.live) ≡ numbers_after v e) (is_live_at v s) (Cancel s) Nothing
+    (λ _. refl) (λ none. ap numbers_of (none_without s v.live none))
 
-error_told : (v w : Standing) (h s : ℕ) (code : ErrorCode) → without_stream s w.live ≡ without_stream s v.live → Told v h w (stream_error v s code)
+error_told : (v w : Standing) (h s : ℕ) (code : ErrorCode) → without_stream s w.live ≡ without_stream s v.live →
+    Told v h w (stream_error v s code)
 error_told v w h s code same = record { stream = cancelled_on v h s; live = ap numbers_of same ∙ cancelled_numbers v s }
 
 nothing_told : (v w : Standing) (h : ℕ) → numbers_of w.live ≡ numbers_of v.live → Told v h w no_effect
@@ -130,24 +134,34 @@ data_told v h n s e bytes =
     let P : Result StreamEvent ErrorCode → Type 0 = OkThen (Told v h (after_client_end v s e)) in
     split P (is_idle v s) _ _ (λ _. tt)
     (λ _. split P (is_receiving v s) _ _ (λ open_to. record { stream = receiving_lives s v.live open_to; live = end_numbers v s e open_to })
-    (λ shut. split P (is_remembered v s) _ _ (λ _. record { stream = tt; live = ap (λ (w : Standing). numbers_of w.live) (shut_stays v s e shut) })
-    (λ _. record { stream = cancelled_on v h s; live = ap (λ (w : Standing). numbers_of (without_stream s w.live)) (shut_stays v s e shut) ∙ cancelled_numbers v s })))
+    (λ shut. split P (is_remembered v s) _ _ (λ _. record
+    { stream = tt; live = ap (λ (w : Standing). numbers_of w.live) (shut_stays v s e shut) })
+    (λ _. record {
+      stream = cancelled_on v h s;
+      live =
+          ap (λ (w : Standing). numbers_of (without_stream s w.live)) (shut_stays v s e shut) ∙ cancelled_numbers v s;
+    })))
 
-request_told : (v w : Standing) (h : ℕ) (block : HeaderList) → v.highest < block.stream → h ≡ max v.highest block.stream → w.live ≡ v.live ++ new_stream v.initial_window_size block.stream block.end_stream ∷ [] → Told v h w (on_request v block)
+request_told : (v w : Standing) (h : ℕ) (block : HeaderList) → v.highest < block.stream → h ≡ max v.highest block.stream →
+    w.live ≡ v.live ++ new_stream v.initial_window_size block.stream block.end_stream ∷ [] → Told v h w (on_request v block)
 request_told v w h block above high_is is =
     let s = block.stream in
     let x = new_stream v.initial_window_size s block.end_stream in
-    let same : without_stream s w.live ≡ without_stream s v.live = ap (without_stream s) is ∙ without_fresh s v.initial_window_size block.end_stream v.live in
+    let same : without_stream s w.live ≡ without_stream s v.live =
+    ap (without_stream s) is ∙ without_fresh s v.initial_window_size block.end_stream v.live in
     split (Told v h w) (nat_le 100 _) _ _ (λ _. error_told v w h s RefusedStream same)
     (λ _. split (Told v h w) (not (is_well_formed_request block.fields)) _ _ (λ _. error_told v w h s ProtocolError same)
     (λ _. record { stream = (above, omega (arith, above, high_is)); live = ap numbers_of is ∙ map-append number_of v.live (x ∷ []) }))
 
-trailers_told : (v w : Standing) (h s : ℕ) (e : Bool) → is_receiving v s ≡ true → w.live ≡ (after_client_end v s e).live → Told v h w (on_trailers v s e)
-trailers_told v w h s true open_to is = record { stream = receiving_lives s v.live open_to; live = ap numbers_of is ∙ end_numbers v s true open_to }
+trailers_told : (v w : Standing) (h s : ℕ) (e : Bool) → is_receiving v s ≡ true → w.live ≡ (after_client_end v s e).live →
+    Told v h w (on_trailers v s e)
+trailers_told v w h s true open_to is = record
+    { stream = receiving_lives s v.live open_to; live = ap numbers_of is ∙ end_numbers v s true open_to }
 trailers_told v w h s false open_to is = error_told v w h s ProtocolError (ap (without_stream s) is)
 
 -- a whole block
-block_told : (v : Standing) (hs : HeaderState) (h : ℕ) (block : HeaderList) → h ≡ max v.highest block.stream → OkThen (Told v h (after_block (with_headers v hs) block.stream block.end_stream)) (on_block v block)
+block_told : (v : Standing) (hs : HeaderState) (h : ℕ) (block : HeaderList) → h ≡ max v.highest block.stream →
+    OkThen (Told v h (after_block (with_headers v hs) block.stream block.end_stream)) (on_block v block)
 block_told v hs h block high_is =
     let s = block.stream in
     let e = block.end_stream in
@@ -157,9 +171,12 @@ block_told v hs h block high_is =
     (λ _. split P (nat_lt v.highest s) _ _
     (λ opens. request_told v (after_block x s e) h block (ltb-true v.highest s opens) high_is (rw opens refl))
     (λ stays. split P (is_receiving v s) _ _ (λ open_to. trailers_told v (after_block x s e) h s e open_to (rw stays (ends_live v hs s e)))
-    (λ shut. split P (is_remembered v s) _ _ (λ _. nothing_told v (after_block x s e) h (rw stays (ap (λ (w : Standing). numbers_of w.live) (shut_stays x s e shut)))) (λ _. tt))))
+    (λ shut. split P (is_remembered v s) _ _ (λ _. nothing_told v (after_block x s e) h
+    (rw stays (ap (λ (w : Standing). numbers_of w.live) (shut_stays x s e shut)))) (λ _. tt))))
 
-given_told : (v : Standing) (hs : HeaderState) (h : ℕ) (g : Result (Option HeaderList) ErrorCode) → ((block : HeaderList) → g ≡ Ok (Some block) → h ≡ max v.highest block.stream) → OkThen (Told v h (after_header_list (with_headers v hs) g)) (on_header_list v g)
+given_told : (v : Standing) (hs : HeaderState) (h : ℕ) (g : Result (Option HeaderList) ErrorCode) →
+    ((block : HeaderList) → g ≡ Ok (Some block) → h ≡ max v.highest block.stream) →
+    OkThen (Told v h (after_header_list (with_headers v hs) g)) (on_header_list v g)
 given_told v hs h (Err code) high_is = tt
 given_told v hs h (Ok None) high_is = nothing_told v (with_headers v hs) h refl
 given_told v hs h (Ok (Some block)) high_is = block_told v hs h block (high_is block refl)
@@ -169,42 +186,63 @@ abbrev stream_given : Result (Option HeaderList) ErrorCode → ℕ
 stream_given (Ok (Some block)) = block.stream
 stream_given _ = 0
 
-listed_stream : (s : ℕ) (e : Bool) (r : Result (List Header) HpackError) (block : HeaderList) → list_of s e r ≡ Ok (Some block) → block.stream ≡ s
+listed_stream : (s : ℕ) (e : Bool) (r : Result (List Header) HpackError) (block : HeaderList) → list_of s e r ≡ Ok (Some block) →
+    block.stream ≡ s
 listed_stream s e (Ok fields) block is = sym (ap stream_given is)
 listed_stream s e (Err x) block is = cc
 
-top_by : (rs : List Frame) (g : Frame) (table : Option Table) (end_headers : Bool) (b : HeaderBlock) (block : HeaderList) → blocks_after (blocks_in rs) g ≡ blocks_with (blocks_in rs).finished end_headers b → cond end_headers (list_of b.stream b.end_stream (step table b.fragment).0) (Ok None) ≡ Ok (Some block) → top (rs ++ g ∷ []) ≡ max (top rs) block.stream
+top_by : (rs : List Frame) (g : Frame) (table : Option Table) (end_headers : Bool) (b : HeaderBlock) (block : HeaderList) →
+    blocks_after (blocks_in rs) g ≡ blocks_with (blocks_in rs).finished end_headers b →
+    cond end_headers (list_of b.stream b.end_stream (step table b.fragment).0) (Ok None) ≡ Ok (Some block) →
+    top (rs ++ g ∷ []) ≡ max (top rs) block.stream
 top_by rs g table true b block is gives =
-    let high : top (rs ++ g ∷ []) ≡ max (top rs) b.stream = ap (λ (x : Blocks). fold max 0 (map stream_of x.finished)) (in-blocks rs g ∙ is) ∙ top_more rs b in
+    let high : top (rs ++ g ∷ []) ≡ max (top rs) b.stream =
+    ap (λ (x : Blocks). fold max 0 (map stream_of x.finished)) (in-blocks rs g ∙ is) ∙ top_more rs b in
     let own = listed_stream b.stream b.end_stream (step table b.fragment).0 block gives in
     high ∙ ap (max (top rs)) (sym own)
 top_by rs g table false b block is gives = cc
 
-given_top : (rs : List Frame) (g : Frame) (table : Option Table) (end_headers : Bool) (b : HeaderBlock) (block : HeaderList) → blocks_after (blocks_in rs) g ≡ blocks_with (blocks_in rs).finished end_headers b → list_of_block table end_headers b ≡ Ok (Some block) → top (rs ++ g ∷ []) ≡ max (top rs) block.stream
+given_top : (rs : List Frame) (g : Frame) (table : Option Table) (end_headers : Bool) (b : HeaderBlock) (block : HeaderList) →
+    blocks_after (blocks_in rs) g ≡ blocks_with (blocks_in rs).finished end_headers b →
+    list_of_block table end_headers b ≡ Ok (Some block) → top (rs ++ g ∷ []) ≡ max (top rs) block.stream
 given_top rs g table end_headers b block is gives = elim (cases_Bool (is_excessive b)) [
   | inl excessive ↦ let bad = rw excessive at gives in cc
-  | inr fine ↦ let good : cond end_headers (list_of b.stream b.end_stream (step table b.fragment).0) (Ok None) ≡ Ok (Some block) = rw fine at gives in top_by rs g table end_headers b block is good
+  | inr fine ↦ let good : cond end_headers (list_of b.stream b.end_stream (step table b.fragment).0) (Ok None) ≡ Ok (Some block) =
+      rw fine at gives in top_by rs g table end_headers b block is good
 ]
 
-headers_told : (rs ss : List Frame) (g : Frame) (end_headers : Bool) (b : HeaderBlock) → blocks_after (blocks_in rs) g ≡ blocks_with (blocks_in rs).finished end_headers b
-    → OkThen (Told (std_of rs ss) (top (rs ++ g ∷ [])) (after_header_list (with_headers (std_of rs ss) (state_after_block (std_of rs ss).table end_headers b)) (list_of_block (std_of rs ss).table end_headers b))) (on_header_list (std_of rs ss) (list_of_block (std_of rs ss).table end_headers b))
+headers_told : (rs ss : List Frame) (g : Frame) (end_headers : Bool) (b : HeaderBlock) →
+    blocks_after (blocks_in rs) g ≡ blocks_with (blocks_in rs).finished end_headers b
+    → OkThen (Told (std_of rs ss) (top (rs ++ g ∷ []))
+    (after_header_list (with_headers (std_of rs ss) (state_after_block (std_of rs ss).table end_headers b))
+    (list_of_block (std_of rs ss).table end_headers b)))
+    (on_header_list (std_of rs ss) (list_of_block (std_of rs ss).table end_headers b))
 headers_told rs ss g end_headers b is =
     let v = std_of rs ss in
-    given_told v (state_after_block v.table end_headers b) (top (rs ++ g ∷ [])) (list_of_block v.table end_headers b) (λ block gives. given_top rs g v.table end_headers b block is gives)
+    given_told v (state_after_block v.table end_headers b) (top (rs ++ g ∷ [])) (list_of_block v.table end_headers b)
+    (λ block gives. given_top rs g v.table end_headers b block is gives)
 
-continuation_told : (rs ss : List Frame) (s : ℕ) (end_headers : Bool) (fragment : List ℕ) (u : Option HeaderBlock) → (blocks_in rs).unfinished ≡ u
-    → OkThen (Told (std_of rs ss) (top (rs ++ Continuation s end_headers fragment ∷ [])) (after_header_list (with_headers (std_of rs ss) (state_after_continuation (std_of rs ss).table u end_headers fragment)) (list_of_continuation (std_of rs ss).table u end_headers fragment))) (on_header_list (std_of rs ss) (list_of_continuation (std_of rs ss).table u end_headers fragment))
+continuation_told : (rs ss : List Frame) (s : ℕ) (end_headers : Bool) (fragment : List ℕ) (u : Option HeaderBlock) →
+    (blocks_in rs).unfinished ≡ u
+    → OkThen (Told (std_of rs ss) (top (rs ++ Continuation s end_headers fragment ∷ []))
+    (after_header_list (with_headers (std_of rs ss) (state_after_continuation (std_of rs ss).table u end_headers fragment))
+    (list_of_continuation (std_of rs ss).table u end_headers fragment)))
+    (on_header_list (std_of rs ss) (list_of_continuation (std_of rs ss).table u end_headers fragment))
 continuation_told rs ss s end_headers fragment None is = tt
 continuation_told rs ss s end_headers fragment (Some b) is =
     headers_told rs ss (Continuation s end_headers fragment) end_headers (with_continuation fragment b)
-    (ap (λ (o : Option HeaderBlock). option_map_or (λ x. blocks_with (blocks_in rs).finished end_headers (with_continuation fragment x)) o (blocks_in rs)) is)
+    (ap (λ (o : Option HeaderBlock). option_map_or (λ x. blocks_with (blocks_in rs).finished end_headers (with_continuation fragment x)) o
+    (blocks_in rs)) is)
 
-settings_by : (v : Standing) (h : ℕ) (size : Option ℕ) (fault : Option ErrorCode) → OkThen (Told v h (option_map_or (λ i. record v { initial_window_size = i; live = map (stream_after_resize i) v.live }) size v)) (option_map_or Err fault (Ok (record no_effect { acknowledgement = Some (Settings true []) })))
+settings_by : (v : Standing) (h : ℕ) (size : Option ℕ) (fault : Option ErrorCode) →
+    OkThen (Told v h (option_map_or (λ i. record v { initial_window_size = i; live = map (stream_after_resize i) v.live }) size v))
+    (option_map_or Err fault (Ok (record no_effect { acknowledgement = Some (Settings true []) })))
 settings_by v h size (Some code) = tt
 settings_by v h None None = record { stream = tt; live = refl }
 settings_by v h (Some i) None = record { stream = tt; live = resized_numbers i v.live }
 
-settings_told : (v : Standing) (h : ℕ) (ack : Bool) (settings : List Setting) → OkThen (Told v h (after_frame_in v (Settings ack settings))) (on_settings v ack settings)
+settings_told : (v : Standing) (h : ℕ) (ack : Bool) (settings : List Setting) →
+    OkThen (Told v h (after_frame_in v (Settings ack settings))) (on_settings v ack settings)
 settings_told v h true settings = nothing_told v v h refl
 settings_told v h false settings = settings_by v h (fold size_after_setting None settings) (settings_fault v.live settings)
 
@@ -217,7 +255,8 @@ reset_told v h s code =
     split (OkThen (Told v h (after_frame_in v (RstStream s code)))) (is_idle v s) _ _ (λ _. tt)
     (λ _. record { stream = cancelled_on v h s; live = cancelled_numbers v s })
 
-stream_update_told : (v w : Standing) (h s n : ℕ) → w.live ≡ map (stream_after_grant s n) v.live → OkThen (Told v h w) (on_stream_update v s n)
+stream_update_told : (v w : Standing) (h s n : ℕ) → w.live ≡ map (stream_after_grant s n) v.live →
+    OkThen (Told v h w) (on_stream_update v s n)
 stream_update_told v w h s n is =
     let P : Result StreamEvent ErrorCode → Type 0 = OkThen (Told v h w) in
     let same : numbers_of w.live ≡ numbers_of v.live = ap numbers_of is ∙ granted_numbers s n v.live in
@@ -230,18 +269,22 @@ stream_update_told v w h s n is =
 connection_update_told : (v w : Standing) (h n : ℕ) → w.live ≡ v.live → OkThen (Told v h w) (on_connection_update v n)
 connection_update_told v w h n is =
     let P : Result StreamEvent ErrorCode → Type 0 = OkThen (Told v h w) in
-    split P (n == 0) _ _ (λ _. tt) (λ _. split P (may_grow n v.connection_window) _ _ (λ _. nothing_told v w h (ap numbers_of is)) (λ _. tt))
+    split P (n == 0) _ _ (λ _. tt) (λ _. split P (may_grow n v.connection_window) _ _ (λ _. nothing_told v w h (ap numbers_of is))
+    (λ _. tt))
 
-update_told : (v : Standing) (h s n : ℕ) → OkThen (Told v h (after_frame_in v (WindowUpdate s n))) (cond (s == 0) (on_connection_update v n) (on_stream_update v s n))
+update_told : (v : Standing) (h s n : ℕ) → OkThen (Told v h (after_frame_in v (WindowUpdate s n)))
+    (cond (s == 0) (on_connection_update v n) (on_stream_update v s n))
 update_told v h s n =
     let w = after_frame_in v (WindowUpdate s n) in
     split (OkThen (Told v h w)) (s == 0) _ _
     (λ whole. connection_update_told v w h n (rw whole refl))
     (λ other. stream_update_told v w h s n (rw other refl))
 
-pub content_told : (rs ss : List Frame) (n : ℕ) (g : Frame) → OkThen (Told (std_of rs ss) (top (rs ++ g ∷ [])) (after_frame_in (std_of rs ss) g)) (on_content (std_of rs ss) n g)
+pub content_told : (rs ss : List Frame) (n : ℕ) (g : Frame) →
+    OkThen (Told (std_of rs ss) (top (rs ++ g ∷ [])) (after_frame_in (std_of rs ss) g)) (on_content (std_of rs ss) n g)
 content_told rs ss n (Data s e bytes) = data_told (std_of rs ss) _ n s e bytes
-content_told rs ss n (Headers s e end_headers fragment) = headers_told rs ss (Headers s e end_headers fragment) end_headers (new_block s e fragment) refl
+content_told rs ss n (Headers s e end_headers fragment) =
+    headers_told rs ss (Headers s e end_headers fragment) end_headers (new_block s e fragment) refl
 content_told rs ss n (Priority s p) = nothing_told (std_of rs ss) (std_of rs ss) _ refl
 content_told rs ss n (RstStream s code) = reset_told (std_of rs ss) _ s code
 content_told rs ss n (Settings ack settings) = settings_told (std_of rs ss) _ ack settings

@@ -13,7 +13,8 @@ abbrev pub Agree : {A : Type 0} → (ℕ → A) → (ℕ → A) → ℕ → List
 Agree f g m xs = (t : ℕ) → m < t → t ≤ fold max m xs → f t ≡ g t
 
 -- of the rising numbers, only those above the first and up to the highest matter
-pub map_rising_agree : {A : Type 0} (f g : ℕ → A) (p q : ℕ → Bool) (m : ℕ) (xs : List ℕ) → Agree f g m xs → Agree p q m xs → map f (filter p (rising_numbers m xs)) ≡ map g (filter q (rising_numbers m xs))
+pub map_rising_agree : {A : Type 0} (f g : ℕ → A) (p q : ℕ → Bool) (m : ℕ) (xs : List ℕ) → Agree f g m xs → Agree p q m xs →
+    map f (filter p (rising_numbers m xs)) ≡ map g (filter q (rising_numbers m xs))
 map_rising_agree f g p q m [] hf hp = refl
 map_rising_agree f g p q m (x ∷ xs) hf hp = elim (cases_Bool (nat_lt m x)) [
   | inl higher ↦
@@ -34,7 +35,8 @@ map_rising_agree f g p q m (x ∷ xs) hf hp = elim (cases_Bool (nat_lt m x)) [
 ]
 
 -- one more number
-pub rising_numbers-push : (m s : ℕ) (xs : List ℕ) → rising_numbers m (xs ++ s ∷ []) ≡ rising_numbers m xs ++ cond (nat_lt (fold max m xs) s) (s ∷ []) []
+pub rising_numbers-push : (m s : ℕ) (xs : List ℕ) →
+    rising_numbers m (xs ++ s ∷ []) ≡ rising_numbers m xs ++ cond (nat_lt (fold max m xs) s) (s ∷ []) []
 rising_numbers-push m s [] = refl
 rising_numbers-push m s (x ∷ xs) = elim (cases_Bool (nat_lt m x)) [
   | inl higher ↦

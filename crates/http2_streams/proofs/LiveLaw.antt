@@ -29,7 +29,8 @@ placed_stays : (bs : List HeaderBlock) (end_headers : Bool) (b : HeaderBlock) �
 placed_stays bs true b = (b ∷ [], refl)
 placed_stays bs false b = stays bs
 
-next_stays : (bs : Blocks) (o : Option HeaderBlock) (end_headers : Bool) (fragment : List ℕ) → Stays bs.finished (option_map_or (λ b. blocks_with bs.finished end_headers (with_continuation fragment b)) o bs).finished
+next_stays : (bs : Blocks) (o : Option HeaderBlock) (end_headers : Bool) (fragment : List ℕ) →
+    Stays bs.finished (option_map_or (λ b. blocks_with bs.finished end_headers (with_continuation fragment b)) o bs).finished
 next_stays bs None end_headers fragment = stays bs.finished
 next_stays bs (Some b) end_headers fragment = placed_stays bs.finished end_headers (with_continuation fragment b)
 
@@ -60,7 +61,8 @@ finished_more rs xs =
 
 -- ---- what lives still lived before
 
-still : (a x b y c z g w e v : Bool) → (not ((a || x) || (b || y)) && not (((c || z) || (g || w)) && (e || v))) ≡ true → (not (a || b) && not ((c || g) && e)) ≡ true
+still : (a x b y c z g w e v : Bool) → (not ((a || x) || (b || y)) && not (((c || z) || (g || w)) && (e || v))) ≡ true →
+    (not (a || b) && not ((c || g) && e)) ≡ true
 still true x b y c z g w e v h = cc
 still false true b y c z g w e v h = cc
 still false false true y c z g w e v h = cc
@@ -75,26 +77,37 @@ still false false false false false z false w e v h = refl
 alive_falls : (rs xs ss ys : List Frame) (s : ℕ) → alive (rs ++ xs) (ss ++ ys) s ≡ true → alive rs ss s ≡ true
 alive_falls rs xs ss ys s h =
     let b = finished_more rs xs in
-    let g : list_any (block_ends s) (blocks_in (rs ++ xs)).finished ≡ (list_any (block_ends s) (blocks_in rs).finished || list_any (block_ends s) b.0) = ap (list_any (block_ends s)) b.1 ∙ list_any-append (block_ends s) (blocks_in rs).finished b.0 in
+    let g : list_any (block_ends s) (blocks_in (rs ++ xs)).finished
+    ≡ (list_any (block_ends s) (blocks_in rs).finished || list_any (block_ends s) b.0) =
+    ap (list_any (block_ends s)) b.1 ∙ list_any-append (block_ends s) (blocks_in rs).finished b.0 in
     let r = list_any-append (resets s) rs xs in
     let q = list_any-append (resets s) ss ys in
     let c = list_any-append (data_ends s) rs xs in
     let e = list_any-append (ends s) ss ys in
-    let parts : (not ((list_any (resets s) rs || list_any (resets s) xs) || (list_any (resets s) ss || list_any (resets s) ys)) && not (((list_any (data_ends s) rs || list_any (data_ends s) xs) || (list_any (block_ends s) (blocks_in rs).finished || list_any (block_ends s) b.0)) && (list_any (ends s) ss || list_any (ends s) ys))) ≡ true = rw (← r, ← q, ← c, ← g, ← e) h in
-    still (list_any (resets s) rs) (list_any (resets s) xs) (list_any (resets s) ss) (list_any (resets s) ys) (list_any (data_ends s) rs) (list_any (data_ends s) xs) (list_any (block_ends s) (blocks_in rs).finished) (list_any (block_ends s) b.0) (list_any (ends s) ss) (list_any (ends s) ys) parts
+    let parts : (not ((list_any (resets s) rs || list_any (resets s) xs) || (list_any (resets s) ss || list_any (resets s) ys))
+    && not (((list_any (data_ends s) rs || list_any (data_ends s) xs) ||
+    (list_any (block_ends s) (blocks_in rs).finished || list_any (block_ends s) b.0))
+    && (list_any (ends s) ss || list_any (ends s) ys))) ≡ true = rw (← r, ← q, ← c, ← g, ← e) h in
+    still (list_any (resets s) rs) (list_any (resets s) xs) (list_any (resets s) ss) (list_any (resets s) ys) (list_any (data_ends s) rs)
+    (list_any (data_ends s) xs) (list_any (block_ends s) (blocks_in rs).finished) (list_any (block_ends s) b.0) (list_any (ends s) ss)
+    (list_any (ends s) ys) parts
 
 pub live_falls : (d es : List Entry) (s : ℕ) → is_not_closed (d ++ es) s ≡ true → is_not_closed d s ≡ true
 live_falls d es s h =
     let r : received_frames (d ++ es) ≡ received_frames d ++ received_frames es = filter_map-append frame_in d es in
     let q : sent_frames (d ++ es) ≡ sent_frames d ++ sent_frames es = filter_map-append frame_out d es in
-    alive_falls (received_frames d) (received_frames es) (sent_frames d) (sent_frames es) s (ap (λ (ss : List Frame). alive (received_frames d ++ received_frames es) ss s) (sym q) ∙ ap (λ (rs : List Frame). alive rs (sent_frames (d ++ es)) s) (sym r) ∙ h)
+    alive_falls (received_frames d) (received_frames es) (sent_frames d) (sent_frames es) s
+    (ap (λ (ss : List Frame). alive (received_frames d ++ received_frames es) ss s) (sym q)
+    ∙ ap (λ (rs : List Frame). alive rs (sent_frames (d ++ es)) s) (sym r) ∙ h)
 
 -- ---- the highest never falls
 
 top_rises : (rs xs : List Frame) → top rs ≤ top (rs ++ xs)
 top_rises rs xs =
     let b = finished_more rs xs in
-    let more : top (rs ++ xs) ≡ fold max (top rs) (map stream_of b.0) = ap (λ (bs : List HeaderBlock). fold max 0 (map stream_of bs)) b.1 ∙ ap (fold max 0) (map-append stream_of (blocks_in rs).finished b.0) ∙ fold-append max 0 (numbers rs) (map stream_of b.0) in
+    let more : top (rs ++ xs) ≡ fold max (top rs) (map stream_of b.0) =
+    ap (λ (bs : List HeaderBlock). fold max 0 (map stream_of bs)) b.1
+    ∙ ap (fold max 0) (map-append stream_of (blocks_in rs).finished b.0) ∙ fold-append max 0 (numbers rs) (map stream_of b.0) in
     rw more (max_from (top rs) (map stream_of b.0))
 
 pub highest_rises : (d es : List Entry) → highest_stream d ≤ highest_stream (d ++ es)
@@ -146,7 +159,8 @@ listed_is_live d s h =
     let k = kept_both (is_not_closed d) s (opened_streams d) h in
     (k.0, rising_below 0 s (numbers (received_frames d)) k.1)
 
-pub idle_is_live : (v : Standing) (d : List Entry) (s : ℕ) → AreStreams v d → has_failed d ≡ false → highest_stream d < s → is_not_closed d s ≡ true
+pub idle_is_live : (v : Standing) (d : List Entry) (s : ℕ) → AreStreams v d → has_failed d ≡ false → highest_stream d < s →
+    is_not_closed d s ≡ true
 idle_is_live v d s h fine above =
     let u = (h.state fine).idle s above in
     let r = u.unreset in

@@ -19,7 +19,8 @@ use Rattle.http2_streams.proofs.Sides.{numbers, reset_in, ended_c, ended_s, aliv
 
 -- ---- the last n of a list
 
-pub last_items-push : {A : Type 0} (n : ℕ) (xs : List A) (x : A) → 1 ≤ n → last_items n (xs ++ x ∷ []) ≡ last_items n (last_items n xs ++ x ∷ [])
+pub last_items-push : {A : Type 0} (n : ℕ) (xs : List A) (x : A) → 1 ≤ n →
+    last_items n (xs ++ x ∷ []) ≡ last_items n (last_items n xs ++ x ∷ [])
 last_items-push n xs x some =
     let k = length xs - n in
     let small : k ≤ length xs = omega arith in
@@ -35,20 +36,25 @@ last_items-push n xs x some =
 
 -- ---- each part
 
-at_put : (rs ss : List Frame) (f : Frame) (t : ℕ) → at rs (ss ++ f ∷ []) t ≡ stream_by t (ended_c rs t) (ended_s ss t || ends t f) (size rs) (granted_in rs t) (spent_in ss t + data_length_on t f)
+at_put : (rs ss : List Frame) (f : Frame) (t : ℕ) →
+    at rs (ss ++ f ∷ []) t ≡ stream_by t (ended_c rs t) (ended_s ss t || ends t f) (size rs) (granted_in rs t)
+    (spent_in ss t + data_length_on t f)
 at_put rs ss f t =
     let e = any-push (ends t) ss f in
     let n = sum-push (data_length_on t) ss f in
     cc
 
-alive_put : (rs ss : List Frame) (f : Frame) (t : ℕ) → alive rs (ss ++ f ∷ []) t ≡ (not (reset_in rs ss t || resets t f) && not (ended_c rs t && (ended_s ss t || ends t f)))
+alive_put : (rs ss : List Frame) (f : Frame) (t : ℕ) →
+    alive rs (ss ++ f ∷ []) t ≡ (not (reset_in rs ss t || resets t f) && not (ended_c rs t && (ended_s ss t || ends t f)))
 alive_put rs ss f t =
     let e = any-push (ends t) ss f in
     let r = out-reset rs ss f t in
     cc
 
-streams_put : (rs ss : List Frame) (f : Frame) (m : ℕ → Stream) (k : ℕ → Bool) → ((t : ℕ) → at rs (ss ++ f ∷ []) t ≡ m t) → ((t : ℕ) → alive rs (ss ++ f ∷ []) t ≡ k t) → streams_in rs (ss ++ f ∷ []) ≡ map m (filter k (rising_numbers 0 (numbers rs)))
-streams_put rs ss f m k each lives = map_rising_agree (at rs (ss ++ f ∷ [])) m (alive rs (ss ++ f ∷ [])) k 0 (numbers rs) (λ t _ _. each t) (λ t _ _. lives t)
+streams_put : (rs ss : List Frame) (f : Frame) (m : ℕ → Stream) (k : ℕ → Bool) → ((t : ℕ) → at rs (ss ++ f ∷ []) t ≡ m t) →
+    ((t : ℕ) → alive rs (ss ++ f ∷ []) t ≡ k t) → streams_in rs (ss ++ f ∷ []) ≡ map m (filter k (rising_numbers 0 (numbers rs)))
+streams_put rs ss f m k each lives = map_rising_agree (at rs (ss ++ f ∷ [])) m (alive rs (ss ++ f ∷ [])) k 0 (numbers rs) (λ t _ _. each t)
+    (λ t _ _. lives t)
 
 -- what a frame that does not end the connection leaves, by what it does to the streams, the remembered ones and
 -- the connection's window
@@ -56,13 +62,16 @@ put_by : (rs ss : List Frame) (f : Frame) (l : List Stream) (r : List ℕ) (c : 
     → streams_in rs (ss ++ f ∷ []) ≡ l → last_items 128 (filter_map stream_reset_by (ss ++ f ∷ [])) ≡ r → connection rs (ss ++ f ∷ []) ≡ c
     → std_of rs (ss ++ f ∷ []) ≡ record (std_of rs ss) { live = l; remembered = r; connection_window = c }
 put_by rs ss f l r c goes_on l-is r-is c-is =
-    let g : list_any is_goaway (ss ++ f ∷ []) ≡ list_any is_goaway ss = any-push is_goaway ss f ∙ ap (λ b. list_any is_goaway ss || b) goes_on ∙ or_false (list_any is_goaway ss) in
+    let g : list_any is_goaway (ss ++ f ∷ []) ≡ list_any is_goaway ss =
+    any-push is_goaway ss f ∙ ap (λ b. list_any is_goaway ss || b) goes_on ∙ or_false (list_any is_goaway ss) in
     cc
 
-remembered_put : (ss : List Frame) (f : Frame) → stream_reset_by f ≡ None → last_items 128 (filter_map stream_reset_by (ss ++ f ∷ [])) ≡ last_items 128 (filter_map stream_reset_by ss)
+remembered_put : (ss : List Frame) (f : Frame) → stream_reset_by f ≡ None →
+    last_items 128 (filter_map stream_reset_by (ss ++ f ∷ [])) ≡ last_items 128 (filter_map stream_reset_by ss)
 remembered_put ss f none =
     let e : filter_map stream_reset_by (f ∷ []) ≡ [] = rw none refl in
-    ap (last_items 128) (filter_map-append stream_reset_by ss (f ∷ []) ∙ ap (λ xs. filter_map stream_reset_by ss ++ xs) e ∙ append-nil (filter_map stream_reset_by ss))
+    ap (last_items 128) (filter_map-append stream_reset_by ss (f ∷ []) ∙ ap (λ xs. filter_map stream_reset_by ss ++ xs) e
+    ∙ append-nil (filter_map stream_reset_by ss))
 
 connection_put : (rs ss : List Frame) (f : Frame) → data_length f ≡ 0 → connection rs (ss ++ f ∷ []) ≡ connection rs ss
 connection_put rs ss f none =
@@ -83,7 +92,8 @@ quiet_put rs ss f q =
     put_by rs ss f _ _ _ q.goes_on
     (streams_put rs ss f (at rs ss) (alive rs ss)
     (λ t. at_put rs ss f t
-    ∙ ap (λ b. stream_by t (ended_c rs t) (ended_s ss t || b) (size rs) (granted_in rs t) (spent_in ss t + data_length_on t f)) (q.unended t)
+    ∙ ap (λ b. stream_by t (ended_c rs t) (ended_s ss t || b) (size rs) (granted_in rs t) (spent_in ss t + data_length_on t f))
+    (q.unended t)
     ∙ ap (λ b. stream_by t (ended_c rs t) b (size rs) (granted_in rs t) (spent_in ss t + data_length_on t f)) (or_false (ended_s ss t))
     ∙ ap (λ n. stream_by t (ended_c rs t) (ended_s ss t) (size rs) (granted_in rs t) (spent_in ss t + n)) (q.unspent t)
     ∙ ap (λ n. stream_by t (ended_c rs t) (ended_s ss t) (size rs) (granted_in rs t) n) (add-zero (spent_in ss t)))
@@ -97,8 +107,11 @@ quiet_put rs ss f q =
 
 -- ---- RST_STREAM
 
-remembered_more : (ss : List Frame) (s code : ℕ) → last_items 128 (filter_map stream_reset_by (ss ++ RstStream s code ∷ [])) ≡ last_items 128 (last_items 128 (filter_map stream_reset_by ss) ++ s ∷ [])
-remembered_more ss s code = ap (last_items 128) (filter_map-append stream_reset_by ss (RstStream s code ∷ [])) ∙ last_items-push 128 (filter_map stream_reset_by ss) s (omega arith)
+remembered_more : (ss : List Frame) (s code : ℕ) →
+    last_items 128 (filter_map stream_reset_by (ss ++ RstStream s code ∷ []))
+    ≡ last_items 128 (last_items 128 (filter_map stream_reset_by ss) ++ s ∷ [])
+remembered_more ss s code = ap (last_items 128) (filter_map-append stream_reset_by ss (RstStream s code ∷ []))
+    ∙ last_items-push 128 (filter_map stream_reset_by ss) s (omega arith)
 
 pub reset_is_put : (rs ss : List Frame) (s code : ℕ) → std_of rs (ss ++ RstStream s code ∷ []) ≡ after_reset (std_of rs ss) s
 reset_is_put rs ss s code =
@@ -141,27 +154,36 @@ idle_put rs ss f idle aside t above =
 abbrev pub changed_by : (ℕ → Stream) → (ℕ → Bool) → (Stream → Stream) → (Stream → Bool) → List ℕ → List Stream
 changed_by f p m k xs = map (λ t. m (f t)) (filter (λ t. p t && k (f t)) xs)
 
-kept_by : (f : ℕ → Stream) (p : ℕ → Bool) (m : Stream → Stream) (k : Stream → Bool) (xs : List ℕ) → map m (filter k (map f (filter p xs))) ≡ changed_by f p m k xs
-kept_by f p m k xs = ap (map m) (filter-map k f (filter p xs) ∙ ap (map f) (filter-filter (λ t. k (f t)) p xs)) ∙ map-map m f (filter (λ t. p t && k (f t)) xs)
+kept_by : (f : ℕ → Stream) (p : ℕ → Bool) (m : Stream → Stream) (k : Stream → Bool) (xs : List ℕ) →
+    map m (filter k (map f (filter p xs))) ≡ changed_by f p m k xs
+kept_by f p m k xs = ap (map m) (filter-map k f (filter p xs) ∙ ap (map f) (filter-filter (λ t. k (f t)) p xs))
+    ∙ map-map m f (filter (λ t. p t && k (f t)) xs)
 
 less : (g s n : ℕ) → pos g -ℤ pos (s + n) ≡ (pos g -ℤ pos s) -ℤ pos n
 less g s n = omega (arith, ints)
 
 -- a stream where n bytes are put on s
-spent_more : (rs ss : List Frame) (s n t : ℕ) → stream_by t (ended_c rs t) (ended_s ss t) (size rs) (granted_in rs t) (spent_in ss t + cond (s == t) n 0) ≡ stream_after_spending s n (at rs ss t)
+spent_more : (rs ss : List Frame) (s n t : ℕ) →
+    stream_by t (ended_c rs t) (ended_s ss t) (size rs) (granted_in rs t) (spent_in ss t + cond (s == t) n 0)
+    ≡ stream_after_spending s n (at rs ss t)
 spent_more rs ss s n t = elim (cases_Bool (t == s)) [
-  | inl same ↦ rw (eq_sym s t, same) (ap (λ (z : ℤ). record { number = t; ended_by_client = ended_c rs t; ended_by_server = ended_s ss t; window = record { initial = size rs; change = z } }) (less (granted_in rs t) (spent_in ss t) n))
-  | inr others ↦ rw (eq_sym s t, others) (ap (λ m. stream_by t (ended_c rs t) (ended_s ss t) (size rs) (granted_in rs t) m) (add-zero (spent_in ss t)))
+  | inl same ↦ rw (eq_sym s t, same) (ap (λ (z : ℤ). record
+      { number = t; ended_by_client = ended_c rs t; ended_by_server = ended_s ss t; window = record { initial = size rs; change = z } })
+      (less (granted_in rs t) (spent_in ss t) n))
+  | inr others ↦ rw (eq_sym s t, others) (ap (λ m. stream_by t (ended_c rs t) (ended_s ss t) (size rs) (granted_in rs t) m)
+      (add-zero (spent_in ss t)))
 ]
 
 -- the same stream where the server ends s
-marked_more : (s t : ℕ) (c e : Bool) (i g p : ℕ) (x : Stream) → stream_by t c e i g p ≡ x → stream_by t c (e || (s == t)) i g p ≡ with_end Server s x
+marked_more : (s t : ℕ) (c e : Bool) (i g p : ℕ) (x : Stream) → stream_by t c e i g p ≡ x →
+    stream_by t c (e || (s == t)) i g p ≡ with_end Server s x
 marked_more s t c e i g p x is = rw (← is) (elim (cases_Bool (t == s)) [
   | inl same ↦ rw (eq_sym s t, same) (ap (λ b. stream_by t c b i g p) (or_true e))
   | inr others ↦ rw (eq_sym s t, others) (ap (λ b. stream_by t c b i g p) (or_false e))
 ])
 
-lives_more : (rs ss : List Frame) (s t : ℕ) → (not (reset_in rs ss t || false) && not (ended_c rs t && (ended_s ss t || (s == t)))) ≡ (alive rs ss t && not (t == s && ended_c rs t))
+lives_more : (rs ss : List Frame) (s t : ℕ) → (not (reset_in rs ss t || false) && not (ended_c rs t && (ended_s ss t || (s == t))))
+    ≡ (alive rs ss t && not (t == s && ended_c rs t))
 lives_more rs ss s t =
     ap (λ b. not b && not (ended_c rs t && (ended_s ss t || (s == t)))) (or_false (reset_in rs ss t))
     ∙ ap (λ b. not (reset_in rs ss t) && not (ended_c rs t && (ended_s ss t || b))) (eq_sym s t)
@@ -172,18 +194,21 @@ lives_on rs ss t =
     ap (λ b. not b && not (ended_c rs t && (ended_s ss t || false))) (or_false (reset_in rs ss t))
     ∙ ap (λ b. not (reset_in rs ss t) && not (ended_c rs t && b)) (or_false (ended_s ss t))
 
-data_connection : (rs ss : List Frame) (s : ℕ) (e : Bool) (bytes : List ℕ) → connection rs (ss ++ Data s e bytes ∷ []) ≡ credit_after_spending (length bytes) (connection rs ss)
+data_connection : (rs ss : List Frame) (s : ℕ) (e : Bool) (bytes : List ℕ) →
+    connection rs (ss ++ Data s e bytes ∷ []) ≡ credit_after_spending (length bytes) (connection rs ss)
 data_connection rs ss s e bytes =
     let n = sum-push data_length ss (Data s e bytes) in
     let z = less (sum_by (increment_for 0) rs) (sum_by data_length ss) (length bytes) in
     cc
 
-pub data_is_put : (rs ss : List Frame) (s : ℕ) (end_stream : Bool) (bytes : List ℕ) → std_of rs (ss ++ Data s end_stream bytes ∷ []) ≡ after_server_end (after_data (std_of rs ss) s (length bytes)) s end_stream
+pub data_is_put : (rs ss : List Frame) (s : ℕ) (end_stream : Bool) (bytes : List ℕ) →
+    std_of rs (ss ++ Data s end_stream bytes ∷ []) ≡ after_server_end (after_data (std_of rs ss) s (length bytes)) s end_stream
 data_is_put rs ss s false bytes =
     let f = Data s false bytes in
     put_by rs ss f _ _ _ refl
     (streams_put rs ss f (λ t. stream_after_spending s (length bytes) (at rs ss t)) (alive rs ss)
-    (λ t. at_put rs ss f t ∙ ap (λ b. stream_by t (ended_c rs t) b (size rs) (granted_in rs t) (spent_in ss t + cond (s == t) (length bytes) 0)) (or_false (ended_s ss t)) ∙ spent_more rs ss s (length bytes) t)
+    (λ t. at_put rs ss f t ∙ ap (λ b. stream_by t (ended_c rs t) b (size rs) (granted_in rs t)
+    (spent_in ss t + cond (s == t) (length bytes) 0)) (or_false (ended_s ss t)) ∙ spent_more rs ss s (length bytes) t)
     (λ t. alive_put rs ss f t ∙ lives_on rs ss t)
     ∙ sym (changed_streams rs ss (stream_after_spending s (length bytes)) (rising_numbers 0 (numbers rs))))
     (remembered_put ss f refl)
@@ -192,25 +217,34 @@ data_is_put rs ss s true bytes =
     let f = Data s true bytes in
     let n = length bytes in
     put_by rs ss f _ _ _ refl
-    (streams_put rs ss f (λ t. with_end Server s (stream_after_spending s n (at rs ss t))) (λ t. alive rs ss t && not (t == s && ended_c rs t))
-    (λ t. at_put rs ss f t ∙ marked_more s t (ended_c rs t) (ended_s ss t) (size rs) (granted_in rs t) (spent_in ss t + cond (s == t) n 0) (stream_after_spending s n (at rs ss t)) (spent_more rs ss s n t))
+    (streams_put rs ss f (λ t. with_end Server s (stream_after_spending s n (at rs ss t)))
+    (λ t. alive rs ss t && not (t == s && ended_c rs t))
+    (λ t. at_put rs ss f t ∙ marked_more s t (ended_c rs t) (ended_s ss t) (size rs) (granted_in rs t) (spent_in ss t + cond (s == t) n 0)
+    (stream_after_spending s n (at rs ss t)) (spent_more rs ss s n t))
     (λ t. alive_put rs ss f t ∙ lives_more rs ss s t)
-    ∙ sym (kept_by (λ t. stream_after_spending s n (at rs ss t)) (alive rs ss) (with_end Server s) (λ x. not (x.number == s && x.ended_by_client)) (rising_numbers 0 (numbers rs)))
+    ∙ sym (kept_by (λ t. stream_after_spending s n (at rs ss t)) (alive rs ss) (with_end Server s)
+    (λ x. not (x.number == s && x.ended_by_client)) (rising_numbers 0 (numbers rs)))
     ∙ ap (λ xs. streams_after_end Server s xs) (sym (changed_streams rs ss (stream_after_spending s n) (rising_numbers 0 (numbers rs)))))
     (remembered_put ss f refl)
     (data_connection rs ss s true bytes)
 
-same_at : (rs ss : List Frame) (t : ℕ) → stream_by t (ended_c rs t) (ended_s ss t) (size rs) (granted_in rs t) (spent_in ss t + 0) ≡ at rs ss t
+same_at : (rs ss : List Frame) (t : ℕ) → stream_by t (ended_c rs t) (ended_s ss t) (size rs) (granted_in rs t) (spent_in ss t + 0)
+    ≡ at rs ss t
 same_at rs ss t = ap (λ m. stream_by t (ended_c rs t) (ended_s ss t) (size rs) (granted_in rs t) m) (add-zero (spent_in ss t))
 
-pub headers_is_put : (rs ss : List Frame) (s : ℕ) (end_stream end_headers : Bool) (fragment : List ℕ) → std_of rs (ss ++ Headers s end_stream end_headers fragment ∷ []) ≡ after_server_end (std_of rs ss) s end_stream
-headers_is_put rs ss s false end_headers fragment = quiet_put rs ss (Headers s false end_headers fragment) (record { goes_on = refl; unreset = λ t. refl; unended = λ t. refl; unspent = λ t. refl; no_data = refl; resets_none = refl })
+pub headers_is_put : (rs ss : List Frame) (s : ℕ) (end_stream end_headers : Bool) (fragment : List ℕ) →
+    std_of rs (ss ++ Headers s end_stream end_headers fragment ∷ []) ≡ after_server_end (std_of rs ss) s end_stream
+headers_is_put rs ss s false end_headers fragment =
+    quiet_put rs ss (Headers s false end_headers fragment)
+    (record { goes_on = refl; unreset = λ t. refl; unended = λ t. refl; unspent = λ t. refl; no_data = refl; resets_none = refl })
 headers_is_put rs ss s true end_headers fragment =
     let f = Headers s true end_headers fragment in
     put_by rs ss f _ _ _ refl
     (streams_put rs ss f (λ t. with_end Server s (at rs ss t)) (λ t. alive rs ss t && not (t == s && ended_c rs t))
-    (λ t. at_put rs ss f t ∙ marked_more s t (ended_c rs t) (ended_s ss t) (size rs) (granted_in rs t) (spent_in ss t + 0) (at rs ss t) (same_at rs ss t))
+    (λ t. at_put rs ss f t ∙ marked_more s t (ended_c rs t) (ended_s ss t) (size rs) (granted_in rs t) (spent_in ss t + 0) (at rs ss t)
+    (same_at rs ss t))
     (λ t. alive_put rs ss f t ∙ lives_more rs ss s t)
-    ∙ sym (kept_by (at rs ss) (alive rs ss) (with_end Server s) (λ x. not (x.number == s && x.ended_by_client)) (rising_numbers 0 (numbers rs))))
+    ∙ sym (kept_by (at rs ss) (alive rs ss) (with_end Server s) (λ x. not (x.number == s && x.ended_by_client))
+    (rising_numbers 0 (numbers rs))))
     (remembered_put ss f refl)
     (connection_put rs ss f refl)

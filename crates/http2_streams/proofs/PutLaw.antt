@@ -33,7 +33,8 @@ sent_one d f = filter_map-append frame_out d (Out f ∷ [])
 
 -- ---- live streams were opened
 
-live_head : (rs ss : List Frame) (s x : ℕ) (ys : List ℕ) → list_any (number_is s) (map (at rs ss) (filter (alive rs ss) (x ∷ ys))) ≡ true → (x ≡ s) ⊎ (list_any (number_is s) (map (at rs ss) (filter (alive rs ss) ys)) ≡ true)
+live_head : (rs ss : List Frame) (s x : ℕ) (ys : List ℕ) → list_any (number_is s) (map (at rs ss) (filter (alive rs ss) (x ∷ ys))) ≡ true →
+    (x ≡ s) ⊎ (list_any (number_is s) (map (at rs ss) (filter (alive rs ss) ys)) ≡ true)
 live_head rs ss s x ys h = elim (cases_Bool (alive rs ss x)) [
   | inl lives ↦
       let h' : ((x == s) || list_any (number_is s) (map (at rs ss) (filter (alive rs ss) ys))) ≡ true = rw lives at h in
@@ -44,7 +45,8 @@ live_head rs ss s x ys h = elim (cases_Bool (alive rs ss x)) [
   | inr gone ↦ let h' : list_any (number_is s) (map (at rs ss) (filter (alive rs ss) ys)) ≡ true = rw gone at h in inr h'
 ]
 
-live_below_from : (rs ss : List Frame) (s m : ℕ) (xs : List ℕ) → list_any (number_is s) (map (at rs ss) (filter (alive rs ss) (rising_numbers m xs))) ≡ true → s ≤ fold max m xs
+live_below_from : (rs ss : List Frame) (s m : ℕ) (xs : List ℕ) →
+    list_any (number_is s) (map (at rs ss) (filter (alive rs ss) (rising_numbers m xs))) ≡ true → s ≤ fold max m xs
 live_below_from rs ss s m [] h = cc
 live_below_from rs ss s m (x ∷ xs) h = elim (cases_Bool (nat_lt m x)) [
   | inl higher ↦
@@ -77,45 +79,70 @@ live_is_opened v d s h fine lives =
 -- ---- a frame put
 
 abbrev Leaves : Standing → Frame → Standing → Type 0
-Leaves v f w = (d : List Entry) → v ≡ standing d → IsIdle d → (std_of (received_frames d) (sent_frames d ++ f ∷ []) ≡ w) × Idle (received_frames d) (sent_frames d ++ f ∷ [])
+Leaves v f w = (d : List Entry) → v ≡ standing d → IsIdle d →
+    (std_of (received_frames d) (sent_frames d ++ f ∷ []) ≡ w) × Idle (received_frames d) (sent_frames d ++ f ∷ [])
 
-put_law : (v w : Standing) (d : List Entry) (f : Frame) → AreStreams v d → w.failed ≡ v.failed → Leaves v f w → AreStreams w (d ++ Out f ∷ [])
+put_law : (v w : Standing) (d : List Entry) (f : Frame) → AreStreams v d → w.failed ≡ v.failed → Leaves v f w →
+    AreStreams w (d ++ Out f ∷ [])
 put_law v w d f h same leaves = elim (cases_Bool v.failed) [
-  | inl bad ↦ stands_failed (d ++ Out f ∷ []) w (same ∙ bad) (has_failed-append d (Out f ∷ []) ∙ ap (λ b. b || has_failed (Out f ∷ [])) (sym h.fault ∙ bad))
+  | inl bad ↦ stands_failed (d ++ Out f ∷ []) w (same ∙ bad)
+      (has_failed-append d (Out f ∷ []) ∙ ap (λ b. b || has_failed (Out f ∷ [])) (sym h.fault ∙ bad))
   | inr fine ↦
       let here = before_failure v d h fine in
       let there = leaves d here.1.is here.1.idle in
-      stands_by (d ++ Out f ∷ []) w (received_frames d) (sent_frames d ++ f ∷ []) (received_one d (Out f) refl) (sent_one d f) there.0 there.1
+      stands_by (d ++ Out f ∷ []) w (received_frames d) (sent_frames d ++ f ∷ []) (received_one d (Out f) refl)
+      (sent_one d f) there.0 there.1
 ]
 
 server_ends_failed : (v : Standing) (s : ℕ) (e : Bool) → (after_server_end v s e).failed ≡ v.failed
 server_ends_failed v s true = refl
 server_ends_failed v s false = refl
 
-pub reset_put_law : (v w : Standing) (d : List Entry) (s code : ℕ) → s ≤ v.highest → w ≡ after_reset v s → AreStreams v d → AreStreams w (d ++ Out (RstStream s code) ∷ [])
+pub reset_put_law : (v w : Standing) (d : List Entry) (s code : ℕ) → s ≤ v.highest → w ≡ after_reset v s → AreStreams v d →
+    AreStreams w (d ++ Out (RstStream s code) ∷ [])
 reset_put_law v w d s code low is h =
     put_law v w d (RstStream s code) h (ap (λ (x : Standing). x.failed) is) (λ e v-is idle.
     let high : v.highest ≡ highest_stream e = ap (λ (x : Standing). x.highest) v-is in (
       reset_is_put (received_frames e) (sent_frames e) s code ∙ sym (is ∙ ap (λ (x : Standing). after_reset x s) v-is),
-      idle_put (received_frames e) (sent_frames e) (RstStream s code) (idle_of e idle) (λ t above. let differs : (s == t) ≡ false = grind (arith, nat_tests) in record { unreset = differs; unended = refl; unspent = refl }),
+      idle_put (received_frames e) (sent_frames e) (RstStream s code) (idle_of e idle)
+          (λ t above. let differs : (s == t) ≡ false = grind (arith, nat_tests) in
+          record { unreset = differs; unended = refl; unspent = refl }),
     ))
 
-pub headers_put_law : (v w : Standing) (d : List Entry) (s : ℕ) (end_stream end_headers : Bool) (fragment : List ℕ) → is_live_at v s ≡ true → w ≡ after_server_end v s end_stream → AreStreams v d → AreStreams w (d ++ Out (Headers s end_stream end_headers fragment) ∷ [])
+pub headers_put_law : (v w : Standing) (d : List Entry) (s : ℕ) (end_stream end_headers : Bool) (fragment : List ℕ) →
+    is_live_at v s ≡ true → w ≡ after_server_end v s end_stream → AreStreams v d →
+    AreStreams w (d ++ Out (Headers s end_stream end_headers fragment) ∷ [])
 headers_put_law v w d s end_stream end_headers fragment lives is h =
-    put_law v w d (Headers s end_stream end_headers fragment) h (ap (λ (x : Standing). x.failed) is ∙ server_ends_failed v s end_stream) (λ e v-is idle.
+    put_law v w d (Headers s end_stream end_headers fragment) h (ap (λ (x : Standing). x.failed) is ∙ server_ends_failed v s end_stream)
+    (λ e v-is idle.
     let P : Standing → Type 0 = λ x. is_live_at x s ≡ true in
     let low : s ≤ highest_stream e = live_below e s (subst P v-is lives) in (
-      headers_is_put (received_frames e) (sent_frames e) s end_stream end_headers fragment ∙ sym (is ∙ ap (λ (x : Standing). after_server_end x s end_stream) v-is),
-      idle_put (received_frames e) (sent_frames e) (Headers s end_stream end_headers fragment) (idle_of e idle) (λ t above. let differs : (s == t) ≡ false = grind (arith, nat_tests) in record { unreset = refl; unended = ap (λ b. end_stream && b) differs ∙ and_false end_stream; unspent = refl }),
+      headers_is_put (received_frames e) (sent_frames e) s end_stream end_headers fragment
+          ∙ sym (is ∙ ap (λ (x : Standing). after_server_end x s end_stream) v-is),
+      idle_put (received_frames e) (sent_frames e) (Headers s end_stream end_headers fragment) (idle_of e idle)
+          (λ t above. let differs : (s == t) ≡ false = grind (arith, nat_tests) in
+          record { unreset = refl; unended = ap (λ b. end_stream && b) differs ∙ and_false end_stream; unspent = refl }),
     ))
 
-pub data_put_law : (v w : Standing) (d : List Entry) (s n : ℕ) (end_stream : Bool) (content : List ℕ) → is_live_at v s ≡ true → w ≡ after_server_end (after_data v s n) s end_stream → length content ≡ n → AreStreams v d → AreStreams w (d ++ Out (Data s end_stream content) ∷ [])
+pub data_put_law : (v w : Standing) (d : List Entry) (s n : ℕ) (end_stream : Bool) (content : List ℕ) → is_live_at v s ≡ true →
+    w ≡ after_server_end (after_data v s n) s end_stream → length content ≡ n → AreStreams v d →
+    AreStreams w (d ++ Out (Data s end_stream content) ∷ [])
 data_put_law v w d s n end_stream content lives is count h =
-    put_law v w d (Data s end_stream content) h (ap (λ (x : Standing). x.failed) is ∙ server_ends_failed (after_data v s n) s end_stream) (λ e v-is idle.
+    put_law v w d (Data s end_stream content) h (ap (λ (x : Standing). x.failed) is ∙ server_ends_failed (after_data v s n) s end_stream)
+    (λ e v-is idle.
     let P : Standing → Type 0 = λ x. is_live_at x s ≡ true in
     let low : s ≤ highest_stream e = live_below e s (subst P v-is lives) in (
-      data_is_put (received_frames e) (sent_frames e) s end_stream content ∙ ap (λ m. after_server_end (after_data (standing e) s m) s end_stream) count ∙ sym (is ∙ ap (λ (x : Standing). after_server_end (after_data x s n) s end_stream) v-is),
-      idle_put (received_frames e) (sent_frames e) (Data s end_stream content) (idle_of e idle) (λ t above. let differs : (s == t) ≡ false = grind (arith, nat_tests) in record { unreset = refl; unended = ap (λ b. end_stream && b) differs ∙ and_false end_stream; unspent = ap (λ b. cond b (length content) 0) differs }),
+      data_is_put (received_frames e) (sent_frames e) s end_stream content
+          ∙ ap (λ m. after_server_end (after_data (standing e) s m) s end_stream) count
+          ∙ sym (is ∙ ap (λ (x : Standing). after_server_end (after_data x s n) s end_stream) v-is),
+      idle_put (received_frames e) (sent_frames e) (Data s end_stream content) (idle_of e idle)
+          (λ t above. let differs : (s == t) ≡ false = grind (arith, nat_tests) in
+          record {
+            unreset = refl;
+            unended = ap (λ b. end_stream && b) differs ∙ and_false end_stream;
+            unspent =
+                ap (λ b. cond b (length content) 0) differs;
+          }),
     ))
 
 -- ---- other entries
@@ -123,7 +150,8 @@ data_put_law v w d s n end_stream content lives is count h =
 silent : (v : Standing) (d : List Entry) (e : Entry) → frame_in e ≡ None → frame_out e ≡ None → AreStreams v d → AreStreams v (d ++ e ∷ [])
 silent v d e none none' h =
     let one : filter_map frame_out (e ∷ []) ≡ [] = rw none' refl in
-    let s-is : sent_frames (d ++ e ∷ []) ≡ sent_frames d = filter_map-append frame_out d (e ∷ []) ∙ ap (λ xs. sent_frames d ++ xs) one ∙ append-nil (sent_frames d) in
+    let s-is : sent_frames (d ++ e ∷ []) ≡ sent_frames d =
+    filter_map-append frame_out d (e ∷ []) ∙ ap (λ xs. sent_frames d ++ xs) one ∙ append-nil (sent_frames d) in
     elim (cases_Bool v.failed) [
       | inl bad ↦ stands_failed (d ++ e ∷ []) v bad (ap (list_any is_goaway) s-is ∙ sym h.fault ∙ bad)
       | inr fine ↦
@@ -132,14 +160,22 @@ silent v d e none none' h =
     ]
 
 quietly : (v : Standing) (d : List Entry) (f : Frame) → IsQuietPut f → AreStreams v d → AreStreams v (d ++ Out f ∷ [])
-quietly v d f q h = put_law v v d f h refl (λ e v-is idle. (quiet_put (received_frames e) (sent_frames e) f q ∙ sym v-is, idle_put (received_frames e) (sent_frames e) f (idle_of e idle) (λ t _. record { unreset = q.unreset t; unended = q.unended t; unspent = q.unspent t })))
+quietly v d f q h = put_law v v d f h refl (λ e v-is idle. (
+  quiet_put (received_frames e) (sent_frames e) f q
+      ∙ sym v-is,
+  idle_put (received_frames e) (sent_frames e) f (idle_of e idle)
+      (λ t _. record { unreset = q.unreset t; unended = q.unended t; unspent = q.unspent t }),
+))
 
 pub no_matter : (v : Standing) (d : List Entry) (e : Entry) → IsNoMatter e → AreStreams v d → AreStreams v (d ++ e ∷ [])
 no_matter v d (Took n) q h = silent v d (Took n) refl refl h
 no_matter v d (Unreadable x) q h = silent v d (Unreadable x) refl refl h
-no_matter v d (Out (Settings a ss)) q h = quietly v d (Settings a ss) (record { goes_on = refl; unreset = λ t. refl; unended = λ t. refl; unspent = λ t. refl; no_data = refl; resets_none = refl }) h
-no_matter v d (Out (Ping a o)) q h = quietly v d (Ping a o) (record { goes_on = refl; unreset = λ t. refl; unended = λ t. refl; unspent = λ t. refl; no_data = refl; resets_none = refl }) h
-no_matter v d (Out (WindowUpdate s n)) q h = quietly v d (WindowUpdate s n) (record { goes_on = refl; unreset = λ t. refl; unended = λ t. refl; unspent = λ t. refl; no_data = refl; resets_none = refl }) h
+no_matter v d (Out (Settings a ss)) q h = quietly v d (Settings a ss)
+    (record { goes_on = refl; unreset = λ t. refl; unended = λ t. refl; unspent = λ t. refl; no_data = refl; resets_none = refl }) h
+no_matter v d (Out (Ping a o)) q h = quietly v d (Ping a o)
+    (record { goes_on = refl; unreset = λ t. refl; unended = λ t. refl; unspent = λ t. refl; no_data = refl; resets_none = refl }) h
+no_matter v d (Out (WindowUpdate s n)) q h = quietly v d (WindowUpdate s n)
+    (record { goes_on = refl; unreset = λ t. refl; unended = λ t. refl; unspent = λ t. refl; no_data = refl; resets_none = refl }) h
 no_matter v d (In f) q h = absurd q
 no_matter v d (Out (Data s e b)) q h = absurd q
 no_matter v d (Out (Headers s e x b)) q h = absurd q
@@ -183,7 +219,8 @@ increasing m (x ∷ (y ∷ ys)) a (suc k) h = increasing x (y ∷ ys) a.1 k (ome
 pub live_rises : (d : List Entry) → IsStrictlyIncreasing (live_streams d)
 live_rises d k h =
     let e : k + 1 ≡ suc k = omega arith in
-    rw e (increasing 0 (live_streams d) (filter_above (is_not_closed d) 0 (opened_streams d) (rising_above 0 (numbers (received_frames d)))) k (omega arith))
+    rw e (increasing 0 (live_streams d) (filter_above (is_not_closed d) 0 (opened_streams d) (rising_above 0 (numbers (received_frames d))))
+    k (omega arith))
 
 -- ---- windows
 
@@ -193,7 +230,8 @@ one_window true false true h = refl
 one_window true false false h = refl
 one_window false l r h = cc
 
-lacks_where : (d : List Entry) (s n : ℕ) (ts : List ℕ) → list_any (lacks s n) (map (stream_at d) ts) ≡ (list_any (number_is s) (map (stream_at d) ts) && lt_z (window_left (window d s)) (pos n))
+lacks_where : (d : List Entry) (s n : ℕ) (ts : List ℕ) →
+    list_any (lacks s n) (map (stream_at d) ts) ≡ (list_any (number_is s) (map (stream_at d) ts) && lt_z (window_left (window d s)) (pos n))
 lacks_where d s n [] = refl
 lacks_where d s n (t ∷ ts) = elim (cases_Bool (t == s)) [
   | inl same ↦
@@ -208,12 +246,18 @@ lacks_where d s n (t ∷ ts) = elim (cases_Bool (t == s)) [
 abbrev Allows : Standing → List Entry → ℕ → ℕ → Type 0
 Allows v d s n = (is_live_at v s ≡ true) × (pos n ≤ℤ window_left (window d s)) × (pos n ≤ℤ window_left (connection_window d))
 
-lacks_live : (d : List Entry) (s n : ℕ) → is_live_at (standing d) s ≡ true → list_any (lacks s n) (standing d).live ≡ lt_z (window_left (window d s)) (pos n)
+lacks_live : (d : List Entry) (s n : ℕ) → is_live_at (standing d) s ≡ true →
+    list_any (lacks s n) (standing d).live ≡ lt_z (window_left (window d s)) (pos n)
 lacks_live d s n lives = lacks_where d s n (live_streams d) ∙ ap (λ b. b && lt_z (window_left (window d s)) (pos n)) lives
 
 window_at : (d : List Entry) (s n : ℕ) → CanSend (standing d) s n ↔ Allows (standing d) d s n
 window_at d s n = (
-  λ can. (can.live, (let no : lt_z (window_left (window d s)) (pos n) ≡ false = sym (lacks_live d s n can.live) ∙ can.stream in grind (arith, ints)), can.connection),
+  λ can. (
+    can.live,
+    (let no : lt_z (window_left (window d s)) (pos n) ≡ false = sym (lacks_live d s n can.live) ∙ can.stream in
+        grind (arith, ints)),
+    can.connection,
+  ),
   λ all. record { live = all.0; stream = lacks_live d s n all.0 ∙ (let w = all.1 in grind (arith, ints)); connection = all.2 },
 )
 

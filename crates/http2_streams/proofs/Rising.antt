@@ -60,7 +60,8 @@ removed_rises s n xs ys is h = subst (RiseTo n) (sym is) (rise_filter (λ x. not
 
 pub ended_rises : (side : Side) (s n : ℕ) (xs ys : List Stream) → ys ≡ streams_after_end side s xs → RiseTo n xs → RiseTo n ys
 ended_rises side s n xs ys is h =
-    subst (RiseTo n) (sym is) (rise_map (with_end side s) n (filter (λ x. not (x.number == s && is_ended_by (other side) x)) xs) (with_end_same side s)
+    subst (RiseTo n) (sym is) (rise_map (with_end side s) n (filter (λ x. not (x.number == s && is_ended_by (other side) x)) xs)
+    (with_end_same side s)
     (rise_filter (λ x. not (x.number == s && is_ended_by (other side) x)) n xs h))
 
 -- the items of a vector whose slice was changed
@@ -76,19 +77,24 @@ pub written_few : (f : Stream → Stream) (len : ℕ) (xs given ys : List Stream
     length (take len (ys ++ drop (length ys) xs)) ≡ length xs
 written_few f len xs given ys long read is = ap length (written_is f len xs given ys long read is) ∙ length-map xs f
 
-written_rises : (f : Stream → Stream) (n len : ℕ) (xs given ys : List Stream) → Renumbers f → len ≡ length xs → given ≡ xs → ys ≡ map f given → RiseTo n xs →
+written_rises : (f : Stream → Stream) (n len : ℕ) (xs given ys : List Stream) → Renumbers f → len ≡ length xs → given ≡ xs →
+    ys ≡ map f given → RiseTo n xs →
     RiseTo n (take len (ys ++ drop (length ys) xs))
-written_rises f n len xs given ys same long read is h = subst (RiseTo n) (sym (written_is f len xs given ys long read is)) (rise_map f n xs same h)
+written_rises f n len xs given ys same long read is h =
+    subst (RiseTo n) (sym (written_is f len xs given ys long read is)) (rise_map f n xs same h)
 
-pub granted_rises : (s m n len : ℕ) (xs given ys : List Stream) → len ≡ length xs → given ≡ xs → ys ≡ map (stream_after_grant s m) given → RiseTo n xs →
+pub granted_rises : (s m n len : ℕ) (xs given ys : List Stream) → len ≡ length xs → given ≡ xs → ys ≡ map (stream_after_grant s m) given →
+    RiseTo n xs →
     RiseTo n (take len (ys ++ drop (length ys) xs))
 granted_rises s m n len xs given ys = written_rises (stream_after_grant s m) n len xs given ys (grant_same s m)
 
-pub put_rises : (s m n len : ℕ) (xs given ys : List Stream) → len ≡ length xs → given ≡ xs → ys ≡ map (stream_after_put s m) given → RiseTo n xs →
+pub put_rises : (s m n len : ℕ) (xs given ys : List Stream) → len ≡ length xs → given ≡ xs → ys ≡ map (stream_after_put s m) given →
+    RiseTo n xs →
     RiseTo n (take len (ys ++ drop (length ys) xs))
 put_rises s m n len xs given ys = written_rises (stream_after_put s m) n len xs given ys (λ x. refl)
 
-pub resized_rises : (size n len : ℕ) (xs given ys : List Stream) → len ≡ length xs → given ≡ xs → ys ≡ map (stream_after_resize size) given → RiseTo n xs →
+pub resized_rises : (size n len : ℕ) (xs given ys : List Stream) → len ≡ length xs → given ≡ xs →
+    ys ≡ map (stream_after_resize size) given → RiseTo n xs →
     RiseTo n (take len (ys ++ drop (length ys) xs))
 resized_rises size n len xs given ys = written_rises (stream_after_resize size) n len xs given ys (λ x. refl)
 
@@ -106,15 +112,22 @@ above_push : (s : ℕ) (x : Stream) (xs : List Stream) → s < x.number → AreA
 above_push s x [] lt h = (lt, tt)
 above_push s x (y ∷ xs) lt h = (h.0, above_push s x xs lt h.1)
 
-rise_push : (n : ℕ) (x : Stream) (xs : List Stream) → x.number ≡ n → AllByRecursion (λ (y : Stream). y.number < n) xs → RiseTo n xs → RiseTo n (xs ++ x ∷ [])
+rise_push : (n : ℕ) (x : Stream) (xs : List Stream) → x.number ≡ n → AllByRecursion (λ (y : Stream). y.number < n) xs → RiseTo n xs →
+    RiseTo n (xs ++ x ∷ [])
 rise_push n x [] is below h = (omega (arith, is), tt, tt)
-rise_push n x (y ∷ xs) is below h = (h.0, above_push y.number x xs (let a = below.0 in omega (arith, a, is)) h.1, rise_push n x xs is below.1 h.2)
+rise_push n x (y ∷ xs) is below h = (
+  h.0,
+  above_push y.number x xs
+      (let a = below.0 in omega (arith, a, is)) h.1,
+  rise_push n x xs is below.1 h.2,
+)
 
 pub opened_rises : (v w : Standing) (x : Stream) (ys : List Stream) → v ≡ w → w.highest ≡ x.number →
     AllByRecursion (λ (y : Stream). y.number < x.number) w.live → ys ≡ v.live ++ x ∷ [] → RiseTo v.highest v.live → RiseTo v.highest ys
 opened_rises v w x ys same is below new h =
     let number : x.number ≡ v.highest = sym (ap (λ (y : Standing). y.highest) same ∙ is) in
-    let below' : AllByRecursion (λ (y : Stream). y.number < v.highest) v.live = subst (λ (n : ℕ). AllByRecursion (λ (y : Stream). y.number < n) v.live) number
+    let below' : AllByRecursion (λ (y : Stream). y.number < v.highest) v.live =
+    subst (λ (n : ℕ). AllByRecursion (λ (y : Stream). y.number < n) v.live) number
     (subst (λ (y : Standing). AllByRecursion (λ (z : Stream). z.number < x.number) y.live) (sym same) below) in
     subst (RiseTo v.highest) (sym new) (rise_push v.highest x v.live number below' h)
 
@@ -132,11 +145,13 @@ without_cons : (s : ℕ) (x : Stream) (xs : List Stream) (here : Bool) → (x.nu
 without_cons s x xs here is = rw is refl
 
 after_end_cons : (s : ℕ) (x : Stream) (xs : List Stream) (over : Bool) → (x.number == s && x.ended_by_client) ≡ over →
-    streams_after_end Server s (x ∷ xs) ≡ cond (not over) (with_end Server s x ∷ streams_after_end Server s xs) (streams_after_end Server s xs)
+    streams_after_end Server s (x ∷ xs) ≡ cond (not over) (with_end Server s x ∷ streams_after_end Server s xs)
+    (streams_after_end Server s xs)
 after_end_cons s x xs true is = rw is refl
 after_end_cons s x xs false is = rw is refl
 
-without_same : (s : ℕ) (x : Stream) (xs ys : List Stream) → without_stream s xs ≡ without_stream s ys → without_stream s (x ∷ xs) ≡ without_stream s (x ∷ ys)
+without_same : (s : ℕ) (x : Stream) (xs ys : List Stream) → without_stream s xs ≡ without_stream s ys →
+    without_stream s (x ∷ xs) ≡ without_stream s (x ∷ ys)
 without_same s x xs ys same = elim (cases_Bool (x.number == s)) [
   | inl here ↦ rw here same
   | inr there ↦ rw there (ap (λ (zs : List Stream). x ∷ zs) same)
@@ -147,7 +162,8 @@ unended s x there = rw there refl
 
 without_end : (s : ℕ) (x : Stream) (xs : List Stream) → without_stream s (with_end Server s x ∷ xs) ≡ without_stream s (x ∷ xs)
 without_end s x xs = elim (cases_Bool (x.number == s)) [
-  | inl here ↦ without_cons s (with_end Server s x) xs true (ap (λ n. n == s) (with_end_same Server s x) ∙ here) ∙ sym (without_cons s x xs true here)
+  | inl here ↦ without_cons s (with_end Server s x) xs true (ap (λ n. n == s) (with_end_same Server s x) ∙ here)
+      ∙ sym (without_cons s x xs true here)
   | inr there ↦ ap (λ (y : Stream). without_stream s (y ∷ xs)) (unended s x there)
 ]
 
@@ -174,7 +190,8 @@ without_put s n (x ∷ xs) = elim (cases_Bool (x.number == s)) [
 -- where the window is for so many bytes
 put_spends : (s n : ℕ) (x : Stream) → lacks s n x ≡ false → stream_after_put s n x ≡ stream_after_spending s n x
 put_spends s n x h = elim (cases_Bool (x.number == s)) [
-  | inl here ↦ let some : lt_z (window_left x.window) (pos n) ≡ false = let e : (true && lt_z (window_left x.window) (pos n)) ≡ false = rw here at h in e in
+  | inl here ↦ let some : lt_z (window_left x.window) (pos n) ≡ false = let e : (true && lt_z (window_left x.window) (pos n)) ≡ false =
+      rw here at h in e in
       rw (here, some) refl
   | inr there ↦ rw there refl
 ]
@@ -187,7 +204,8 @@ or_right : (a b : Bool) → (a || b) ≡ false → b ≡ false
 or_right true b h = cc
 or_right false b h = h
 
-all_spend : (s n : ℕ) (xs : List Stream) → list_any (lacks s n) xs ≡ false → map (stream_after_put s n) xs ≡ map (stream_after_spending s n) xs
+all_spend : (s n : ℕ) (xs : List Stream) → list_any (lacks s n) xs ≡ false →
+    map (stream_after_put s n) xs ≡ map (stream_after_spending s n) xs
 all_spend s n [] h = refl
 all_spend s n (x ∷ xs) h =
     ap (λ (y : Stream). y ∷ map (stream_after_put s n) xs) (put_spends s n x (or_left (lacks s n x) (list_any (lacks s n) xs) h))
@@ -207,7 +225,8 @@ credit_spends n w h =
     rw enough refl
 
 -- both windows are for so many bytes
-pub data_spent : (v w : Standing) (s n : ℕ) (live : List Stream) (window : Credit) → CanSend v s n → live ≡ map (stream_after_put s n) w.live →
+pub data_spent : (v w : Standing) (s n : ℕ) (live : List Stream) (window : Credit) → CanSend v s n →
+    live ≡ map (stream_after_put s n) w.live →
     window ≡ credit_after_put n w.connection_window → w ≡ v →
     record w { live = live; connection_window = window } ≡ after_data v s n
 data_spent v w s n live window can lives left same =
@@ -218,19 +237,28 @@ data_spent v w s n live window can lives left same =
     ∙ ap (λ (x : Standing). after_data x s n) same
 
 pub end_leaves : (v w : Standing) (s : ℕ) (b : Bool) → w ≡ after_server_end v s b → LeavesOthers s v w
-end_leaves v w s true is = subst (λ (x : Standing). LeavesOthers s v x) (sym is) (record { live = without_ended s v.live; connection = omega (arith, ints) })
+end_leaves v w s true is = subst (λ (x : Standing). LeavesOthers s v x) (sym is)
+    (record { live = without_ended s v.live; connection = omega (arith, ints) })
 end_leaves v w s false is = subst (λ (x : Standing). LeavesOthers s v x) (sym is) (record { live = refl; connection = omega (arith, ints) })
 
 pub reset_leaves : (v w : Standing) (s : ℕ) → w ≡ after_reset v s → LeavesOthers s v w
-reset_leaves v w s is = subst (λ (x : Standing). LeavesOthers s v x) (sym is) (record { live = without_without s v.live; connection = omega (arith, ints) })
+reset_leaves v w s is = subst (λ (x : Standing). LeavesOthers s v x) (sym is)
+    (record { live = without_without s v.live; connection = omega (arith, ints) })
 
 -- bytes that are put, and then the end
-pub put_leaves : (old v w : Standing) (s n : ℕ) (b : Bool) (live : List Stream) (window : Credit) → live ≡ map (stream_after_put s n) v.live →
-    window ≡ credit_after_put n v.connection_window → v ≡ old → w ≡ after_server_end (record v { live = live; connection_window = window }) s b →
+pub put_leaves : (old v w : Standing) (s n : ℕ) (b : Bool) (live : List Stream) (window : Credit) →
+    live ≡ map (stream_after_put s n) v.live →
+    window ≡ credit_after_put n v.connection_window → v ≡ old →
+    w ≡ after_server_end (record v { live = live; connection_window = window }) s b →
     LeavesOthers s old w
 put_leaves old v w s n b live window lives left same is =
     let e = end_leaves (record v { live = live; connection_window = window }) w s b is in
-    let less : window_left window ≤ℤ window_left v.connection_window = subst (λ (c : Credit). window_left c ≤ℤ window_left v.connection_window) (sym left)
+    let less : window_left window ≤ℤ window_left v.connection_window =
+    subst (λ (c : Credit). window_left c ≤ℤ window_left v.connection_window) (sym left)
     (credit_falls n v.connection_window) in
     subst (λ (y : Standing). LeavesOthers s y w) same
-    (record { live = e.live ∙ ap (without_stream s) lives ∙ without_put s n v.live; connection = (let a = e.connection in omega (arith, ints, a, less)) })
+    (record {
+      live = e.live ∙ ap (without_stream s) lives ∙ without_put s n v.live;
+      connection =
+          (let a = e.connection in omega (arith, ints, a, less));
+    })

@@ -46,7 +46,13 @@ abbrev pub spent_in : List Frame → ℕ → ℕ
 spent_in ss s = sum_by (data_length_on s) ss
 
 abbrev pub stream_by : ℕ → Bool → Bool → ℕ → ℕ → ℕ → Stream
-stream_by s c e i g p = record { number = s; ended_by_client = c; ended_by_server = e; window = record { initial = i; change = pos g -ℤ pos p } }
+stream_by s c e i g p = record {
+  number = s;
+  ended_by_client = c;
+  ended_by_server = e;
+  window =
+      record { initial = i; change = pos g -ℤ pos p };
+}
 
 abbrev pub at : List Frame → List Frame → ℕ → Stream
 at rs ss s = stream_by s (ended_c rs s) (ended_s ss s) (size rs) (granted_in rs s) (spent_in ss s)
@@ -90,12 +96,15 @@ pub in-blocks : (rs : List Frame) (g : Frame) → blocks_in (rs ++ g ∷ []) ≡
 in-blocks rs g = fold_push blocks_after no_blocks rs g
 
 pub in-reset : (rs ss : List Frame) (g : Frame) (t : ℕ) → reset_in (rs ++ g ∷ []) ss t ≡ (reset_in rs ss t || resets t g)
-in-reset rs ss g t = ap (λ b. b || list_any (resets t) ss) (any-push (resets t) rs g) ∙ or-swap (list_any (resets t) rs) (list_any (resets t) ss) (resets t g)
+in-reset rs ss g t = ap (λ b. b || list_any (resets t) ss) (any-push (resets t) rs g)
+    ∙ or-swap (list_any (resets t) rs) (list_any (resets t) ss) (resets t g)
 
 pub out-reset : (rs ss : List Frame) (g : Frame) (t : ℕ) → reset_in rs (ss ++ g ∷ []) t ≡ (reset_in rs ss t || resets t g)
-out-reset rs ss g t = ap (λ b. list_any (resets t) rs || b) (any-push (resets t) ss g) ∙ or-assoc (list_any (resets t) rs) (list_any (resets t) ss) (resets t g)
+out-reset rs ss g t = ap (λ b. list_any (resets t) rs || b) (any-push (resets t) ss g)
+    ∙ or-assoc (list_any (resets t) rs) (list_any (resets t) ss) (resets t g)
 
-pub in-ended : (rs : List Frame) (g : Frame) (t : ℕ) → blocks_after (blocks_in rs) g ≡ blocks_in rs → ended_c (rs ++ g ∷ []) t ≡ (ended_c rs t || data_ends t g)
+pub in-ended : (rs : List Frame) (g : Frame) (t : ℕ) → blocks_after (blocks_in rs) g ≡ blocks_in rs →
+    ended_c (rs ++ g ∷ []) t ≡ (ended_c rs t || data_ends t g)
 in-ended rs g t same =
     let e : blocks_in (rs ++ g ∷ []) ≡ blocks_in rs = in-blocks rs g ∙ same in
     ap (λ (bs : Blocks). list_any (data_ends t) (rs ++ g ∷ []) || list_any (block_ends t) bs.finished) e
@@ -110,11 +119,17 @@ begun_after [] g = refl
 begun_after (r ∷ rs) g = grind (arith, nat_tests)
 
 -- what filters and maps of streams do to their numbers
-pub kept_streams : (rs ss : List Frame) (k : Stream → Bool) (xs : List ℕ) → filter k (map (at rs ss) (filter (alive rs ss) xs)) ≡ map (at rs ss) (filter (λ t. alive rs ss t && k (at rs ss t)) xs)
-kept_streams rs ss k xs = filter-map k (at rs ss) (filter (alive rs ss) xs) ∙ ap (map (at rs ss)) (filter-filter (λ t. k (at rs ss t)) (alive rs ss) xs)
+pub kept_streams : (rs ss : List Frame) (k : Stream → Bool) (xs : List ℕ) →
+    filter k (map (at rs ss) (filter (alive rs ss) xs)) ≡ map (at rs ss) (filter (λ t. alive rs ss t && k (at rs ss t)) xs)
+kept_streams rs ss k xs = filter-map k (at rs ss) (filter (alive rs ss) xs)
+    ∙ ap (map (at rs ss)) (filter-filter (λ t. k (at rs ss t)) (alive rs ss) xs)
 
-pub changed_streams : (rs ss : List Frame) (m : Stream → Stream) (xs : List ℕ) → map m (map (at rs ss) (filter (alive rs ss) xs)) ≡ map (λ t. m (at rs ss t)) (filter (alive rs ss) xs)
+pub changed_streams : (rs ss : List Frame) (m : Stream → Stream) (xs : List ℕ) →
+    map m (map (at rs ss) (filter (alive rs ss) xs)) ≡ map (λ t. m (at rs ss t)) (filter (alive rs ss) xs)
 changed_streams rs ss m xs = map-map m (at rs ss) (filter (alive rs ss) xs)
 
-pub kept_and_changed : (rs ss : List Frame) (m : Stream → Stream) (k : Stream → Bool) (xs : List ℕ) → map m (filter k (map (at rs ss) (filter (alive rs ss) xs))) ≡ map (λ t. m (at rs ss t)) (filter (λ t. alive rs ss t && k (at rs ss t)) xs)
-kept_and_changed rs ss m k xs = ap (map m) (kept_streams rs ss k xs) ∙ map-map m (at rs ss) (filter (λ t. alive rs ss t && k (at rs ss t)) xs)
+pub kept_and_changed : (rs ss : List Frame) (m : Stream → Stream) (k : Stream → Bool) (xs : List ℕ) →
+    map m (filter k (map (at rs ss) (filter (alive rs ss) xs)))
+    ≡ map (λ t. m (at rs ss t)) (filter (λ t. alive rs ss t && k (at rs ss t)) xs)
+kept_and_changed rs ss m k xs = ap (map m) (kept_streams rs ss k xs)
+    ∙ map-map m (at rs ss) (filter (λ t. alive rs ss t && k (at rs ss t)) xs)

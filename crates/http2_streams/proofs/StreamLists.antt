@@ -16,6 +16,7 @@ pub without_granted : (s n : ℕ) (xs : List Stream) → without_stream s (map (
 without_granted s n [] = refl
 without_granted s n (x ∷ xs) = grind (arith, without_granted s n xs)
 
-pub without_fresh : (s size : ℕ) (end_stream : Bool) (xs : List Stream) → without_stream s (xs ++ new_stream size s end_stream ∷ []) ≡ without_stream s xs
+pub without_fresh : (s size : ℕ) (end_stream : Bool) (xs : List Stream) →
+    without_stream s (xs ++ new_stream size s end_stream ∷ []) ≡ without_stream s xs
 without_fresh s size end_stream [] = grind (arith, nat_tests)
 without_fresh s size end_stream (x ∷ xs) = grind (arith, without_fresh s size end_stream xs)

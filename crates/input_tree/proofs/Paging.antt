@@ -9,7 +9,8 @@ use Rattle.message_fields.specs.Parts.{repeated_octets_field}
 use Rattle.message_fields.proofs.Texts.{text_append}
 use Rattle.input_tree.specs.Pages.{page_before, page_bytes, page_from, pages_along, takes}
 
-records_last : (page : List (List ℕ)) (t : List ℕ) → repeated_octets_field 1 (page ++ t ∷ []) ≡ repeated_octets_field 1 page ++ repeated_octets_field 1 (t ∷ [])
+records_last : (page : List (List ℕ)) (t : List ℕ) →
+    repeated_octets_field 1 (page ++ t ∷ []) ≡ repeated_octets_field 1 page ++ repeated_octets_field 1 (t ∷ [])
 records_last [] t = refl
 records_last (u ∷ us) t = ap (λ (rs : List Record). repeated_octets_field 1 (u ∷ []) ++ rs) (records_last us t)
 
@@ -19,7 +20,9 @@ bytes_last page t =
     ∙ ap (length {A = ℕ}) (text_append (repeated_octets_field 1 page) (repeated_octets_field 1 (t ∷ [])))
     ∙ length-append (records_text (repeated_octets_field 1 page)) (records_text (repeated_octets_field 1 (t ∷ [])))
 
-pub bytes_kept : (goes_on : Bool) (page : List (List ℕ)) (t : List ℕ) → unwrap_or (if goes_on then Some (page_bytes page + page_bytes (t ∷ [])) else None) (page_bytes (t ∷ [])) ≡ page_bytes (page_from goes_on page ++ t ∷ [])
+pub bytes_kept : (goes_on : Bool) (page : List (List ℕ)) (t : List ℕ) →
+    unwrap_or (if goes_on then Some (page_bytes page + page_bytes (t ∷ [])) else None) (page_bytes (t ∷ []))
+    ≡ page_bytes (page_from goes_on page ++ t ∷ [])
 bytes_kept true page t = sym (bytes_last page t)
 bytes_kept false page t = refl
 
@@ -28,7 +31,8 @@ taken true n = refl
 taken false n = refl
 
 -- the loop's step, where the list of the directories that come is as the code takes its first
-pub pages_next : {X : Type 0} (f : X → List ℕ) (size place : ℕ) (done page whole done_next page_next : List (List ℕ)) (left : List X) (first default : X) (t : List ℕ) → 0 < length left → t ≡ f first → first ≡ slice_index_or left 0 default
+pub pages_next : {X : Type 0} (f : X → List ℕ) (size place : ℕ) (done page whole done_next page_next : List (List ℕ)) (left : List X)
+    (first default : X) (t : List ℕ) → 0 < length left → t ≡ f first → first ≡ slice_index_or left 0 default
     → done ++ pages_along size place page (map f left) ≡ whole
     → done_next ≡ done ++ page_before (takes size page t) place page
     → page_next ≡ page_from (takes size page t) page ++ t ∷ []
@@ -37,4 +41,6 @@ unfolding pages_along
 pages_next f size place done page whole done_next page_next [] first default t some seen is h closed kept = absurd (omega arith)
 pages_next f size place done page whole done_next page_next (x ∷ xs) first default t some seen is h closed kept =
     let count : length (x ∷ xs) - 1 ≡ length xs = omega arith in
-    rw (count, take-length, closed, kept, seen, is) (append_assoc done (page_before (takes size page (f x)) place page) (pages_along size (place + 1) (page_from (takes size page (f x)) page ++ f x ∷ []) (map f xs)) ∙ h)
+    rw (count, take-length, closed, kept, seen, is)
+    (append_assoc done (page_before (takes size page (f x)) place page)
+    (pages_along size (place + 1) (page_from (takes size page (f x)) page ++ f x ∷ []) (map f xs)) ∙ h)

@@ -10,3 +10,4 @@ pub mod Uses
 pub use Rattle.decimals.specs.Number
 pub mod NodeTexts
 pub mod Taking
+pub mod Work

@@ -5,14 +5,11 @@ use Rattle.std.specs.List.{list_any}
 use Rattle.std.specs.Option.{option_map_or}
 use Rattle.digest.specs.declared.Digest.{Digest}
 use Rattle.digest.specs.Naming.{same_digest}
+pub use Rattle.instance_view.specs.Texts.{Lookup}
 use Rattle.input_tree.specs.Directories.{children_in}
 use Rattle.input_tree.specs.declared.error.TreeRefusal.{TreeRefusal}
 use Rattle.input_tree.specs.declared.error.TreeRefusal.TheVariants.{NotFound, BadDirectory, TooMany}
 use Rattle.input_tree.specs.declared.listing.TheConstants.{MOST_DIRECTORIES}
-
--- the text of each digest that is there
-abbrev pub Lookup : Type 0
-Lookup = Digest → Option (List ℕ)
 
 abbrev pub children_of_text : Option (List ℕ) → Option (List Digest)
 children_of_text None = None

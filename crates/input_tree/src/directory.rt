@@ -1,21 +1,21 @@
 //! Directories that are taken, and their texts.
 
-ghost use Rattle.std.specs.Prelude.{◌≡◌, map, option_map, IfOk};
+ghost use Rattle.std.specs.Prelude.{◌≡◌, ◌+◌, ◌≤◌, map, length, option_map, IfOk};
 ghost use Rattle.std.specs.List.{filter_map};
 ghost use Rattle.tree_messages.specs.Directories.{directory_shown, directory_node_shown};
 ghost use Rattle.blob_pool.specs.Slots.{text_at};
 ghost use Rattle.instance_view.specs.Shown.{text_seen};
+ghost use Rattle.instance_view.specs.Texts.{look_of};
 ghost use Rattle.input_tree.specs.Directories.{has_nodes, has_order, is_directory, child_digest, children_in};
 ghost use Rattle.input_tree.specs.Listing.{children};
-ghost use Rattle.input_tree.specs.Texts.{texts_of};
 ghost use Rattle.input_tree.specs.Pages.{text_or_none};
 
 use crate::names::{are_apart, are_rising, have_form};
 use crate::nodes::digest_written;
 use crate::taking::take_directory;
-use blob_pool::{Kept, Pool};
+use blob_pool::Kept;
 use digest::Digest;
-use instance_view::{Seen, Sight, copy_of};
+use instance_view::{Seen, Sight, Texts, Work};
 use std::alloc::{AllocError, Global};
 use tree_messages::{Directory, DirectoryNode};
 
@@ -79,58 +79,83 @@ pub fn children_in(alloc: Global, text: &[u8]) -> Result<Option<Vec<Digest>>, Al
 }
 
 /// The same for a text of a pool, whose length is looked at before its bytes.
-fn children_kept(alloc: Global, pool: &Pool, kept: Kept) -> Result<Option<Vec<Digest>>, AllocError>
-    ensures { IfOk result (λ found. option_map (λ digests. digests.items) found
-        ≡ children_in (text_at pool.now kept)) }
+fn children_kept(
+    alloc: Global,
+    texts: &Texts<'_, Sight<'_>>,
+    work: &mut Work,
+    kept: Kept,
+) -> Result<Option<Vec<Digest>>, AllocError>
+    ensures children { IfOk result (λ found. option_map (λ digests. digests.items) found
+        ≡ children_in (text_at texts.now.pool kept)) }
+    ensures looks { work.new.looks ≡ work.old.looks }
+    ensures bytes { work.new.bytes
+        ≤ work.old.bytes + length (text_at texts.now.pool kept) }
 {
-    if pool.length(kept) > MOST_DIRECTORY_BYTES as u64 {
+    if texts.length(kept) > MOST_DIRECTORY_BYTES as u64 {
         return Ok(None);
     }
-    let mut text = Vec::new(alloc);
-    pool.copy_into(kept, &mut text)?;
+    let text = texts.copy(alloc, work, Seen::Text(kept))?;
     children_in(alloc, &text)
 }
 
 /// The same for a text that an instance sees.
-fn children_seen(alloc: Global, pool: &Pool, seen: Seen) -> Result<Option<Vec<Digest>>, AllocError>
-    ensures { IfOk result (λ found. option_map (λ digests. digests.items) found
-        ≡ children_in (text_seen pool.now seen)) }
+fn children_seen(
+    alloc: Global,
+    texts: &Texts<'_, Sight<'_>>,
+    work: &mut Work,
+    seen: Seen,
+) -> Result<Option<Vec<Digest>>, AllocError>
+    ensures children { IfOk result (λ found. option_map (λ digests. digests.items) found
+        ≡ children_in (text_seen texts.now.pool seen)) }
+    ensures looks { work.new.looks ≡ work.old.looks }
+    ensures bytes { work.new.bytes
+        ≤ work.old.bytes + length (text_seen texts.now.pool seen) }
 {
     match seen {
         Seen::Empty => children_in(alloc, &[]),
-        Seen::Text(kept) => children_kept(alloc, pool, kept),
+        Seen::Text(kept) => children_kept(alloc, texts, work, kept),
     }
 }
 
 /// The digests of the directories in the directory of a digest, or `None` where an instance sees no
-/// text of it or one that spells no directory that is taken.
+/// text of it or one that spells no directory that is taken. This is one look, and the text is read
+/// once.
+#[tactic(auto, using(crate::proofs::Lengths::length_found))]
 pub fn children(
     alloc: Global,
-    view: &Sight<'_>,
-    pool: &Pool,
+    texts: &Texts<'_, Sight<'_>>,
+    work: &mut Work,
     digest: &Digest,
 ) -> Result<Option<Vec<Digest>>, AllocError>
-    ensures { IfOk result (λ found. option_map (λ digests. digests.items) found
-        ≡ children (texts_of pool.now view.now) digest.now) }
+    ensures children { IfOk result (λ found. option_map (λ digests. digests.items) found
+        ≡ children (look_of texts.now) digest.now) }
+    ensures looks { work.new.looks ≤ work.old.looks + 1 }
+    ensures bytes { work.new.bytes
+        ≤ work.old.bytes + length (text_or_none (look_of texts.now) digest.now) }
 {
-    match view.get(digest) {
+    match texts.get(work, digest) {
         None => Ok(None),
-        Some(seen) => children_seen(alloc, pool, seen),
+        Some(seen) => children_seen(alloc, texts, work, seen),
     }
 }
 
-/// A copy of the text that an instance sees of a digest, empty where it sees none.
+/// A copy of the text that an instance sees of a digest, empty where it sees none. This is one
+/// look, and the text is read once.
+#[tactic(auto, using(crate::proofs::Lengths::length_found))]
 pub fn text_or_none(
     alloc: Global,
-    view: &Sight<'_>,
-    pool: &Pool,
+    texts: &Texts<'_, Sight<'_>>,
+    work: &mut Work,
     digest: &Digest,
 ) -> Result<Vec<u8>, AllocError>
-    ensures { IfOk result (λ text. text.items
-        ≡ text_or_none (texts_of pool.now view.now) digest.now) }
+    ensures text { IfOk result (λ text. text.items
+        ≡ text_or_none (look_of texts.now) digest.now) }
+    ensures looks { work.new.looks ≤ work.old.looks + 1 }
+    ensures bytes { work.new.bytes
+        ≤ work.old.bytes + length (text_or_none (look_of texts.now) digest.now) }
 {
-    match view.get(digest) {
+    match texts.get(work, digest) {
         None => Ok(Vec::new(alloc)),
-        Some(seen) => copy_of(alloc, pool, seen),
+        Some(seen) => texts.copy(alloc, work, seen),
     }
 }

@@ -22,5 +22,5 @@ pub use node_texts::Unread;
 pub use nodes::{Node, digest_written, is_name};
 pub use pages::{MOST_PAGE_BYTES, MOST_PAGE_DIRECTORIES};
 pub use taking::{payload_of, take_directory};
-pub use tree::get_tree;
+pub use tree::{PageAsked, get_tree};
 pub use uses::use_all;

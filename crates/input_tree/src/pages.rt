@@ -1,16 +1,16 @@
 //! The pages of a tree's list.
 
-ghost use Rattle.std.specs.Prelude.{◌≡◌, ◌+◌, ◌<◌, ◌^◌, [], map, length, ◌++◌, Some, None, IfOk, OnOk, if◌then◌else◌};
+ghost use Rattle.std.specs.Prelude.{◌≡◌, ◌+◌, ◌<◌, ◌≤◌, ◌^◌, [], map, length, ◌++◌, Some, None, IfOk, OnOk, if◌then◌else◌};
 ghost use Rattle.std.specs.Fmt as fmt;
 ghost use Rattle.message_fields.specs.Writing.{records_text, message_field};
 ghost use Rattle.input_tree.specs.Pages.{page_before, page_bytes, page_from, page_text, pages_along, place_asked, size_asked, takes_more, texts};
-ghost use Rattle.input_tree.specs.Texts.{texts_of};
+ghost use Rattle.input_tree.specs.Work.{texts_length};
+ghost use Rattle.instance_view.specs.Texts.{look_of};
 
 use crate::directory::text_or_none;
-use blob_pool::Pool;
 use decimals::decimal;
 use digest::Digest;
-use instance_view::Sight;
+use instance_view::{Sight, Texts, Work};
 use message_fields::{Message, Writer};
 use std::alloc::{AllocError, Global};
 use tree_messages::GetTreeResponse;
@@ -148,19 +148,22 @@ fn page_for(
 }
 
 /// The responses that give the texts of digests page by page, the first of which has a place in the
-/// list. No more than a page's texts are copied at a time.
+/// list. No more than a page's texts are copied at a time, and each once.
 #[tactic(auto, unfolding(crate::specs::Pages::pages_along), using(crate::proofs::Paging::bytes_kept))]
 pub fn pages(
     alloc: Global,
-    view: &Sight<'_>,
-    pool: &Pool,
+    seen: &Texts<'_, Sight<'_>>,
+    work: &mut Work,
     digests: &[Digest],
     size: usize,
     place: usize,
 ) -> Result<Vec<Vec<u8>>, AllocError>
     requires { place + length digests.now < 2 ^ 64 }
-    ensures { IfOk result (λ pages. map (λ page. page.items) pages.items
-        ≡ pages_along size place [] (texts (texts_of pool.now view.now) digests.now)) }
+    ensures pages { IfOk result (λ pages. map (λ page. page.items) pages.items
+        ≡ pages_along size place [] (texts (look_of seen.now) digests.now)) }
+    ensures looks { work.new.looks ≤ work.old.looks + length digests.now }
+    ensures bytes { work.new.bytes
+        ≤ work.old.bytes + texts_length (look_of seen.now) digests.now }
 {
     let mut pages = Vec::new(alloc);
     let mut page = Vec::new(alloc);
@@ -168,7 +171,7 @@ pub fn pages(
     let mut place = place;
     let mut left = digests;
     'digests: while let [first, rest @ ..] = left {
-        let text = text_or_none(alloc, view, pool, first)?;
+        let text = text_or_none(alloc, seen, work, first)?;
         let more = record_length(&text)?;
         let total = bytes_with(size, page.len(), bytes, more);
         page = page_for(alloc, &mut pages, page, total.is_some(), place)?;

@@ -1,6 +1,6 @@
 //! GetTree.
 
-ghost use Rattle.std.specs.Prelude.{◌≡◌, ◌<◌, ◌^◌, ℕ, length, map, OnOk, OnErr};
+ghost use Rattle.std.specs.Prelude.{◌≡◌, ◌+◌, ◌<◌, ◌≤◌, ◌^◌, ℕ, length, map, OnOk, OnErr};
 ghost use Rattle.blob_pool.specs.Slots.{Slots};
 ghost use Rattle.instance_view.specs.Shown.{visible_in, holders};
 ghost use Rattle.instance_view.specs.Sight.{sight_of};
@@ -9,6 +9,8 @@ ghost use Rattle.input_tree.specs.Listing.{tree_list};
 ghost use Rattle.input_tree.specs.Pages.{digests_of, pages_of, get_tree_reply};
 ghost use Rattle.input_tree.specs.Texts.{texts_of};
 ghost use Rattle.input_tree.specs.Uses.{visible_after_uses};
+ghost use Rattle.input_tree.specs.Work.{tree_looks};
+ghost use Rattle.instance_view.specs.Texts.{look_of};
 
 use crate::error::{GetTreeError, TreeRefusal};
 use crate::listing::list_tree;
@@ -16,27 +18,36 @@ use crate::pages::{pages, place_asked, size_asked};
 use crate::uses::use_all;
 use blob_pool::Pool;
 use digest::Digest;
-use instance_view::{Sight, View};
+use instance_view::{Sight, Texts, View, Work};
 use std::alloc::{AllocError, Global};
+
+/// The page that a request asks for.
+#[derive(Clone, Copy, Debug)]
+pub struct PageAsked<'a> {
+    /// The most directories of it, or 0 for as many as there may be.
+    pub size: i32,
+    /// The place in the list at which it begins, in decimal digits, or nothing for the beginning.
+    pub token: &'a str,
+}
 
 /// The responses that give the directories of a list, from the place that a request asks for.
 fn responses(
     alloc: Global,
-    view: &Sight<'_>,
-    pool: &Pool,
+    texts: &Texts<'_, Sight<'_>>,
+    work: &mut Work,
     listed: &[Digest],
-    page_size: i32,
-    page_token: &str,
+    page: PageAsked<'_>,
 ) -> Result<Vec<Vec<u8>>, GetTreeError>
     requires short { length listed.now < 2 ^ 63 }
-    ensures { Answers (λ pages. map (λ page. page.items) pages.items) result
-        (pages_of (texts_of pool.now view.now) page_size page_token.now listed.now) }
+    ensures pages { Answers (λ pages. map (λ page. page.items) pages.items) result
+        (pages_of (look_of texts.now) page.entry.size page.entry.token.now listed.now) }
+    ensures looks { work.new.looks ≤ work.old.looks + length listed.now }
 {
-    let (Some(size), Some(place)) = (size_asked(page_size), place_asked(page_token, listed.len()))
+    let (Some(size), Some(place)) = (size_asked(page.size), place_asked(page.token, listed.len()))
     else {
         return Err(GetTreeError::Refused(TreeRefusal::BadPage));
     };
-    let pages = pages(alloc, view, pool, &listed[place..], size, place)?;
+    let pages = pages(alloc, texts, work, &listed[place..], size, place)?;
     Ok(pages)
 }
 
@@ -45,8 +56,8 @@ fn responses(
 /// its own text, or else its parent's. Each directory of the list is then used, in order, where it
 /// is the instance's own. An error changes nothing.
 ///
-/// The list is that of `list_tree`. `page_size` is the most directories of a page: 0, and more than
-/// 1,000, are 1,000. A page takes directories until it is full or the next would bring their
+/// The list is that of `list_tree`. The page's size is the most directories of a page: 0, and more
+/// than 1,000, are 1,000. A page takes directories until it is full or the next would bring their
 /// records over 4,000,000 bytes, and one at least. Each page but the last says the place in the
 /// list at which the next begins, in decimal digits.
 pub fn get_tree(
@@ -55,12 +66,12 @@ pub fn get_tree(
     parent: &View,
     pool: &Pool,
     root: &Digest,
-    page_size: i32,
-    page_token: &str,
+    page: PageAsked<'_>,
+    work: &mut Work,
 ) -> Result<Vec<Vec<u8>>, GetTreeError>
     ensures pages { let look = texts_of pool.now (sight_of view.old parent.now) in
         Answers (λ pages. map (λ page. page.items) pages.items) result
-        (get_tree_reply look root.now page_size page_token.now) }
+        (get_tree_reply look root.now page.entry.size page.entry.token.now) }
     ensures used { (p : Slots) →
         let look = texts_of pool.now (sight_of view.old parent.now) in
         OnOk result (visible_in p view.new
@@ -68,11 +79,14 @@ pub fn get_tree(
     ensures err { OnErr result (view.new ≡ view.old) }
     ensures holders { (k : ℕ) → holders view.new k ≡ holders view.old k }
     ensures limit { view.new.limit ≡ view.old.limit }
+    ensures looks { let look = texts_of pool.now (sight_of view.old parent.now) in
+        work.new.looks ≤ work.old.looks + tree_looks look root.now }
 {
     let sight = Sight::new(view, parent);
-    let listed = list_tree(alloc, &sight, pool, root)?;
+    let texts = Texts::new(&sight, pool);
+    let listed = list_tree(alloc, &texts, work, root)?;
     let listed = listed.as_slice();
-    let pages = responses(alloc, &sight, pool, listed, page_size, page_token)?;
+    let pages = responses(alloc, &texts, work, listed, page)?;
     use_all(view, listed);
     Ok(pages)
 }

@@ -14,5 +14,6 @@ filtered_short test (c ∷ cs) kept = go (test c) (filtered_short test cs kept.1
   go false ih = ih
 
 -- those were kept that pass a test
-pub kept_by : (test : CallId × CallValue → Bool) (old new : Calls) → new ≡ filter test old → IsDistinct same_call (keys_of new) → AreInCourse old → AreInCourse new
+pub kept_by : (test : CallId × CallValue → Bool) (old new : Calls) → new ≡ filter test old → IsDistinct same_call (keys_of new) →
+    AreInCourse old → AreInCourse new
 kept_by test old new is once calls = record { once = once; messages = rw is (filtered_short test old calls.messages) }

@@ -23,7 +23,8 @@ same_flips a b =
 abbrev IsNone : CallId → List CallId → Type 0
 IsNone id ids = AllByRecursion (λ (other : CallId). same_call id other ≡ false) ids
 
-none_with : (a id : CallId) (call : CallValue) (cs : Calls) → same_call a id ≡ false → IsNone a (keys_of cs) → IsNone a (keys_of (with_call id call cs))
+none_with : (a id : CallId) (call : CallValue) (cs : Calls) → same_call a id ≡ false → IsNone a (keys_of cs) →
+    IsNone a (keys_of (with_call id call cs))
 none_with a id call [] ne none = (ne, tt)
 none_with a id call (c ∷ cs) ne none = go (same_call id c.0) (none_with a id call cs ne none.1) where
   go : (b : Bool) → IsNone a (keys_of (with_call id call cs)) → IsNone a (keys_of (cond b ((c.0, call) ∷ cs) (c ∷ with_call id call cs)))
@@ -37,12 +38,14 @@ none_without a id (c ∷ cs) none = go (same_call id c.0) (none_without a id cs 
   go true ih = none.1
   go false ih = (none.0, ih)
 
-pub with_once : (id : CallId) (call : CallValue) (cs : Calls) → IsDistinct same_call (keys_of cs) → IsDistinct same_call (keys_of (with_call id call cs))
+pub with_once : (id : CallId) (call : CallValue) (cs : Calls) → IsDistinct same_call (keys_of cs) →
+    IsDistinct same_call (keys_of (with_call id call cs))
 with_once id call [] once = IsDistinct-cons same_call id [] tt once
 with_once id call (c ∷ cs) once =
     go (same_call id c.0) refl (with_once id call cs (IsDistinct-tail same_call c.0 (keys_of cs) once))
   where
-    go : (b : Bool) → same_call id c.0 ≡ b → IsDistinct same_call (keys_of (with_call id call cs)) → IsDistinct same_call (keys_of (cond b ((c.0, call) ∷ cs) (c ∷ with_call id call cs)))
+    go : (b : Bool) → same_call id c.0 ≡ b → IsDistinct same_call (keys_of (with_call id call cs)) →
+        IsDistinct same_call (keys_of (cond b ((c.0, call) ∷ cs) (c ∷ with_call id call cs)))
     go true is ih = once
     go false is ih =
         IsDistinct-cons same_call c.0 (keys_of (with_call id call cs))
@@ -53,7 +56,8 @@ without_once id [] once = once
 without_once id (c ∷ cs) once =
     go (same_call id c.0) (without_once id cs (IsDistinct-tail same_call c.0 (keys_of cs) once))
   where
-    go : (b : Bool) → IsDistinct same_call (keys_of (without_call id cs)) → IsDistinct same_call (keys_of (cond b cs (c ∷ without_call id cs)))
+    go : (b : Bool) → IsDistinct same_call (keys_of (without_call id cs)) →
+        IsDistinct same_call (keys_of (cond b cs (c ∷ without_call id cs)))
     go true ih = IsDistinct-tail same_call c.0 (keys_of cs) once
     go false ih =
         IsDistinct-cons same_call c.0 (keys_of (without_call id cs))
@@ -68,11 +72,13 @@ none_filter a t (c ∷ cs) none = go (t c) (none_filter a t cs none.1) where
   go true ih = (none.0, ih)
   go false ih = ih
 
-pub filter_once : (t : CallId × CallValue → Bool) (cs : Calls) → IsDistinct same_call (keys_of cs) → IsDistinct same_call (keys_of (filter t cs))
+pub filter_once : (t : CallId × CallValue → Bool) (cs : Calls) → IsDistinct same_call (keys_of cs) →
+    IsDistinct same_call (keys_of (filter t cs))
 filter_once t [] once = once
 filter_once t (c ∷ cs) once = go (t c) (filter_once t cs (IsDistinct-tail same_call c.0 (keys_of cs) once)) where
   go : (b : Bool) → IsDistinct same_call (keys_of (filter t cs)) → IsDistinct same_call (keys_of (cond b (c ∷ filter t cs) (filter t cs)))
-  go true ih = IsDistinct-cons same_call c.0 (keys_of (filter t cs)) (none_filter c.0 t cs (IsDistinct-head same_call c.0 (keys_of cs) once)) ih
+  go true ih = IsDistinct-cons same_call c.0 (keys_of (filter t cs))
+      (none_filter c.0 t cs (IsDistinct-head same_call c.0 (keys_of cs) once)) ih
   go false ih = ih
 
 pub all_filter : {A : Type 0} (P : A → Type 0) (t : A → Bool) (xs : List A) → AllByRecursion P xs → AllByRecursion P (filter t xs)

@@ -37,13 +37,105 @@ KeepsLimits limits quota (Does operation) = ⊥
 KeepsLimits limits quota (Pushes job) = ⊥
 KeepsLimits limits quota (Settles steps) = ⊥
 
-pub change_keeps : (c : InstanceChange) (s : InstanceState) → KeepsLimits s.limits s.quota c → IsInstanceWithin s → IsInstanceWithin (state_after_change c s)
-change_keeps (Text c) s good w = record { quota = w.quota; limits = w.limits; texts = change_within s.limits.blobs s.quota c s.visible w.limits.some_blobs good w.texts; uploads = w.uploads; results = w.results; calls = w.calls; messages = w.messages; slots = w.slots; jobs = w.jobs; running = w.running; whole = w.whole; told = w.told; parent = w.parent }
-change_keeps (Goes id call) s good w = record { quota = w.quota; limits = w.limits; texts = w.texts; uploads = w.uploads; results = w.results; calls = with_once id call s.calls w.calls; messages = with_short id call s.calls good w.messages; slots = w.slots; jobs = w.jobs; running = w.running; whole = w.whole; told = w.told; parent = w.parent }
-change_keeps (Ends id) s good w = record { quota = w.quota; limits = w.limits; texts = w.texts; uploads = w.uploads; results = w.results; calls = without_once id s.calls w.calls; messages = without_short id s.calls w.messages; slots = w.slots; jobs = w.jobs; running = w.running; whole = w.whole; told = w.told; parent = w.parent }
-change_keeps (Wrote left) s good w = record { quota = w.quota; limits = w.limits; texts = good.texts; uploads = good.uploads; results = w.results; calls = w.calls; messages = w.messages; slots = w.slots; jobs = w.jobs; running = w.running; whole = w.whole; told = w.told; parent = w.parent }
-change_keeps (Keeps results) s good w = record { quota = w.quota; limits = w.limits; texts = w.texts; uploads = w.uploads; results = good; calls = w.calls; messages = w.messages; slots = w.slots; jobs = w.jobs; running = w.running; whole = w.whole; told = w.told; parent = w.parent }
-change_keeps Expires s good w = record { quota = w.quota; limits = w.limits; texts = w.texts; uploads = within_unexpired s.quota s.moment s.uploads w.uploads; results = w.results; calls = w.calls; messages = w.messages; slots = w.slots; jobs = w.jobs; running = w.running; whole = w.whole; told = w.told; parent = w.parent }
+pub change_keeps : (c : InstanceChange) (s : InstanceState) → KeepsLimits s.limits s.quota c → IsInstanceWithin s →
+    IsInstanceWithin (state_after_change c s)
+change_keeps (Text c) s good w = record {
+  quota = w.quota;
+  limits = w.limits;
+  texts =
+      change_within s.limits.blobs s.quota c s.visible w.limits.some_blobs good w.texts;
+  uploads = w.uploads;
+  results = w.results;
+  calls =
+      w.calls;
+  messages = w.messages;
+  slots = w.slots;
+  jobs = w.jobs;
+  running = w.running;
+  whole = w.whole;
+  told = w.told;
+  parent = w.parent;
+}
+change_keeps (Goes id call) s good w = record {
+  quota = w.quota;
+  limits = w.limits;
+  texts = w.texts;
+  uploads = w.uploads;
+  results =
+      w.results;
+  calls = with_once id call s.calls w.calls;
+  messages = with_short id call s.calls good w.messages;
+  slots = w.slots;
+  jobs =
+      w.jobs;
+  running = w.running;
+  whole = w.whole;
+  told = w.told;
+  parent = w.parent;
+}
+change_keeps (Ends id) s good w = record {
+  quota = w.quota;
+  limits = w.limits;
+  texts = w.texts;
+  uploads = w.uploads;
+  results = w.results;
+  calls = without_once id s.calls w.calls;
+  messages = without_short id s.calls w.messages;
+  slots = w.slots;
+  jobs = w.jobs;
+  running =
+      w.running;
+  whole = w.whole;
+  told = w.told;
+  parent = w.parent;
+}
+change_keeps (Wrote left) s good w = record {
+  quota = w.quota;
+  limits = w.limits;
+  texts = good.texts;
+  uploads = good.uploads;
+  results =
+      w.results;
+  calls = w.calls;
+  messages = w.messages;
+  slots = w.slots;
+  jobs = w.jobs;
+  running = w.running;
+  whole = w.whole;
+  told = w.told;
+  parent = w.parent;
+}
+change_keeps (Keeps results) s good w = record {
+  quota = w.quota;
+  limits = w.limits;
+  texts = w.texts;
+  uploads = w.uploads;
+  results = good;
+  calls = w.calls;
+  messages = w.messages;
+  slots = w.slots;
+  jobs = w.jobs;
+  running = w.running;
+  whole = w.whole;
+  told = w.told;
+  parent = w.parent;
+}
+change_keeps Expires s good w = record {
+  quota = w.quota;
+  limits = w.limits;
+  texts = w.texts;
+  uploads =
+      within_unexpired s.quota s.moment s.uploads w.uploads;
+  results = w.results;
+  calls = w.calls;
+  messages = w.messages;
+  slots = w.slots;
+  jobs = w.jobs;
+  running = w.running;
+  whole = w.whole;
+  told = w.told;
+  parent = w.parent;
+}
 change_keeps (Does operation) s good w = absurd good
 change_keeps (Pushes job) s good w = absurd good
 change_keeps (Settles steps) s good w = absurd good
@@ -57,16 +149,36 @@ jobs_of s w = record { order = w.jobs; running = w.running; whole = w.whole; end
 abbrev with_jobs : Jobs JobValue → InstanceState → InstanceState
 with_jobs jobs s = record s { jobs = jobs }
 
-jobs_keep : (jobs : Jobs JobValue) (s : InstanceState) → AreJobsWithin s.slots jobs → IsInstanceWithin s → IsInstanceWithin (with_jobs jobs s)
-jobs_keep jobs s h w = record { quota = w.quota; limits = w.limits; texts = w.texts; uploads = w.uploads; results = w.results; slots = w.slots; jobs = h.order; running = h.running; whole = h.whole; told = h.ended; calls = w.calls; messages = w.messages; parent = w.parent }
+jobs_keep : (jobs : Jobs JobValue) (s : InstanceState) → AreJobsWithin s.slots jobs → IsInstanceWithin s →
+    IsInstanceWithin (with_jobs jobs s)
+jobs_keep jobs s h w = record {
+  quota = w.quota;
+  limits = w.limits;
+  texts = w.texts;
+  uploads = w.uploads;
+  results = w.results;
+  slots =
+      w.slots;
+  jobs = h.order;
+  running = h.running;
+  whole = h.whole;
+  told = h.ended;
+  calls = w.calls;
+  messages = w.messages;
+  parent =
+      w.parent;
+}
 
-pub does_keeps : (operation : List ℕ) (s : InstanceState) → s.jobs.next ≤ LAST_NUMBER → IsShort operation → IsInstanceWithin s → IsInstanceWithin (state_after_change (Does operation) s)
+pub does_keeps : (operation : List ℕ) (s : InstanceState) → s.jobs.next ≤ LAST_NUMBER → IsShort operation → IsInstanceWithin s →
+    IsInstanceWithin (state_after_change (Does operation) s)
 does_keeps operation s left short w = jobs_keep _ s (done_within s.slots operation s.jobs (jobs_of s w) left short) w
 
-pub pushes_keeps : (job : JobValue) (s : InstanceState) → s.jobs.next ≤ LAST_NUMBER → length s.jobs.waiting < MOST_WAITING → IsWholeJob job → IsInstanceWithin s → IsInstanceWithin (state_after_change (Pushes job) s)
+pub pushes_keeps : (job : JobValue) (s : InstanceState) → s.jobs.next ≤ LAST_NUMBER → length s.jobs.waiting < MOST_WAITING →
+    IsWholeJob job → IsInstanceWithin s → IsInstanceWithin (state_after_change (Pushes job) s)
 pushes_keeps job s left room whole w = jobs_keep _ s (push_within s.slots job s.jobs (jobs_of s w) left room whole) w
 
-pub settles_keeps : (steps : List StepValue) (s : InstanceState) → AreJobsWithin s.slots (jobs_after_steps steps s.jobs) → IsInstanceWithin s → IsInstanceWithin (state_after_change (Settles steps) s)
+pub settles_keeps : (steps : List StepValue) (s : InstanceState) → AreJobsWithin s.slots (jobs_after_steps steps s.jobs) →
+    IsInstanceWithin s → IsInstanceWithin (state_after_change (Settles steps) s)
 settles_keeps steps s h w = record {
   quota = w.quota;
   limits = w.limits;
@@ -89,17 +201,21 @@ abbrev pub FrontsKeep : InstanceState → List InstanceChange → Type 0
 FrontsKeep s [] = IsInstanceWithin s
 FrontsKeep s (c ∷ cs) = IsInstanceWithin s × FrontsKeep (state_after_change c s) cs
 
-pub front_within : (s : InstanceState) (made left : List InstanceChange) → FrontsKeep s (made ++ left) → IsInstanceWithin (state_after_changes made s)
+pub front_within : (s : InstanceState) (made left : List InstanceChange) → FrontsKeep s (made ++ left) →
+    IsInstanceWithin (state_after_changes made s)
 front_within s [] [] h = h
 front_within s [] (c ∷ left) h = h.0
 front_within s (c ∷ made) left h = front_within (state_after_change c s) made left h.1
 
-pub fronts_last : (s : InstanceState) (cs : List InstanceChange) (c : InstanceChange) → ((t : InstanceState) → IsInstanceWithin t → IsInstanceWithin (state_after_change c t)) → FrontsKeep s cs → FrontsKeep s (cs ++ c ∷ [])
+pub fronts_last : (s : InstanceState) (cs : List InstanceChange) (c : InstanceChange) →
+    ((t : InstanceState) → IsInstanceWithin t → IsInstanceWithin (state_after_change c t)) → FrontsKeep s cs → FrontsKeep s (cs ++ c ∷ [])
 fronts_last s [] c keeps h = (h, keeps s h)
 fronts_last s (x ∷ cs) c keeps h = (h.0, fronts_last (state_after_change x s) cs c keeps h.1)
 
 -- a change leaves what the next ones have to keep to
-still_keep : (c : InstanceChange) (s : InstanceState) (cs : List InstanceChange) → KeepsLimits s.limits s.quota c → AllByRecursion (KeepsLimits s.limits s.quota) cs → AllByRecursion (KeepsLimits (state_after_change c s).limits (state_after_change c s).quota) cs
+still_keep : (c : InstanceChange) (s : InstanceState) (cs : List InstanceChange) → KeepsLimits s.limits s.quota c →
+    AllByRecursion (KeepsLimits s.limits s.quota) cs →
+    AllByRecursion (KeepsLimits (state_after_change c s).limits (state_after_change c s).quota) cs
 still_keep (Text c) s cs good h = h
 still_keep (Goes id call) s cs good h = h
 still_keep (Ends id) s cs good h = h
@@ -110,7 +226,8 @@ still_keep (Does operation) s cs good h = absurd good
 still_keep (Pushes job) s cs good h = absurd good
 still_keep (Settles steps) s cs good h = absurd good
 
-pub fronts_keep : (s : InstanceState) (cs : List InstanceChange) → AllByRecursion (KeepsLimits s.limits s.quota) cs → IsInstanceWithin s → FrontsKeep s cs
+pub fronts_keep : (s : InstanceState) (cs : List InstanceChange) → AllByRecursion (KeepsLimits s.limits s.quota) cs → IsInstanceWithin s →
+    FrontsKeep s cs
 fronts_keep s [] good w = w
 fronts_keep s (c ∷ cs) good w =
     (w, fronts_keep (state_after_change c s) cs (still_keep c s cs good.0 good.1) (change_keeps c s good.0 w))
@@ -120,7 +237,8 @@ fronts_keep s (c ∷ cs) good w =
 abbrev SettleWell : InstanceState → List StepValue → Type 0
 SettleWell s steps = AreJobsWithin s.slots (jobs_after_steps steps s.jobs)
 
-settle_after : (c : InstanceChange) (s : InstanceState) (steps : List StepValue) → KeepsLimits s.limits s.quota c → SettleWell s steps → SettleWell (state_after_change c s) steps
+settle_after : (c : InstanceChange) (s : InstanceState) (steps : List StepValue) → KeepsLimits s.limits s.quota c → SettleWell s steps →
+    SettleWell (state_after_change c s) steps
 settle_after (Text c) s steps good h = h
 settle_after (Goes id call) s steps good h = h
 settle_after (Ends id) s steps good h = h
@@ -131,7 +249,11 @@ settle_after (Does operation) s steps good h = absurd good
 settle_after (Pushes job) s steps good h = absurd good
 settle_after (Settles others) s steps good h = absurd good
 
-pub then_settle : (s : InstanceState) (cs : List InstanceChange) (steps : List StepValue) → AllByRecursion (KeepsLimits s.limits s.quota) cs → SettleWell s steps → IsInstanceWithin s → FrontsKeep s (cs ++ Settles steps ∷ [])
+pub then_settle : (s : InstanceState) (cs : List InstanceChange) (steps : List StepValue) →
+    AllByRecursion (KeepsLimits s.limits s.quota) cs → SettleWell s steps → IsInstanceWithin s → FrontsKeep s (cs ++ Settles steps ∷ [])
 then_settle s [] steps good h w = (w, settles_keeps steps s h w)
-then_settle s (c ∷ cs) steps good h w =
-    (w, then_settle (state_after_change c s) cs steps (still_keep c s cs good.0 good.1) (settle_after c s steps good.0 h) (change_keeps c s good.0 w))
+then_settle s (c ∷ cs) steps good h w = (
+  w,
+  then_settle (state_after_change c s) cs steps (still_keep c s cs good.0 good.1) (settle_after c s steps good.0 h)
+      (change_keeps c s good.0 w),
+)

@@ -10,11 +10,13 @@ use Rattle.instance_core.specs.Calls.{Calls, CallValue, same_call, with_call, wi
 pub inserted : (id : CallId) (call : CallValue) (es : List (CallId × CallValue)) → insert_entry same_call es id call ≡ with_call id call es
 inserted id call [] = refl
 inserted id call (e ∷ es) = go (same_call id e.0) refl (inserted id call es) where
-  go : (b : Bool) → same_call id e.0 ≡ b → insert_entry same_call es id call ≡ with_call id call es → insert_entry same_call (e ∷ es) id call ≡ with_call id call (e ∷ es)
+  go : (b : Bool) → same_call id e.0 ≡ b → insert_entry same_call es id call ≡ with_call id call es →
+      insert_entry same_call (e ∷ es) id call ≡ with_call id call (e ∷ es)
   go true is ih = rw is refl
   go false is ih = rw is (ap (λ (cs : List (CallId × CallValue)). e ∷ cs) ih)
 
-pub with_short : (id : CallId) (call : CallValue) (cs : Calls) → IsProgressOf call.method call.progress → KeepShort cs → KeepShort (with_call id call cs)
+pub with_short : (id : CallId) (call : CallValue) (cs : Calls) → IsProgressOf call.method call.progress → KeepShort cs →
+    KeepShort (with_call id call cs)
 with_short id call [] h kept = (h, tt)
 with_short id call (c ∷ cs) h kept = go (same_call id c.0) (with_short id call cs h kept.1) where
   go : (b : Bool) → KeepShort (with_call id call cs) → KeepShort (cond b ((c.0, call) ∷ cs) (c ∷ with_call id call cs))
@@ -29,12 +31,15 @@ without_short id (c ∷ cs) kept = go (same_call id c.0) (without_short id cs ke
   go false ih = (kept.0, ih)
 
 -- a call that was put into the map
-pub put_in : (id : CallId) (call : CallValue) (old new : Calls) → new ≡ insert_entry same_call old id call → IsDistinct same_call (keys_of new)
+pub put_in : (id : CallId) (call : CallValue) (old new : Calls) → new ≡ insert_entry same_call old id call →
+    IsDistinct same_call (keys_of new)
     → IsProgressOf call.method call.progress → AreInCourse old → AreInCourse new
-put_in id call old new is once short calls = record { once = once; messages = rw (is, inserted id call old) (with_short id call old short calls.messages) }
+put_in id call old new is once short calls = record
+    { once = once; messages = rw (is, inserted id call old) (with_short id call old short calls.messages) }
 
 -- a call that was taken out of it
-pub taken_out : (id : CallId) (old new : Calls) → new ≡ without_call id old → IsDistinct same_call (keys_of new) → AreInCourse old → AreInCourse new
+pub taken_out : (id : CallId) (old new : Calls) → new ≡ without_call id old → IsDistinct same_call (keys_of new) → AreInCourse old →
+    AreInCourse new
 taken_out id old new is once calls = record { once = once; messages = rw is (without_short id old calls.messages) }
 
 -- a call that took the place of another

@@ -31,13 +31,15 @@ abbrev KeepAll : InstanceState → List ExecuteChange → Type 0
 KeepAll s changes = FrontsKeep s (map execution_change changes)
 
 -- uses of texts leave jobs as they are
-uses_keep : (s : InstanceState) (ds : List Digest) (rest : List ExecuteChange) → IsInstanceWithin s → ((t : InstanceState) → IsInstanceWithin t → t.jobs ≡ s.jobs → KeepAll t rest) → KeepAll s (map Uses ds ++ rest)
+uses_keep : (s : InstanceState) (ds : List Digest) (rest : List ExecuteChange) → IsInstanceWithin s →
+    ((t : InstanceState) → IsInstanceWithin t → t.jobs ≡ s.jobs → KeepAll t rest) → KeepAll s (map Uses ds ++ rest)
 uses_keep s [] rest w more = more s w refl
 uses_keep s (d ∷ ds) rest w more =
     let next : InstanceState = state_after_change (Text (Texts.Use d)) s in
     (w, uses_keep next ds rest (change_keeps (Text (Texts.Use d)) s tt w) more)
 
-pub after_within : (limits : LimitsValue) (look : Digest → Option (List ℕ)) (d : Digest) (results : List Blob) → AreResultsWithin limits results → AreResultsWithin limits (results_after look d results)
+pub after_within : (limits : LimitsValue) (look : Digest → Option (List ℕ)) (d : Digest) (results : List Blob) →
+    AreResultsWithin limits results → AreResultsWithin limits (results_after look d results)
 after_within limits look d results within = go (is_some (blobs_for look d results)) where
   go : (b : Bool) → AreResultsWithin limits (cond b (with_match_first (same_digest d) results) results)
   go true = fronted_within limits (same_digest d) results within
@@ -63,25 +65,37 @@ module _ (s : InstanceState) (d : Digest) (w : IsInstanceWithin s) (left : IsLef
 
   job_keeps : (p : PreparedValue) → prepared (look_in (execution_state s)) d ≡ Ok p → KeepAll s (by_job (execution_state s) d p).changes
   job_keeps p is = go (nat_le MOST_WAITING (length s.jobs.waiting)) refl where
-    pushed : nat_le MOST_WAITING (length s.jobs.waiting) ≡ false → (t : InstanceState) → IsInstanceWithin t → t.jobs ≡ s.jobs → KeepAll t (Pushes (job_of (look_in (execution_state s)) d p) ∷ [])
-    pushed room t wt same =
-        (wt, pushes_keeps (job_of (look_in (execution_state s)) d p) t (subst IsLeft (sym same) left) (subst HasRoom (sym same) (is_under MOST_WAITING (length s.jobs.waiting) room)) (job_whole (look_in (execution_state s)) d p finds_named form is) wt)
+    pushed : nat_le MOST_WAITING (length s.jobs.waiting) ≡ false → (t : InstanceState) → IsInstanceWithin t → t.jobs ≡ s.jobs →
+        KeepAll t (Pushes (job_of (look_in (execution_state s)) d p) ∷ [])
+    pushed room t wt same = (
+      wt,
+      pushes_keeps (job_of (look_in (execution_state s)) d p) t (subst IsLeft (sym same) left)
+          (subst HasRoom (sym same) (is_under MOST_WAITING (length s.jobs.waiting) room))
+          (job_whole (look_in (execution_state s)) d p finds_named form is) wt,
+    )
 
     go : (b : Bool) → nat_le MOST_WAITING (length s.jobs.waiting) ≡ b
-        → KeepAll s (cond b (refused QueueFull) (record { answer = Ok (queued s.jobs.next (queued_text s.jobs.next d)); changes = map Uses (met d p) ++ Pushes (job_of (look_in (execution_state s)) d p) ∷ [] })).changes
+        → KeepAll s (cond b (refused QueueFull) (record {
+          answer = Ok (queued s.jobs.next (queued_text s.jobs.next d));
+          changes =
+              map Uses (met d p) ++ Pushes (job_of (look_in (execution_state s)) d p) ∷ [];
+        })).changes
     go true full = w
     go false room = uses_keep s (met d p) (Pushes (job_of (look_in (execution_state s)) d p) ∷ []) w (pushed room)
 
-  preparing_keeps : (r : Result PreparedValue FaultValue) → prepared (look_in (execution_state s)) d ≡ r → IfOk (by_preparing (execution_state s) d r).answer IsShortExecuteAnswer → KeepAll s (by_preparing (execution_state s) d r).changes
+  preparing_keeps : (r : Result PreparedValue FaultValue) → prepared (look_in (execution_state s)) d ≡ r →
+      IfOk (by_preparing (execution_state s) d r).answer IsShortExecuteAnswer → KeepAll s (by_preparing (execution_state s) d r).changes
   preparing_keeps (Ok p) is short = job_keeps p is
   preparing_keeps (Err f) is short = (w, does_keeps (completed_text s.jobs.next d (fails f.fault f.missing)) s left short w)
 
-  looking_keeps : (o : Option (List ℕ)) → IfOk (by_looking (execution_state s) d o).answer IsShortExecuteAnswer → KeepAll s (by_looking (execution_state s) d o).changes
+  looking_keeps : (o : Option (List ℕ)) → IfOk (by_looking (execution_state s) d o).answer IsShortExecuteAnswer →
+      KeepAll s (by_looking (execution_state s) d o).changes
   looking_keeps (Some text) short =
       let kept : List Blob = results_after (look_in (execution_state s)) d s.results in
       let next : InstanceState = state_after_change (Keeps kept) s in
       let operation : List ℕ = completed_text s.jobs.next d (finds text) in
-      let within : IsInstanceWithin next = change_keeps (Keeps kept) s (after_within s.limits (look_in (execution_state s)) d s.results w.results) w in (
+      let within : IsInstanceWithin next = change_keeps (Keeps kept) s
+      (after_within s.limits (look_in (execution_state s)) d s.results w.results) w in (
         w,
         uses_keep next (blobs_used (look_in (execution_state s)) d s.results) (Does operation ∷ []) within
             (λ t wt same. (wt, does_keeps operation t (subst IsLeft (sym same) left) short wt)),
@@ -97,17 +111,23 @@ unless_full s skip d = cond (nat_lt LAST_NUMBER s.jobs.next) (refused QueueFull)
 abbrev IsShortDone : ExecuteDone → Type 0
 IsShortDone x = IfOk x.answer IsShortExecuteAnswer
 
-execute_keeps : (s : InstanceState) (skip : Bool) (d : Digest) → IsInstanceWithin s → HasForm d → KeepAll s (execute s.slots (execution_state s) skip d).changes
-execute_keeps s skip d w form = off (nat_eq s.slots 0) (execute_short s.limits s.slots (execution_state s) skip d w.jobs.few_numbers form w.limits w.results) where
-  full : (b : Bool) → nat_lt LAST_NUMBER s.jobs.next ≡ b → IsShortDone (cond b (refused QueueFull) (found_by s skip d)) → KeepAll s (cond b (refused QueueFull) (found_by s skip d)).changes
-  full true is short = w
-  full false is short = looking_keeps s d w (not_over LAST_NUMBER s.jobs.next is) form (looked_up skip (look_in (execution_state s)) d s.results) short
+execute_keeps : (s : InstanceState) (skip : Bool) (d : Digest) → IsInstanceWithin s → HasForm d →
+    KeepAll s (execute s.slots (execution_state s) skip d).changes
+execute_keeps s skip d w form = off (nat_eq s.slots 0)
+    (execute_short s.limits s.slots (execution_state s) skip d w.jobs.few_numbers form w.limits w.results) where
+      full : (b : Bool) → nat_lt LAST_NUMBER s.jobs.next ≡ b → IsShortDone (cond b (refused QueueFull) (found_by s skip d)) →
+          KeepAll s (cond b (refused QueueFull) (found_by s skip d)).changes
+      full true is short = w
+      full false is short = looking_keeps s d w (not_over LAST_NUMBER s.jobs.next is) form
+          (looked_up skip (look_in (execution_state s)) d s.results) short
 
-  off : (b : Bool) → IsShortDone (cond b (refused ExecutionIsOff) (unless_full s skip d)) → KeepAll s (cond b (refused ExecutionIsOff) (unless_full s skip d)).changes
-  off true short = w
-  off false short = full (nat_lt LAST_NUMBER s.jobs.next) refl short
+      off : (b : Bool) → IsShortDone (cond b (refused ExecutionIsOff) (unless_full s skip d)) →
+          KeepAll s (cond b (refused ExecutionIsOff) (unless_full s skip d)).changes
+      off true short = w
+      off false short = full (nat_lt LAST_NUMBER s.jobs.next) refl short
 
-pub executed_keeps : (s : InstanceState) (request : List ℕ) → IsInstanceWithin s → FrontsKeep s (execution_changes s (execute_asked s.name request))
+pub executed_keeps : (s : InstanceState) (request : List ℕ) → IsInstanceWithin s →
+    FrontsKeep s (execution_changes s (execute_asked s.name request))
 executed_keeps s request w = go (execute_asked s.name request) refl where
   go : (r : Result ExecuteAskedValue Refusal) → execute_asked s.name request ≡ r → FrontsKeep s (execution_changes s r)
   go (Err refusal) is = w

@@ -40,9 +40,12 @@ done_items (Err refusal) short = (tt, tt)
 
 pub execute_items : (s : InstanceState) (request : List ℕ) → IsInstanceWithin s → AreShortItems (answer_to Execute s request)
 execute_items s request w = go (execute_asked s.name request) refl where
-  go : (r : Result ExecuteAskedValue Refusal) → execute_asked s.name request ≡ r → AreShortItems (r >>= λ asked. answering execute_answered (executed s asked).answer)
+  go : (r : Result ExecuteAskedValue Refusal) → execute_asked s.name request ≡ r →
+      AreShortItems (r >>= λ asked. answering execute_answered (executed s asked).answer)
   go (Err refusal) is = (tt, tt)
-  go (Ok asked) is = done_items (executed s asked).answer (execute_short s.limits s.slots (execution_state s) asked.skips_lookup asked.action w.jobs.few_numbers (asked_form s.name request asked is) w.limits w.results)
+  go (Ok asked) is = done_items (executed s asked).answer
+      (execute_short s.limits s.slots (execution_state s) asked.skips_lookup asked.action w.jobs.few_numbers
+      (asked_form s.name request asked is) w.limits w.results)
 
 told_items_short : (r : Result WaitAnswer Refusal) → IfOk r IsShortWaitAnswer → AreShortItems (answering wait_answered r)
 told_items_short (Ok (has_told operation)) short = (tt, (short, (tt, tt)))
@@ -64,7 +67,8 @@ no_done_range (Err refusal) source h = cc
 
 pub execute_no_range : (s : InstanceState) (request : List ℕ) (source : SourceValue) → answer_to Execute s request ≡ Ok (range source) → ⊥
 execute_no_range s request source h = go (execute_asked s.name request) h where
-  go : (r : Result ExecuteAskedValue Refusal) → (r >>= λ asked. answering execute_answered (executed s asked).answer) ≡ Ok (range source) → ⊥
+  go : (r : Result ExecuteAskedValue Refusal) → (r >>= λ asked. answering execute_answered (executed s asked).answer) ≡ Ok (range source) →
+      ⊥
   go (Err refusal) h = cc
   go (Ok asked) h = no_done_range (executed s asked).answer source h
 
@@ -73,7 +77,8 @@ no_told_range (Ok (has_told operation)) source h = cc
 no_told_range (Ok (Waiting.watches n operation)) source h = cc
 no_told_range (Err refusal) source h = cc
 
-pub wait_no_range : (s : InstanceState) (request : List ℕ) (source : SourceValue) → answer_to WaitExecution s request ≡ Ok (range source) → ⊥
+pub wait_no_range : (s : InstanceState) (request : List ℕ) (source : SourceValue) → answer_to WaitExecution s request ≡ Ok (range source) →
+    ⊥
 wait_no_range s request source h = go (name_asked request) h where
   go : (r : Result (List ℕ) Refusal) → (r >>= λ name. answering wait_answered (wait name s.jobs)) ≡ Ok (range source) → ⊥
   go (Err refusal) h = cc
@@ -91,19 +96,28 @@ each_short : (t : ToldValue) (ids : List CallId) → IsShort t.operation → All
 each_short t [] short = tt
 each_short t (id ∷ ids) short = (item_short t short, each_short t ids short)
 
-pub told_replies : (calls : Calls) (steps : List StepValue) → AreShortSteps steps → AllByRecursion IsShortReply (replies_to_watchers calls steps)
+pub told_replies : (calls : Calls) (steps : List StepValue) → AreShortSteps steps →
+    AllByRecursion IsShortReply (replies_to_watchers calls steps)
 told_replies calls [] short = tt
 told_replies calls (step ∷ steps) short =
-    all_append IsShortReply (replies_told calls (told step)) (replies_to_watchers calls steps) (each_short (told step) (watchers (told step).number calls) short.0) (told_replies calls steps short.1)
+    all_append IsShortReply (replies_told calls (told step)) (replies_to_watchers calls steps)
+    (each_short (told step) (watchers (told step).number calls) short.0) (told_replies calls steps short.1)
 
-pub start_replies : (s : InstanceState) → IsInstanceWithin s → AllByRecursion IsShortReply (replies_to_watchers s.calls (start_steps s.slots s.moment s.jobs))
-start_replies s w = told_replies s.calls (start_steps s.slots s.moment s.jobs) (start_short s.slots s.moment s.jobs (told_jobs s.slots s.jobs (jobs_of s w)))
+pub start_replies : (s : InstanceState) → IsInstanceWithin s →
+    AllByRecursion IsShortReply (replies_to_watchers s.calls (start_steps s.slots s.moment s.jobs))
+start_replies s w = told_replies s.calls (start_steps s.slots s.moment s.jobs)
+    (start_short s.slots s.moment s.jobs (told_jobs s.slots s.jobs (jobs_of s w)))
 
-pub tick_replies : (s : InstanceState) → IsInstanceWithin s → AllByRecursion IsShortReply (replies_to_watchers s.calls (tick_steps s.slots s.moment s.jobs))
-tick_replies s w = told_replies s.calls (tick_steps s.slots s.moment s.jobs) (tick_short s.slots s.moment s.jobs (told_jobs s.slots s.jobs (jobs_of s w)))
+pub tick_replies : (s : InstanceState) → IsInstanceWithin s →
+    AllByRecursion IsShortReply (replies_to_watchers s.calls (tick_steps s.slots s.moment s.jobs))
+tick_replies s w = told_replies s.calls (tick_steps s.slots s.moment s.jobs)
+    (tick_short s.slots s.moment s.jobs (told_jobs s.slots s.jobs (jobs_of s w)))
 
-pub ending_replies : (s : InstanceState) (n : ℕ) (outcome : OutcomeValue) → IsNarrowOutcome outcome → IsInstanceWithin s → AllByRecursion IsShortReply (replies_to_watchers s.calls (ending_steps s n outcome (running_job n s.jobs)))
+pub ending_replies : (s : InstanceState) (n : ℕ) (outcome : OutcomeValue) → IsNarrowOutcome outcome → IsInstanceWithin s →
+    AllByRecursion IsShortReply (replies_to_watchers s.calls (ending_steps s n outcome (running_job n s.jobs)))
 ending_replies s n outcome narrow w = go (running_job n s.jobs) refl where
-  go : (o : Option JobValue) → running_job n s.jobs ≡ o → AllByRecursion IsShortReply (replies_to_watchers s.calls (ending_steps s n outcome o))
+  go : (o : Option JobValue) → running_job n s.jobs ≡ o →
+      AllByRecursion IsShortReply (replies_to_watchers s.calls (ending_steps s n outcome o))
   go None is = tt
-  go (Some job) is = told_replies s.calls (end_steps s.slots s.moment n (ending_at s outcome job).end_is s.jobs) (steps_short s n outcome job narrow is w)
+  go (Some job) is = told_replies s.calls (end_steps s.slots s.moment n (ending_at s outcome job).end_is s.jobs)
+      (steps_short s n outcome job narrow is w)

@@ -62,10 +62,12 @@ same_is a b h = go (a.connection == b.connection) (a.stream == b.stream) refl re
   go true false connection stream h = absurd (cc)
   go false s connection stream h = absurd (cc)
 
-with_kept : (came : CameMessages) (id : CallId) (call : CallValue) (cs : Calls) → HasKept came id call.progress → HaveKept came cs → HaveKept came (with_call id call cs)
+with_kept : (came : CameMessages) (id : CallId) (call : CallValue) (cs : Calls) → HasKept came id call.progress → HaveKept came cs →
+    HaveKept came (with_call id call cs)
 with_kept came id call [] new h = (new, tt)
 with_kept came id call (c ∷ cs) new h = go (same_call id c.0) refl (with_kept came id call cs new h.1) where
-  go : (b : Bool) → same_call id c.0 ≡ b → HaveKept came (with_call id call cs) → HaveKept came (cond b ((c.0, call) ∷ cs) (c ∷ with_call id call cs))
+  go : (b : Bool) → same_call id c.0 ≡ b → HaveKept came (with_call id call cs) →
+      HaveKept came (cond b ((c.0, call) ∷ cs) (c ∷ with_call id call cs))
   go true is later = (subst (λ (x : CallId). HasKept came x call.progress) (same_is id c.0 is) new, h.1)
   go false is later = (h.0, later)
 
@@ -76,10 +78,12 @@ without_kept came id (c ∷ cs) h = go (same_call id c.0) (without_kept came id 
   go true later = h.1
   go false later = (h.0, later)
 
-found_kept : (came : CameMessages) (id : CallId) (cs : Calls) (call : CallValue) → HaveKept came cs → call_at id cs ≡ Some call → HasKept came id call.progress
+found_kept : (came : CameMessages) (id : CallId) (cs : Calls) (call : CallValue) → HaveKept came cs → call_at id cs ≡ Some call →
+    HasKept came id call.progress
 found_kept came id [] call h is = absurd (cc)
 found_kept came id (c ∷ cs) call h is = go (same_call id c.0) refl is (λ later. found_kept came id cs call h.1 later) where
-  go : (b : Bool) → same_call id c.0 ≡ b → cond b (Some c.1) (lookup (same_call id) cs) ≡ Some call → (lookup (same_call id) cs ≡ Some call → HasKept came id call.progress) → HasKept came id call.progress
+  go : (b : Bool) → same_call id c.0 ≡ b → cond b (Some c.1) (lookup (same_call id) cs) ≡ Some call →
+      (lookup (same_call id) cs ≡ Some call → HasKept came id call.progress) → HasKept came id call.progress
   go true same is later =
       let first : c.1 ≡ call = cc in
       let here : HasKept came id c.1.progress = subst (λ (x : CallId). HasKept came x c.1.progress) (sym (same_is id c.0 same)) h.0 in
@@ -97,7 +101,8 @@ answered_as_came came s id h request is = go (call_at id s.calls) refl is where
   by method (writes write) kept is = absurd (cc)
   by method (watches n) kept is = absurd (cc)
 
-  go : (o : Option CallValue) → call_at id s.calls ≡ o → option_map_or (λ call. whole_request call.method call.progress) o None ≡ Some request → HasCome came id request.message
+  go : (o : Option CallValue) → call_at id s.calls ≡ o →
+      option_map_or (λ call. whole_request call.method call.progress) o None ≡ Some request → HasCome came id request.message
   go None at is = absurd (cc)
   go (Some call) at is = by call.method call.progress (found_kept came id s.calls call h at) is
 
@@ -134,29 +139,40 @@ execution_came came (Executor.Keeps results ∷ changes) = (tt, execution_came c
 execution_came came (Executor.Does operation ∷ changes) = (tt, execution_came came changes)
 execution_came came (Executor.Pushes job ∷ changes) = (tt, execution_came came changes)
 
-executed_came : (came : CameMessages) (s : InstanceState) (r : Result ExecuteAskedValue Refusal) → AllAre (KeepsCame came) (execution_changes s r)
+executed_came : (came : CameMessages) (s : InstanceState) (r : Result ExecuteAskedValue Refusal) →
+    AllAre (KeepsCame came) (execution_changes s r)
 executed_came came s (Ok asked) = execution_came came (executed s asked).changes
 executed_came came s (Err refusal) = tt
 
-method_came : (came : CameMessages) (s : InstanceState) (method : Method) (request : List ℕ) → ExecutesHold (KeepsCame came) s method request
+method_came : (came : CameMessages) (s : InstanceState) (method : Method) (request : List ℕ) →
+    ExecutesHold (KeepsCame came) s method request
 method_came came s Called.Execute request = executed_came came s (execute_asked s.name request)
 method_came came s method request = tt
 
-call_came : (came : CameMessages) (s : InstanceState) (id : CallId) (method : Method) (p : ProgressValue) → EndsHold (KeepsCame came) s id method p
-call_came came s id method (has request) = (method_came came s method request, call_holds (KeepsCame came) id method (answer_to method s request) (λ n. tt) tt)
+call_came : (came : CameMessages) (s : InstanceState) (id : CallId) (method : Method) (p : ProgressValue) →
+    EndsHold (KeepsCame came) s id method p
+call_came came s id method (has request) = (
+  method_came came s method request,
+  call_holds (KeepsCame came) id method
+      (answer_to method s request) (λ n. tt) tt,
+)
 call_came came s id method waits = tt
 call_came came s id method (writes write) = tt
 call_came came s id method (watches n) = tt
 
-end_came : (came : CameMessages) (s : InstanceState) (outcome : OutcomeValue) (o : Option JobValue) (steps : List StepValue) → AllAre (KeepsCame came) (ending_changes s outcome o ++ Settles steps ∷ [])
+end_came : (came : CameMessages) (s : InstanceState) (outcome : OutcomeValue) (o : Option JobValue) (steps : List StepValue) →
+    AllAre (KeepsCame came) (ending_changes s outcome o ++ Settles steps ∷ [])
 end_came came s outcome None steps = (tt, tt)
 end_came came s outcome (Some job) steps =
     all_append (KeepsCame came) (ending_changes s outcome (Some job)) (Settles steps ∷ [])
-    (all_append (KeepsCame came) (map Text (admissions (ending_at s outcome job).blobs)) (Keeps (results_with s.limits job.action (ending_at s outcome job).stored s.results) ∷ [])
-    (texts_hold s (KeepsCame came) (came_allow came s) (admissions (ending_at s outcome job).blobs) (ending_stores s.quota s.visible job outcome)) (tt, tt))
+    (all_append (KeepsCame came) (map Text (admissions (ending_at s outcome job).blobs))
+    (Keeps (results_with s.limits job.action (ending_at s outcome job).stored s.results) ∷ [])
+    (texts_hold s (KeepsCame came) (came_allow came s) (admissions (ending_at s outcome job).blobs)
+    (ending_stores s.quota s.visible job outcome)) (tt, tt))
     (tt, tt)
 
-came_beside : (came : CameMessages) (s : InstanceState) (event : CallEventValue) → HoldsBeside (KeepsCame (came ++ message_in event)) s event
+came_beside : (came : CameMessages) (s : InstanceState) (event : CallEventValue) →
+    HoldsBeside (KeepsCame (came ++ message_in event)) s event
 came_beside came s (message id bytes) = λ method other. comes_last came id bytes
 came_beside came s (head id method) = tt
 came_beside came s (fault id refusal) = tt
@@ -165,12 +181,15 @@ came_beside came s (cancel id) = tt
 came_beside came s tick = tt
 came_beside came s start_jobs = (tt, tt)
 came_beside came s end_late_jobs = (tt, tt)
-came_beside came s (end_job n outcome) = end_came (came ++ []) s outcome (running_job n s.jobs) (ending_steps s n outcome (running_job n s.jobs))
+came_beside came s (end_job n outcome) = end_came (came ++ []) s outcome (running_job n s.jobs)
+    (ending_steps s n outcome (running_job n s.jobs))
 
-change_kept : (came : CameMessages) (c : InstanceChange) (s : InstanceState) → KeepsCame came c → HaveKept came s.calls → HaveKept came (state_after_change c s).calls
+change_kept : (came : CameMessages) (c : InstanceChange) (s : InstanceState) → KeepsCame came c → HaveKept came s.calls →
+    HaveKept came (state_after_change c s).calls
 change_kept came (Goes id call) s new h = with_kept came id call s.calls new h
 change_kept came (Ends id) s new h = without_kept came id s.calls h
-change_kept came (Settles steps) s new h = steps_left (HaveKept came) (all_filter (λ (c : CallId × CallValue). HasKept came c.0 c.1.progress)) steps s.calls h
+change_kept came (Settles steps) s new h = steps_left (HaveKept came)
+    (all_filter (λ (c : CallId × CallValue). HasKept came c.0 c.1.progress)) steps s.calls h
 change_kept came (Text c) s new h = h
 change_kept came (Wrote w) s new h = h
 change_kept came (Keeps results) s new h = h
@@ -178,14 +197,17 @@ change_kept came Expires s new h = h
 change_kept came (Does operation) s new h = h
 change_kept came (Pushes job) s new h = h
 
-made_kept : (came : CameMessages) (made left : List InstanceChange) (s : InstanceState) → AllAre (KeepsCame came) (made ++ left) → HaveKept came s.calls → HaveKept came (state_after_changes made s).calls
+made_kept : (came : CameMessages) (made left : List InstanceChange) (s : InstanceState) → AllAre (KeepsCame came) (made ++ left) →
+    HaveKept came s.calls → HaveKept came (state_after_changes made s).calls
 made_kept came [] left s all h = h
 made_kept came (c ∷ made) left s all h = made_kept came made left (state_after_change c s) all.1 (change_kept came c s all.0 h)
 
-pub part_kept : (came : CameMessages) (s t : InstanceState) (event : CallEventValue) → HaveKept came s.calls → MadeInPart (answer s event).changes s t → HaveKept (came ++ message_in event) t.calls
+pub part_kept : (came : CameMessages) (s t : InstanceState) (event : CallEventValue) → HaveKept came s.calls →
+    MadeInPart (answer s event).changes s t → HaveKept (came ++ message_in event) t.calls
 part_kept came s t event h part =
     let more : CameMessages = came ++ message_in event in
-    let all : AllAre (KeepsCame more) (answer s event).changes = answer_holds s (KeepsCame more) (came_allow more s) event (came_beside came s event) in
+    let all : AllAre (KeepsCame more) (answer s event).changes =
+    answer_holds s (KeepsCame more) (came_allow more s) event (came_beside came s event) in
     let kept : HaveKept more s.calls = all_more came (message_in event) s.calls h in
     subst (λ (x : InstanceState). HaveKept more x.calls) (sym part.so_far)
     (made_kept more part.made part.left s (subst (AllAre (KeepsCame more)) part.front all) kept)

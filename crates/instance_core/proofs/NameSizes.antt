@@ -22,10 +22,12 @@ second false b h = absurd (cc)
 
 size_told : (segment : List ℕ) (n : ℕ) → or_fault Size (size_in segment) ≡ Ok n → CanBeTold n
 size_told segment n h = go (is_numeral segment && nat_lt (digits_value 10 segment) (2 ^ 63)) refl h where
-  go : (b : Bool) → (is_numeral segment && nat_lt (digits_value 10 segment) (2 ^ 63)) ≡ b → or_fault Size (cond b (Some (digits_value 10 segment)) None) ≡ Ok n → CanBeTold n
+  go : (b : Bool) → (is_numeral segment && nat_lt (digits_value 10 segment) (2 ^ 63)) ≡ b →
+      or_fault Size (cond b (Some (digits_value 10 segment)) None) ≡ Ok n → CanBeTold n
   go true is h =
       let same = ok_is (digits_value 10 segment) n h in
-      let few : digits_value 10 segment < 2 ^ 63 = ltb-true (digits_value 10 segment) (2 ^ 63) (second (is_numeral segment) (nat_lt (digits_value 10 segment) (2 ^ 63)) is) in
+      let few : digits_value 10 segment < 2 ^ 63 =
+      ltb-true (digits_value 10 segment) (2 ^ 63) (second (is_numeral segment) (nat_lt (digits_value 10 segment) (2 ^ 63)) is) in
       rw (← same) few
   go false is h = absurd (cc)
 
@@ -36,7 +38,8 @@ digest_told hash size d h =
     let e = ok_is (record { hash = a.0; size = b.0 }) d b.2 in
     rw (← e) (size_told size b.0 b.1)
 
-upload_told : (instance : List ℕ) (segments : List (List ℕ)) (name : WriteNameValue) → upload_named instance segments ≡ Ok name → CanBeTold name.digest.size
+upload_told : (instance : List ℕ) (segments : List (List ℕ)) (name : WriteNameValue) → upload_named instance segments ≡ Ok name →
+    CanBeTold name.digest.size
 upload_told instance (uuid ∷ place ∷ hash ∷ size ∷ more) name h =
     let a = bind_ok (uuid_of uuid) _ name h in
     let b = bind_ok (blobs_place place) _ name a.2 in

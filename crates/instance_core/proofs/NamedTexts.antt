@@ -34,7 +34,8 @@ all_append P (x ∷ xs) ys a b = (a.0, all_append P xs ys a.1 b)
 abbrev accepted : Result Unit Refusal
 accepted = Ok tt
 
-stored_named : (function : Option HashFunction) (quota : ℕ) (r : UpdateBlobRequestValue) (d : Digest) → storage_digest function quota r ≡ Ok d → Names d r.content
+stored_named : (function : Option HashFunction) (quota : ℕ) (r : UpdateBlobRequestValue) (d : Digest) →
+    storage_digest function quota r ≡ Ok d → Names d r.content
 unfolding storage_digest
 stored_named function quota r d h = go (compressor_check r.compressor) (digest_or_refusal function r.digest) h where
   last : (e : Digest) (n q : Bool) → is_digest_of e r.content ≡ n
@@ -45,19 +46,23 @@ stored_named function quota r d h = go (compressor_check r.compressor) (digest_o
   last e true true n h = absurd (cc)
   last e false q n h = absurd (cc)
 
-  go : (c : Result Unit Refusal) (s : Result Digest Refusal) → (c >>= λ _. s >>= λ e. naming_check e r.content >>= λ _. quota_check quota r.content >>= λ _. Ok e) ≡ Ok d → Names d r.content
+  go : (c : Result Unit Refusal) (s : Result Digest Refusal) →
+      (c >>= λ _. s >>= λ e. naming_check e r.content >>= λ _. quota_check quota r.content >>= λ _. Ok e) ≡ Ok d → Names d r.content
   go (Ok u) (Ok e) h = last e (is_digest_of e r.content) (nat_lt quota (length r.content)) refl h
   go (Ok u) (Err x) h = absurd (cc)
   go (Err x) s h = absurd (cc)
 
-one_named : (function : Option HashFunction) (quota : ℕ) (r : UpdateBlobRequestValue) (u : Result Digest Refusal) → storage_digest function quota r ≡ u → AllByRecursion StoresNamedText (store_of r.content u)
+one_named : (function : Option HashFunction) (quota : ℕ) (r : UpdateBlobRequestValue) (u : Result Digest Refusal) →
+    storage_digest function quota r ≡ u → AllByRecursion StoresNamedText (store_of r.content u)
 one_named function quota r (Ok d) is = (stored_named function quota r d is, tt)
 one_named function quota r (Err refusal) is = tt
 
-stores_named : (function : Option HashFunction) (quota : ℕ) (rs : List UpdateBlobRequestValue) → AllByRecursion StoresNamedText (stores function quota rs)
+stores_named : (function : Option HashFunction) (quota : ℕ) (rs : List UpdateBlobRequestValue) →
+    AllByRecursion StoresNamedText (stores function quota rs)
 stores_named function quota [] = tt
 stores_named function quota (r ∷ rs) =
-    all_append StoresNamedText (store_of r.content (storage_digest function quota r)) (stores function quota rs) (one_named function quota r (storage_digest function quota r) refl) (stores_named function quota rs)
+    all_append StoresNamedText (store_of r.content (storage_digest function quota r)) (stores function quota rs)
+    (one_named function quota r (storage_digest function quota r) refl) (stores_named function quota rs)
 
 result_named : (quota : ℕ) (r : Result BlobsSentValue Refusal) → AllByRecursion StoresNamedText (stores_of_result quota r)
 result_named quota (Ok sent) = stores_named sent.function quota sent.requests
@@ -89,12 +94,14 @@ batch_named s message = uses_named (digests_to_read s.name message)
 pub tree_named : (s : InstanceState) (message : List ℕ) → AllByRecursion StoresNamedText (get_tree_changes s.name (seen s) message)
 tree_named s message = uses_named (tree_asked s.name message >>= directories_used (seen s))
 
-pub get_named : (s : InstanceState) (message : List ℕ) → AllByRecursion StoresNamedText (get_action_result_changes s.name (seen s) s.results message)
+pub get_named : (s : InstanceState) (message : List ℕ) →
+    AllByRecursion StoresNamedText (get_action_result_changes s.name (seen s) s.results message)
 get_named s message = uses_named (action_asked s.name message >>= λ action. Ok (blobs_used (texts_seen (seen s)) action s.results))
 
 pub read_named : (s : InstanceState) (message : List ℕ) → AllByRecursion StoresNamedText (use_asked (read_asked s.name message))
 read_named s message = use_named (read_asked s.name message)
 
-pub change_within : (limit quota : ℕ) (c : TextChange) (bs : List Blob) → 0 < limit → StoresNamedText c → AreBlobsWithin limit quota bs → AreBlobsWithin limit quota (visible_after_change limit quota c bs)
+pub change_within : (limit quota : ℕ) (c : TextChange) (bs : List Blob) → 0 < limit → StoresNamedText c → AreBlobsWithin limit quota bs →
+    AreBlobsWithin limit quota (visible_after_change limit quota c bs)
 change_within limit quota (Use d) bs some named w = used_within limit quota d bs w
 change_within limit quota (Store d text) bs some named w = admitted_within limit quota d text bs some named w

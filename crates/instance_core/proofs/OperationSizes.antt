@@ -56,8 +56,10 @@ form_of job w = record { hash = w.hash; size = w.size }
 
 told_of : (jobs : Jobs JobValue) → AreTold jobs → Sizes.AreTold jobs
 told_of jobs h = record {
-  waiting = all-weaker (λ (w : ℕ × JobValue). IsWholeJob w.1) (λ (w : ℕ × JobValue). HasForm w.1.action) (λ w whole. form_of w.1 whole) jobs.waiting h.whole.waiting;
-  running = all-weaker (λ (r : ℕ × Running JobValue). IsWholeJob r.1.job) (λ (r : ℕ × Running JobValue). HasForm r.1.job.action) (λ r whole. form_of r.1.job whole) jobs.running h.whole.running;
+  waiting = all-weaker (λ (w : ℕ × JobValue). IsWholeJob w.1) (λ (w : ℕ × JobValue). HasForm w.1.action)
+      (λ w whole. form_of w.1 whole) jobs.waiting h.whole.waiting;
+  running = all-weaker (λ (r : ℕ × Running JobValue). IsWholeJob r.1.job) (λ (r : ℕ × Running JobValue). HasForm r.1.job.action)
+      (λ r whole. form_of r.1.job whole) jobs.running h.whole.running;
   ended = h.ended;
 }
 
@@ -67,28 +69,33 @@ tick_short slots moment jobs h = tick_told slots moment jobs h.order (told_of jo
 pub start_short : (slots moment : ℕ) (jobs : Jobs JobValue) → AreTold jobs → AreShortSteps (start_steps slots moment jobs)
 start_short slots moment jobs h = start_told slots moment jobs h.order (told_of jobs h)
 
-pub end_short : (slots moment n : ℕ) (e : EndValue) (jobs : Jobs JobValue) → AreTold jobs → IfSome (running_job n jobs) (λ job. IsShort (completed_text n job.action e)) → AreShortSteps (end_steps slots moment n e jobs)
+pub end_short : (slots moment n : ℕ) (e : EndValue) (jobs : Jobs JobValue) → AreTold jobs →
+    IfSome (running_job n jobs) (λ job. IsShort (completed_text n job.action e)) → AreShortSteps (end_steps slots moment n e jobs)
 end_short slots moment n e jobs h short = end_told slots moment n e jobs h.order (told_of jobs h) short
 
 pub wait_short : (name : List ℕ) (jobs : Jobs JobValue) → AreTold jobs → IfOk (wait name jobs) IsShortWaitAnswer
 wait_short name jobs h = Waits.wait_short name jobs h.order (told_of jobs h)
 
-pub execute_short : (limits : LimitsValue) (slots : ℕ) (s : ExecutionState) (skip : Bool) (d : Digest) → s.jobs.next ≤ LAST_NUMBER + 1 → HasForm d → IsLimits limits → AreResultsWithin limits s.results → IfOk (execute slots s skip d).answer IsShortExecuteAnswer
+pub execute_short : (limits : LimitsValue) (slots : ℕ) (s : ExecutionState) (skip : Bool) (d : Digest) → s.jobs.next ≤ LAST_NUMBER + 1 →
+    HasForm d → IsLimits limits → AreResultsWithin limits s.results → IfOk (execute slots s skip d).answer IsShortExecuteAnswer
 execute_short limits slots s skip d few form good results = Lemmas.execute_short limits slots s skip d few good results form
 
 pub failed_short : (n : ℕ) (d : Digest) (fault : Fault) → n ≤ LAST_NUMBER + 1 → HasForm d → IsShort (completed_text n d (fails fault []))
 failed_short n d fault few form = let short = Texts.failed_short n d fault few form in omega arith
 
-pub given_short : (n : ℕ) (d : Digest) (text : List ℕ) → n ≤ LAST_NUMBER + 1 → HasForm d → length text ≤ 3500000000 → IsShort (completed_text n d (gives text))
+pub given_short : (n : ℕ) (d : Digest) (text : List ℕ) → n ≤ LAST_NUMBER + 1 → HasForm d → length text ≤ 3500000000 →
+    IsShort (completed_text n d (gives text))
 given_short n d text few form most = let short = Texts.given_short n d text few form (omega arith) in omega arith
 
 no_outputs : (outputs : List OutputValue) → are_asked [] outputs ≡ true → outputs ≡ []
 no_outputs [] h = refl
 no_outputs (o ∷ outputs) h = absurd (cc)
 
-pub result_short : (job : JobValue) (x : ExitedValue) → are_asked (outputs_asked job) x.outputs ≡ true → FitsSigned w32 x.code → AllByRecursion (λ (b : Blob). b.0.size < 2 ^ 63) (blobs_given job.action x) → length (result_text job.action x) ≤ 3500000000
+pub result_short : (job : JobValue) (x : ExitedValue) → are_asked (outputs_asked job) x.outputs ≡ true → FitsSigned w32 x.code →
+    AllByRecursion (λ (b : Blob). b.0.size < 2 ^ 63) (blobs_given job.action x) → length (result_text job.action x) ≤ 3500000000
 result_short job x asked narrow sizes = go (command_in job.task.command) refl asked where
-  go : (o : Option CommandValue) → command_in job.task.command ≡ o → are_asked (unwrap_or (option_map asked_outputs o) []) x.outputs ≡ true → length (result_text job.action x) ≤ 3500000000
+  go : (o : Option CommandValue) → command_in job.task.command ≡ o →
+      are_asked (unwrap_or (option_map asked_outputs o) []) x.outputs ≡ true → length (result_text job.action x) ≤ 3500000000
   go (Some v) is asked = Written.result_short job.action x job.task.command v is asked narrow sizes
   go None is asked =
       let none : Written.paths_size x.outputs ≡ 0 = rw (no_outputs x.outputs asked) refl in

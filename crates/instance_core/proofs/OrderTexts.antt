@@ -18,16 +18,21 @@ one_whole : (after : Jobs JobValue) (step : StepValue) → AreWhole after → If
 one_whole after (times_out n operation) w = tt
 one_whole after (ends n operation) w = tt
 one_whole after (starts n deadline operation) w = go (lookup (same_number n) after.running) refl where
-  go : (o : Option (Running JobValue)) → lookup (same_number n) after.running ≡ o → IfSome (option_map (start n) (option_map (λ job. job.task) (option_map (λ r. r.job) o))) IsWholeOrder
+  go : (o : Option (Running JobValue)) → lookup (same_number n) after.running ≡ o →
+      IfSome (option_map (start n) (option_map (λ job. job.task) (option_map (λ r. r.job) o))) IsWholeOrder
   go None is = tt
   go (Some r) is = (found_whole n r after.running is w.running).task
 
-all_whole : (after : Jobs JobValue) (steps : List StepValue) → AreWhole after → AllByRecursion IsWholeOrder (filter_map (order_of after) steps)
+all_whole : (after : Jobs JobValue) (steps : List StepValue) → AreWhole after →
+    AllByRecursion IsWholeOrder (filter_map (order_of after) steps)
 all_whole after [] w = tt
 all_whole after (step ∷ steps) w = go (order_of after step) refl (one_whole after step w) (all_whole after steps w) where
-  go : (o : Option OrderValue) → order_of after step ≡ o → IfSome o IsWholeOrder → AllByRecursion IsWholeOrder (filter_map (order_of after) steps) → AllByRecursion IsWholeOrder (filter_map (order_of after) (step ∷ steps))
+  go : (o : Option OrderValue) → order_of after step ≡ o → IfSome o IsWholeOrder →
+      AllByRecursion IsWholeOrder (filter_map (order_of after) steps) →
+      AllByRecursion IsWholeOrder (filter_map (order_of after) (step ∷ steps))
   go None is one later = rw is later
   go (Some order) is one later = rw is (one, later)
 
 pub orders_whole : (s : InstanceState) (event : CallEventValue) → IsInstanceWithin s → AllByRecursion IsWholeOrder (orders_at s event)
-orders_whole s event w = all_whole (jobs_after_steps (steps_at s event) s.jobs) (steps_at s event) (steps_whole (steps_at s event) s.jobs w.whole)
+orders_whole s event w = all_whole (jobs_after_steps (steps_at s event) s.jobs) (steps_at s event)
+    (steps_whole (steps_at s event) s.jobs w.whole)

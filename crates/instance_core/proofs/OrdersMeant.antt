@@ -17,7 +17,8 @@ use Rattle.instance_core.specs.Turns.{AreOrders, orders_meant}
 abbrev AreMeant : List StepValue → Jobs JobValue → Type 0
 AreMeant steps jobs = AreOrders (jobs_after_steps steps jobs) (orders_by steps) (orders_of steps jobs)
 
-ending_orders : (s : InstanceState) (n : ℕ) (outcome : OutcomeValue) (o : Option JobValue) → running_job n s.jobs ≡ o → AreMeant (ending_steps s n outcome o) s.jobs
+ending_orders : (s : InstanceState) (n : ℕ) (outcome : OutcomeValue) (o : Option JobValue) → running_job n s.jobs ≡ o →
+    AreMeant (ending_steps s n outcome o) s.jobs
 ending_orders s n outcome None is = refl
 ending_orders s n outcome (Some job) is =
     let e = (ending_at s outcome job).end_is in
@@ -25,7 +26,8 @@ ending_orders s n outcome (Some job) is =
 
 pub event_orders : (s : InstanceState) (event : CallEventValue) → AreMeant (steps_at s event) s.jobs
 event_orders s start_jobs = turn-meant s.slots s.moment [] s.jobs tt
-event_orders s end_late_jobs = turn-meant s.slots s.moment (timings_out s.moment s.jobs.running) s.jobs (timings-are s.moment s.jobs.running)
+event_orders s end_late_jobs = turn-meant s.slots s.moment (timings_out s.moment s.jobs.running) s.jobs
+    (timings-are s.moment s.jobs.running)
 event_orders s (end_job n outcome) = ending_orders s n outcome (running_job n s.jobs) refl
 event_orders s _ = refl
 
@@ -39,5 +41,7 @@ none_passed : {B : Type 0} (vs : List B) → filter_map (λ (o : Option B). o) (
 none_passed [] = refl
 none_passed {B} (v ∷ vs) = ap (λ (ws : List B). v ∷ ws) (none_passed vs)
 
-pub all_meant : (after : Jobs JobValue) (orders : List Order) (values : List OrderValue) → AreOrders after orders values → orders_meant after orders ≡ values
-all_meant after orders values are = one_by_one (order_meant after) orders ∙ ap (filter_map (λ (o : Option OrderValue). o)) are ∙ none_passed values
+pub all_meant : (after : Jobs JobValue) (orders : List Order) (values : List OrderValue) → AreOrders after orders values →
+    orders_meant after orders ≡ values
+all_meant after orders values are = one_by_one (order_meant after) orders ∙ ap (filter_map (λ (o : Option OrderValue). o)) are
+    ∙ none_passed values

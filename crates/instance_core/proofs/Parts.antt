@@ -33,20 +33,26 @@ use Rattle.instance_core.specs.Replies.{AnswerValue, answering}
 use Rattle.instance_core.specs.Carries.{answer_shown, number_watched, settled, shaped, Leaves}
 
 -- a call whose reply and changes come from what it asks for: refused, it changes nothing
-pub uses_answered : (r : Result (Vec ℕ Global) CallError) (asked : Result (List Digest) Refusal) (reply : List Digest → List ℕ) (limit most quota : ℕ) (p : Slots) (old new : ViewValue)
-    → limit ≡ most → Answers (λ (reply : Vec ℕ Global). reply.items) r (asked >>= λ digests. Ok (reply digests)) → OnOk r (visible_in p new ≡ Texts.visible_after_changes limit quota (Texts.uses asked) (visible_in p old)) → OnErr r (new ≡ old)
+pub uses_answered : (r : Result (Vec ℕ Global) CallError) (asked : Result (List Digest) Refusal) (reply : List Digest → List ℕ)
+    (limit most quota : ℕ) (p : Slots) (old new : ViewValue)
+    → limit ≡ most → Answers (λ (reply : Vec ℕ Global). reply.items) r (asked >>= λ digests. Ok (reply digests)) →
+    OnOk r (visible_in p new ≡ Texts.visible_after_changes limit quota (Texts.uses asked) (visible_in p old)) → OnErr r (new ≡ old)
     → IfAnswered r (visible_in p new ≡ Texts.visible_after_changes most quota (Texts.uses asked) (visible_in p old))
-uses_answered (Ok text) asked reply limit most quota p old new same is used err = subst (λ (n : ℕ). visible_in p new ≡ Texts.visible_after_changes n quota (Texts.uses asked) (visible_in p old)) same used
+uses_answered (Ok text) asked reply limit most quota p old new same is used err =
+    subst (λ (n : ℕ). visible_in p new ≡ Texts.visible_after_changes n quota (Texts.uses asked) (visible_in p old)) same used
 uses_answered (Err (Refused refusal)) (Err other) reply limit most quota p old new same is used err = ap (visible_in p) err
 uses_answered (Err (Refused refusal)) (Ok digests) reply limit most quota p old new same is used err = cc
 uses_answered (Err NoMemory) asked reply limit most quota p old new same is used err = tt
 
 -- a call that stores what it is sent: refused, it is sent nothing
-pub stores_answered : (r : Result (Vec ℕ Global) CallError) (sent : Result BlobsSentValue Refusal) (reply : BlobsSentValue → List ℕ) (limit most quota : ℕ) (p q : Slots) (old new : ViewValue)
-    → limit ≡ most → Answers (λ (reply : Vec ℕ Global). reply.items) r (sent >>= λ requests. Ok (reply requests)) → OnOk r (visible_in q new ≡ Texts.visible_after_changes limit quota (stores_of_result quota sent) (visible_in p old))
+pub stores_answered : (r : Result (Vec ℕ Global) CallError) (sent : Result BlobsSentValue Refusal) (reply : BlobsSentValue → List ℕ)
+    (limit most quota : ℕ) (p q : Slots) (old new : ViewValue)
+    → limit ≡ most → Answers (λ (reply : Vec ℕ Global). reply.items) r (sent >>= λ requests. Ok (reply requests)) →
+    OnOk r (visible_in q new ≡ Texts.visible_after_changes limit quota (stores_of_result quota sent) (visible_in p old))
     → ((refusal : Refusal) → IsErrOf r (Refused refusal) → (new ≡ old) × (q ≡ p))
     → IfAnswered r (visible_in q new ≡ Texts.visible_after_changes most quota (stores_of_result quota sent) (visible_in p old))
-stores_answered (Ok text) sent reply limit most quota p q old new same is stored refused = subst (λ (n : ℕ). visible_in q new ≡ Texts.visible_after_changes n quota (stores_of_result quota sent) (visible_in p old)) same stored
+stores_answered (Ok text) sent reply limit most quota p q old new same is stored refused =
+    subst (λ (n : ℕ). visible_in q new ≡ Texts.visible_after_changes n quota (stores_of_result quota sent) (visible_in p old)) same stored
 stores_answered (Err (Refused refusal)) (Err other) reply limit most quota p q old new same is stored refused =
     let still = refused refusal refl in
     ap (visible_in q) still.0 ∙ ap (λ (z : Slots). visible_in z old) still.1
@@ -56,12 +62,14 @@ stores_answered (Err NoMemory) sent reply limit most quota p q old new same is s
 abbrev pub with_texts : List Blob → InstanceState → InstanceState
 with_texts visible s = record s { visible = visible }
 
-pub made_texts : (cs : List Texts.TextChange) (s : InstanceState) → state_after_changes (map Text cs) s ≡ with_texts (Texts.visible_after_changes s.limits.blobs s.quota cs s.visible) s
+pub made_texts : (cs : List Texts.TextChange) (s : InstanceState) →
+    state_after_changes (map Text cs) s ≡ with_texts (Texts.visible_after_changes s.limits.blobs s.quota cs s.visible) s
 made_texts [] s = refl
 made_texts (c ∷ cs) s = made_texts cs (with_texts (Texts.visible_after_change s.limits.blobs s.quota c s.visible) s)
 
 -- a front of the changes of the texts
-pub texts_in_part : (cs : List Texts.TextChange) (s : InstanceState) (new : List Blob) → Texts.MadeInPart s.limits.blobs s.quota cs s.visible new → MadeInPart (map Text cs) s (with_texts new s)
+pub texts_in_part : (cs : List Texts.TextChange) (s : InstanceState) (new : List Blob) →
+    Texts.MadeInPart s.limits.blobs s.quota cs s.visible new → MadeInPart (map Text cs) s (with_texts new s)
 texts_in_part cs s new part = record {
   made = map Text part.made;
   left = map Text part.left;
@@ -87,13 +95,15 @@ pub becomes_same : (s : InstanceState) (visible visible' : List Blob) (uploads u
 becomes_same s visible visible' uploads uploads' calls calls' p q r = rw (p, q, r) refl
 
 -- changes, and then others
-pub changed_more : (a b : List InstanceChange) (s : InstanceState) → state_after_changes (a ++ b) s ≡ state_after_changes b (state_after_changes a s)
+pub changed_more : (a b : List InstanceChange) (s : InstanceState) →
+    state_after_changes (a ++ b) s ≡ state_after_changes b (state_after_changes a s)
 changed_more [] b s = refl
 changed_more (c ∷ a) b s = changed_more a b (state_after_change c s)
 
 -- a call that is answered at its end
 -- a call that is answered so ends, or watches a job from then on
-settled_change : (q : Slots) (outcome : Result Answer CallError) (answer : Result AnswerValue Refusal) (id : CallId) (method : Method) (m : InstanceState) → Answers (answer_shown q) outcome answer → IfNoMemory outcome ⊥
+settled_change : (q : Slots) (outcome : Result Answer CallError) (answer : Result AnswerValue Refusal) (id : CallId) (method : Method)
+    (m : InstanceState) → Answers (answer_shown q) outcome answer → IfNoMemory outcome ⊥
     → state_after_change (call_change id method answer) m ≡ with_calls (settled id method (number_watched outcome) m.calls) m
 settled_change q (Ok (Message bytes)) answer id method m h none = rw h refl
 settled_change q (Ok (Operation operation)) answer id method m h none = rw h refl
@@ -103,15 +113,20 @@ settled_change q (Ok (Watching n operation)) answer id method m h none = rw h re
 settled_change q (Err (Refused refusal)) answer id method m h none = rw h refl
 settled_change q (Err NoMemory) answer id method m h none = absurd none
 
-pub ended_whole : (q : Slots) (outcome : Result Answer CallError) (s mid : InstanceState) (calls : Calls) (id : CallId) (method : Method) (request : List ℕ) (there : Option CallValue)
-    → Some (record { method = method; progress = has request }) ≡ there → Answers (answer_shown q) outcome (answer_to method s request) → IfNoMemory outcome ⊥
-    → mid ≡ state_after_changes (request_changes method s request) s → mid.calls ≡ s.calls → calls ≡ settled id method (number_watched outcome) s.calls
+pub ended_whole : (q : Slots) (outcome : Result Answer CallError) (s mid : InstanceState) (calls : Calls) (id : CallId) (method : Method)
+    (request : List ℕ) (there : Option CallValue)
+    → Some (record { method = method; progress = has request }) ≡ there → Answers (answer_shown q) outcome (answer_to method s request) →
+    IfNoMemory outcome ⊥
+    → mid ≡ state_after_changes (request_changes method s request) s → mid.calls ≡ s.calls →
+    calls ≡ settled id method (number_watched outcome) s.calls
     → with_calls calls mid ≡ state_after_changes (request_end_answer s id there).changes s
 ended_whole q outcome s mid calls id method request there is means none all kept gone =
     let changes = request_changes method s request in
     let change = call_change id method (answer_to method s request) in
-    let now : calls ≡ settled id method (number_watched outcome) mid.calls = gone ∙ ap (settled id method (number_watched outcome)) (sym kept) in
-    let ended : with_calls (settled id method (number_watched outcome) mid.calls) mid ≡ state_after_changes (change ∷ []) (state_after_changes changes s) =
+    let now : calls ≡ settled id method (number_watched outcome) mid.calls =
+    gone ∙ ap (settled id method (number_watched outcome)) (sym kept) in
+    let ended : with_calls (settled id method (number_watched outcome) mid.calls) mid
+    ≡ state_after_changes (change ∷ []) (state_after_changes changes s) =
     sym (settled_change q outcome (answer_to method s request) id method mid means none) ∙ ap (state_after_change change) all in
     rw (← is) (ap (λ (cs : Calls). with_calls cs mid) now ∙ ended ∙ sym (changed_more changes (change ∷ []) s))
 
@@ -121,20 +136,24 @@ pub ended_in_part : (s mid : InstanceState) (id : CallId) (method : Method) (req
 ended_in_part s mid id method request there is part = rw (← is) (record {
   made = part.made;
   left = part.left ++ call_change id method (answer_to method s request) ∷ [];
-  front = ap (λ (cs : List InstanceChange). cs ++ call_change id method (answer_to method s request) ∷ []) part.front ∙ append_assoc part.made part.left (call_change id method (answer_to method s request) ∷ []);
+  front = ap (λ (cs : List InstanceChange). cs ++ call_change id method (answer_to method s request) ∷ []) part.front
+      ∙ append_assoc part.made part.left (call_change id method (answer_to method s request) ∷ []);
   so_far = part.so_far;
 })
 
-pub made_whole : (replies : Vec Reply Global) (changes : List InstanceChange) (old new : InstanceState) → new ≡ state_after_changes changes old → Makes (Ok replies) changes old new
+pub made_whole : (replies : Vec Reply Global) (changes : List InstanceChange) (old new : InstanceState) →
+    new ≡ state_after_changes changes old → Makes (Ok replies) changes old new
 made_whole replies changes old new all = record { whole = all; memory = tt }
 
-pub made_in_part : (r : Result (Vec Reply Global) AllocError) (changes : List InstanceChange) (old new : InstanceState) → IsErr r → MadeInPart changes old new → Makes r changes old new
+pub made_in_part : (r : Result (Vec Reply Global) AllocError) (changes : List InstanceChange) (old new : InstanceState) → IsErr r →
+    MadeInPart changes old new → Makes r changes old new
 made_in_part (Ok replies) changes old new is part = absurd cc
 made_in_part (Err e) changes old new is part = record { whole = tt; memory = part }
 
 -- an answer that changes calls alone
 pub calls_made : (r : Result (Vec Reply Global) AllocError) (changes : List InstanceChange) (s : InstanceState) (calls : Calls)
-    → ((t : InstanceState) → OnOk r (with_calls calls t ≡ state_after_changes changes (with_calls s.calls t))) → OnErr r (calls ≡ s.calls) → Makes r changes s (with_calls calls s)
+    → ((t : InstanceState) → OnOk r (with_calls calls t ≡ state_after_changes changes (with_calls s.calls t))) → OnErr r (calls ≡ s.calls) →
+    Makes r changes s (with_calls calls s)
 calls_made (Ok replies) changes s calls all same = record { whole = all s; memory = tt }
 calls_made (Err e) changes s calls all same = record {
   whole = tt;
@@ -142,9 +161,11 @@ calls_made (Err e) changes s calls all same = record {
 }
 
 -- what has come of the call that was found is short
-pub progress_short : (call : CallValue) (progress : ProgressValue) (there : Option CallValue) → Some call ≡ there → progress ≡ call.progress → IfSome there (λ c. IsProgressOf c.method c.progress) → IsProgressOf call.method progress
+pub progress_short : (call : CallValue) (progress : ProgressValue) (there : Option CallValue) → Some call ≡ there →
+    progress ≡ call.progress → IfSome there (λ c. IsProgressOf c.method c.progress) → IsProgressOf call.method progress
 progress_short call progress there is same h =
-    let here : IfSome (Some call) (λ c. IsProgressOf c.method c.progress) = subst (λ (o : Option CallValue). IfSome o (λ c. IsProgressOf c.method c.progress)) (sym is) h in
+    let here : IfSome (Some call) (λ c. IsProgressOf c.method c.progress) =
+    subst (λ (o : Option CallValue). IfSome o (λ c. IsProgressOf c.method c.progress)) (sym is) h in
     subst (IsProgressOf call.method) (sym same) here
 
 -- ---- what a method leaves
@@ -154,41 +175,60 @@ append_nil [] = refl
 append_nil (c ∷ cs) = ap (λ (xs : List InstanceChange). c ∷ xs) (append_nil cs)
 
 -- texts alone
-pub leaves_texts : {X : Type 0} (r : Result X CallError) (shape : X → Answer) (cs : List Texts.TextChange) (s : InstanceState) (new : List Blob)
-    → IfAnswered r (new ≡ Texts.visible_after_changes s.limits.blobs s.quota cs s.visible) → IfNoMemory r (Texts.MadeInPart s.limits.blobs s.quota cs s.visible new) → Leaves (shaped shape r) (map Text cs) s (with_texts new s)
-leaves_texts (Ok x) shape cs s new whole part = record { whole = ap (λ (bs : List Blob). with_texts bs s) whole ∙ sym (made_texts cs s); memory = tt }
-leaves_texts (Err (Refused refusal)) shape cs s new whole part = record { whole = ap (λ (bs : List Blob). with_texts bs s) whole ∙ sym (made_texts cs s); memory = tt }
+pub leaves_texts : {X : Type 0} (r : Result X CallError) (shape : X → Answer) (cs : List Texts.TextChange) (s : InstanceState)
+    (new : List Blob)
+    → IfAnswered r (new ≡ Texts.visible_after_changes s.limits.blobs s.quota cs s.visible) →
+    IfNoMemory r (Texts.MadeInPart s.limits.blobs s.quota cs s.visible new) → Leaves (shaped shape r) (map Text cs) s (with_texts new s)
+leaves_texts (Ok x) shape cs s new whole part =
+    record { whole = ap (λ (bs : List Blob). with_texts bs s) whole ∙ sym (made_texts cs s); memory = tt }
+leaves_texts (Err (Refused refusal)) shape cs s new whole part =
+    record { whole = ap (λ (bs : List Blob). with_texts bs s) whole ∙ sym (made_texts cs s); memory = tt }
 leaves_texts (Err NoMemory) shape cs s new whole part = record { whole = tt; memory = texts_in_part cs s new part }
 
 abbrev pub with_results : List Blob → InstanceState → InstanceState
 with_results results s = record s { results = results }
 
-both_set : (s : InstanceState) (new visible results rs : List Blob) → new ≡ visible → results ≡ rs → with_texts new (with_results results s) ≡ with_texts visible (with_results rs s)
+both_set : (s : InstanceState) (new visible results rs : List Blob) → new ≡ visible → results ≡ rs →
+    with_texts new (with_results results s) ≡ with_texts visible (with_results rs s)
 both_set s new visible results rs p q = rw (p, q) refl
 
-all_set : (s : InstanceState) (kept : List Blob) (cs : List Texts.TextChange) (new results : List Blob) → new ≡ Texts.visible_after_changes s.limits.blobs s.quota cs s.visible → results ≡ kept
+all_set : (s : InstanceState) (kept : List Blob) (cs : List Texts.TextChange) (new results : List Blob) →
+    new ≡ Texts.visible_after_changes s.limits.blobs s.quota cs s.visible → results ≡ kept
     → with_texts new (with_results results s) ≡ state_after_changes (Keeps kept ∷ map Text cs) s
-all_set s kept cs new results p q = both_set s new (Texts.visible_after_changes s.limits.blobs s.quota cs s.visible) results kept p q ∙ sym (made_texts cs (with_results kept s))
+all_set s kept cs new results p q = both_set s new (Texts.visible_after_changes s.limits.blobs s.quota cs s.visible) results kept p q
+    ∙ sym (made_texts cs (with_results kept s))
 
 -- results, and then texts
-pub leaves_results : {X : Type 0} (r : Result X CallError) (shape : X → Answer) (kept : List Blob) (cs : List Texts.TextChange) (s : InstanceState) (new results : List Blob)
-    → IfAnswered r (new ≡ Texts.visible_after_changes s.limits.blobs s.quota cs s.visible) → IfAnswered r (results ≡ kept) → OnErr r ((results ≡ s.results) × (new ≡ s.visible))
+pub leaves_results : {X : Type 0} (r : Result X CallError) (shape : X → Answer) (kept : List Blob) (cs : List Texts.TextChange)
+    (s : InstanceState) (new results : List Blob)
+    → IfAnswered r (new ≡ Texts.visible_after_changes s.limits.blobs s.quota cs s.visible) → IfAnswered r (results ≡ kept) →
+    OnErr r ((results ≡ s.results) × (new ≡ s.visible))
     → Leaves (shaped shape r) (Keeps kept ∷ map Text cs) s (with_texts new (with_results results s))
 leaves_results (Ok x) shape kept cs s new results whole left err = record { whole = all_set s kept cs new results whole left; memory = tt }
-leaves_results (Err (Refused refusal)) shape kept cs s new results whole left err = record { whole = all_set s kept cs new results whole left; memory = tt }
+leaves_results (Err (Refused refusal)) shape kept cs s new results whole left err =
+    record { whole = all_set s kept cs new results whole left; memory = tt }
 leaves_results (Err NoMemory) shape kept cs s new results whole left err = record {
   whole = tt;
-  memory = record { made = []; left = Keeps kept ∷ map Text cs; front = refl; so_far = both_set s new s.visible results s.results err.1 err.0 };
+  memory = record {
+    made = [];
+    left = Keeps kept ∷ map Text cs;
+    front = refl;
+    so_far =
+        both_set s new s.visible results s.results err.1 err.0;
+  };
 }
 
 -- all of the changes, or a front of them
-pub front_left : (r : Result Answer CallError) (changes : List InstanceChange) (s t : InstanceState) → Leaves r changes s t → MadeInPart changes s t
+pub front_left : (r : Result Answer CallError) (changes : List InstanceChange) (s t : InstanceState) → Leaves r changes s t →
+    MadeInPart changes s t
 front_left (Ok x) changes s t h = record { made = changes; left = []; front = append_nil changes; so_far = h.whole }
 front_left (Err (Refused refusal)) changes s t h = record { made = changes; left = []; front = append_nil changes; so_far = h.whole }
 front_left (Err NoMemory) changes s t h = h.memory
 
 -- where a reply is sent, memory had not run out before
-pub all_left : (o : Result Answer CallError) (r : Result (Vec Reply Global) AllocError) (replies : Vec Reply Global) (changes : List InstanceChange) (s t : InstanceState) → r ≡ Ok replies → IfNoMemory o (OnOk r ⊥) → Leaves o changes s t → t ≡ state_after_changes changes s
+pub all_left : (o : Result Answer CallError) (r : Result (Vec Reply Global) AllocError) (replies : Vec Reply Global)
+    (changes : List InstanceChange) (s t : InstanceState) → r ≡ Ok replies → IfNoMemory o (OnOk r ⊥) → Leaves o changes s t →
+    t ≡ state_after_changes changes s
 all_left (Ok x) r replies changes s t is none h = h.whole
 all_left (Err (Refused refusal)) r replies changes s t is none h = h.whole
 all_left (Err NoMemory) (Ok other) replies changes s t is none h = absurd none
@@ -202,7 +242,8 @@ pages_said pages = map (λ (page : Vec ℕ Global). page.items) pages.items
 abbrev pub bytes_said : Vec ℕ Global → List ℕ
 bytes_said reply = reply.items
 
-pub answers_shaped : {X Y : Type 0} (view : X → Y) (shape : X → Answer) (form : Y → AnswerValue) (q : Slots) (r : Result X CallError) (meaning : Result Y Refusal) → ((x : X) → answer_shown q (shape x) ≡ form (view x))
+pub answers_shaped : {X Y : Type 0} (view : X → Y) (shape : X → Answer) (form : Y → AnswerValue) (q : Slots) (r : Result X CallError)
+    (meaning : Result Y Refusal) → ((x : X) → answer_shown q (shape x) ≡ form (view x))
     → Answers view r meaning → Answers (answer_shown q) (shaped shape r) (answering form meaning)
 answers_shaped view shape form q (Ok x) meaning same h = rw (h, same x) refl
 answers_shaped view shape form q (Err (Refused refusal)) meaning same h = rw h refl
@@ -225,7 +266,9 @@ if_no_memory (Err (Refused refusal)) P Q f p = tt
 if_no_memory (Err NoMemory) P Q f p = f p
 
 -- results of an answer, and without one
-pub settled_results : {A : Type 0} (limits : LimitsValue) (outcome : Result A CallError) (old kept new : List Blob) → IfAnswered outcome (new ≡ kept) → OnErr outcome (new ≡ old) → AreResultsWithin limits old → AreResultsWithin limits kept → AreResultsWithin limits new
+pub settled_results : {A : Type 0} (limits : LimitsValue) (outcome : Result A CallError) (old kept new : List Blob) →
+    IfAnswered outcome (new ≡ kept) → OnErr outcome (new ≡ old) → AreResultsWithin limits old → AreResultsWithin limits kept →
+    AreResultsWithin limits new
 settled_results limits (Ok x) old kept new h same few few' = subst (AreResultsWithin limits) (sym h) few'
 settled_results limits (Err e) old kept new h same few few' = subst (AreResultsWithin limits) (sym same) few
 
@@ -238,7 +281,8 @@ err_both (Ok x) P Q p q = tt
 err_both (Err e) P Q p q = (p, q)
 
 -- nothing changed is nothing seen to change
-pub seen_same : {A : Type 0} (outcome : Result A CallError) (results old : List Blob) (p : Slots) (v w : ViewValue) → OnErr outcome ((results ≡ old) × (w ≡ v))
+pub seen_same : {A : Type 0} (outcome : Result A CallError) (results old : List Blob) (p : Slots) (v w : ViewValue) →
+    OnErr outcome ((results ≡ old) × (w ≡ v))
     → OnErr outcome ((results ≡ old) × (visible_in p w ≡ visible_in p v))
 seen_same (Ok x) results old p v w h = tt
 seen_same (Err e) results old p v w h = (h.0, ap (visible_in p) h.1)

@@ -43,8 +43,10 @@ in_order p jobs h =
       ended_once = h.ended_once;
       ended_apart = subst (λ (ns : List ℕ). AllByRecursion (IsNone ns) (keys_of jobs.ended)) same h.ended_apart;
       few_numbers = h.few_numbers;
-      few_waiting = few (length jobs.waiting) (length (jobs_in p jobs).waiting) MOST_WAITING (sym (length-map jobs.waiting (waiting_in p))) h.few_waiting;
-      few_running = few (length jobs.running) (length (jobs_in p jobs).running) MOST_RUNNING (sym (length-map jobs.running (running_in p))) h.few_running;
+      few_waiting = few (length jobs.waiting) (length (jobs_in p jobs).waiting) MOST_WAITING
+          (sym (length-map jobs.waiting (waiting_in p))) h.few_waiting;
+      few_running = few (length jobs.running) (length (jobs_in p jobs).running) MOST_RUNNING
+          (sym (length-map jobs.running (running_in p))) h.few_running;
       few_ended = h.few_ended;
     }
 
@@ -69,7 +71,8 @@ none_whole = record { waiting = tt; running = tt }
 
 pub runs_alike : (p : Slots) (n : ℕ) (jobs : Jobs Job) → is_some (running_job n jobs) ≡ is_some (running_job n (jobs_in p jobs))
 runs_alike p n jobs = rw (running_found p n jobs.running) (go (lookup (same_number n) jobs.running)) where
-  go : (o : Option (Running Job)) → is_some (option_map (λ r. r.job) o) ≡ is_some (option_map (λ r. r.job) (option_map (running_job_in p) o))
+  go : (o : Option (Running Job)) → is_some (option_map (λ r. r.job) o)
+      ≡ is_some (option_map (λ r. r.job) (option_map (running_job_in p) o))
   go (Some r) = refl
   go None = refl
 
@@ -82,17 +85,20 @@ is_copied None = refl
 each_on : (c : ℕ) (rs : List ReplyValue) → AllByRecursion (λ (r : ReplyValue). r.call.connection ≡ c) (replies_on c rs)
 each_on c [] = tt
 each_on c (r ∷ rs) = go (r.call.connection == c) refl (each_on c rs) where
-  go : (b : Bool) → (r.call.connection == c) ≡ b → AllByRecursion (λ (r : ReplyValue). r.call.connection ≡ c) (replies_on c rs) → AllByRecursion (λ (r : ReplyValue). r.call.connection ≡ c) (cond b (r ∷ replies_on c rs) (replies_on c rs))
+  go : (b : Bool) → (r.call.connection == c) ≡ b → AllByRecursion (λ (r : ReplyValue). r.call.connection ≡ c) (replies_on c rs) →
+      AllByRecursion (λ (r : ReplyValue). r.call.connection ≡ c) (cond b (r ∷ replies_on c rs) (replies_on c rs))
   go true is later = (eqb-true r.call.connection c is, later)
   go false is later = later
 
-shown_on : (p : Slots) (c : ℕ) (replies : List Reply) → AllByRecursion (λ (r : ReplyValue). r.call.connection ≡ c) (map (reply_shown p) replies) → AreRepliesTo c replies
+shown_on : (p : Slots) (c : ℕ) (replies : List Reply) →
+    AllByRecursion (λ (r : ReplyValue). r.call.connection ≡ c) (map (reply_shown p) replies) → AreRepliesTo c replies
 shown_on p c [] h = tt
 shown_on p c (r ∷ replies) h = (h.0, shown_on p c replies h.1)
 
 pub are_on : (p : Slots) (c : ℕ) (rs : List ReplyValue) (r : Result Turn AllocError)
     → IfOk r (λ turn. map (reply_shown p) turn.replies.items ≡ replies_on c rs) → IfOk r (λ turn. AreRepliesTo c turn.replies.items)
-are_on p c rs (Ok turn) is = shown_on p c turn.replies.items (subst (AllByRecursion (λ (r : ReplyValue). r.call.connection ≡ c)) (sym is) (each_on c rs))
+are_on p c rs (Ok turn) is = shown_on p c turn.replies.items
+    (subst (AllByRecursion (λ (r : ReplyValue). r.call.connection ≡ c)) (sym is) (each_on c rs))
 are_on p c rs (Err e) is = tt
 
 -- ---- short replies
@@ -100,19 +106,24 @@ are_on p c rs (Err e) is = tt
 pub short_on : (c : ℕ) (rs : List ReplyValue) → AllByRecursion IsShortReply rs → AllByRecursion IsShortReply (replies_on c rs)
 short_on c [] h = tt
 short_on c (r ∷ rs) h = go (r.call.connection == c) (short_on c rs h.1) where
-  go : (b : Bool) → AllByRecursion IsShortReply (replies_on c rs) → AllByRecursion IsShortReply (cond b (r ∷ replies_on c rs) (replies_on c rs))
+  go : (b : Bool) → AllByRecursion IsShortReply (replies_on c rs) →
+      AllByRecursion IsShortReply (cond b (r ∷ replies_on c rs) (replies_on c rs))
   go true later = (h.0, later)
   go false later = later
 
-pub told_short : (calls : Calls) (steps others : List StepValue) → steps ≡ others → AllByRecursion IsShortReply (replies_to_watchers calls others) → AllByRecursion IsShortReply (replies_to_watchers calls steps)
-told_short calls steps others same short = subst (λ (ss : List StepValue). AllByRecursion IsShortReply (replies_to_watchers calls ss)) (sym same) short
+pub told_short : (calls : Calls) (steps others : List StepValue) → steps ≡ others →
+    AllByRecursion IsShortReply (replies_to_watchers calls others) → AllByRecursion IsShortReply (replies_to_watchers calls steps)
+told_short calls steps others same short = subst (λ (ss : List StepValue). AllByRecursion IsShortReply (replies_to_watchers calls ss))
+    (sym same) short
 
 pub are_short : (p : Slots) (rs : List ReplyValue) (r : Result Turn AllocError) → AllByRecursion IsShortReply rs
-    → IfOk r (λ turn. map (reply_shown p) turn.replies.items ≡ rs) → IfOk r (λ turn. AllByRecursion IsShortReply (map (reply_shown p) turn.replies.items))
+    → IfOk r (λ turn. map (reply_shown p) turn.replies.items ≡ rs) →
+    IfOk r (λ turn. AllByRecursion IsShortReply (map (reply_shown p) turn.replies.items))
 are_short p rs (Ok turn) short is = subst (AllByRecursion IsShortReply) (sym is) short
 are_short p rs (Err e) short is = tt
 
-pub ready_short : (p : Slots) (s : InstanceState) (event : CallEventValue) (rs : List ReplyValue) (r : Result Turn AllocError) → AllByRecursion IsShortReply rs
+pub ready_short : (p : Slots) (s : InstanceState) (event : CallEventValue) (rs : List ReplyValue) (r : Result Turn AllocError) →
+    AllByRecursion IsShortReply rs
     → IfOk r (IsReady p s event rs) → IfOk r (λ turn. AllByRecursion IsShortReply (map (reply_shown p) turn.replies.items))
 ready_short p s event rs (Ok turn) short is = subst (AllByRecursion IsShortReply) (sym is.replies) short
 ready_short p s event rs (Err e) short is = tt

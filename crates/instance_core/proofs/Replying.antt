@@ -17,7 +17,8 @@ of_answer P o x a is same h = subst P (is ∙ ap (λ (y : Answer). Ok y) same) h
 pub to_answer : (P : Result Answer CallError → Type 0) (o : Result Answer CallError) (x a : Answer) → o ≡ Ok x → x ≡ a → P (Ok a) → P o
 to_answer P o x a is same h = subst P (sym (is ∙ ap (λ (y : Answer). Ok y) same)) h
 
-pub refused_so : (p : Slots) (o : Result Answer CallError) (e : CallError) (refusal : Refusal) (meaning : Result AnswerValue Refusal) → o ≡ Err e → e ≡ Refused refusal → Answers (answer_shown p) o meaning → meaning ≡ Err refusal
+pub refused_so : (p : Slots) (o : Result Answer CallError) (e : CallError) (refusal : Refusal) (meaning : Result AnswerValue Refusal) →
+    o ≡ Err e → e ≡ Refused refusal → Answers (answer_shown p) o meaning → meaning ≡ Err refusal
 refused_so p (Ok x) e refusal meaning is same h = absurd cc
 refused_so p (Err (Refused other)) e refusal meaning is same h = let w : other ≡ refusal = cc in rw (← w) h
 refused_so p (Err NoMemory) e refusal meaning is same h = absurd cc

@@ -70,21 +70,27 @@ Moves s c = MovesTexts s.limits.blobs s.quota s.visible c
 abbrev MovesWritten : ℕ → ℕ → List Blob → WriteState → Type 0
 MovesWritten limit quota old w = (w.visible ≡ old) ⊎ IsAdmitted limit quota old w.visible
 
-finished_moves : (limit quota : ℕ) (key : KeyValue) (w : WriteState) (r : Result Unit UploadError) → r ≡ finish_answer key w.uploads → MovesWritten limit quota w.visible (after_last_part limit quota key r w)
-finished_moves limit quota key w (Ok u) is = inr (record { digest = key.digest; text = text_so_far key w.uploads; named = finish_names key w.uploads u is; is = refl })
+finished_moves : (limit quota : ℕ) (key : KeyValue) (w : WriteState) (r : Result Unit UploadError) → r ≡ finish_answer key w.uploads →
+    MovesWritten limit quota w.visible (after_last_part limit quota key r w)
+finished_moves limit quota key w (Ok u) is = inr
+    (record { digest = key.digest; text = text_so_far key w.uploads; named = finish_names key w.uploads u is; is = refl })
 finished_moves limit quota key w (Err e) is = inl refl
 
 end_moves : (limit quota : ℕ) (part : PartValue) (w : WriteState) → MovesWritten limit quota w.visible (after_end limit quota part w)
 end_moves limit quota part w = go part.is_last where
-  go : (last : Bool) → MovesWritten limit quota w.visible (cond last (after_last_part limit quota part.key (finish_answer part.key w.uploads) w) w)
+  go : (last : Bool) → MovesWritten limit quota w.visible
+      (cond last (after_last_part limit quota part.key (finish_answer part.key w.uploads) w) w)
   go true = finished_moves limit quota part.key w (finish_answer part.key w.uploads) refl
   go false = inl refl
 
-taking_moves : (limit quota moment : ℕ) (part : PartValue) (w : WriteState) (r : Result Unit UploadError) → MovesWritten limit quota w.visible (after_taking limit quota moment part r w)
-taking_moves limit quota moment part w (Ok u) = end_moves limit quota part (record w { uploads = after_piece moment part.key part.piece (Ok u) w.uploads })
+taking_moves : (limit quota moment : ℕ) (part : PartValue) (w : WriteState) (r : Result Unit UploadError) →
+    MovesWritten limit quota w.visible (after_taking limit quota moment part r w)
+taking_moves limit quota moment part w (Ok u) =
+    end_moves limit quota part (record w { uploads = after_piece moment part.key part.piece (Ok u) w.uploads })
 taking_moves limit quota moment part w (Err e) = inl refl
 
-whole_moves : (first : Bool) (s : InstanceState) (part : PartValue) → MovesWritten s.limits.blobs s.quota s.visible (after_part first s.limits.blobs s.quota s.moment part (write_state s))
+whole_moves : (first : Bool) (s : InstanceState) (part : PartValue) →
+    MovesWritten s.limits.blobs s.quota s.visible (after_part first s.limits.blobs s.quota s.moment part (write_state s))
 whole_moves first s part = taking_moves s.limits.blobs s.quota s.moment part (write_state s) (part_outcome first s.quota part s.uploads)
 
 piece_moves : (first : Bool) (s : InstanceState) (part : PartValue) → MovesWritten s.limits.blobs s.quota s.visible (with_part first s part)
@@ -124,17 +130,24 @@ method_moves s Called.Execute request = executed_moves s (execute_asked s.name r
 method_moves s method request = tt
 
 call_moves : (s : InstanceState) (id : CallId) (method : Method) (p : ProgressValue) → EndsHold (Moves s) s id method p
-call_moves s id method (has request) = (method_moves s method request, call_holds (Moves s) id method (answer_to method s request) (λ n. tt) tt)
+call_moves s id method (has request) = (
+  method_moves s method request,
+  call_holds (Moves s) id method (answer_to method s request)
+      (λ n. tt) tt,
+)
 call_moves s id method waits = tt
 call_moves s id method (writes write) = tt
 call_moves s id method (watches n) = tt
 
-end_job_moves : (s : InstanceState) (outcome : OutcomeValue) (o : Option JobValue) (steps : List StepValue) → AllAre (Moves s) (ending_changes s outcome o ++ Settles steps ∷ [])
+end_job_moves : (s : InstanceState) (outcome : OutcomeValue) (o : Option JobValue) (steps : List StepValue) →
+    AllAre (Moves s) (ending_changes s outcome o ++ Settles steps ∷ [])
 end_job_moves s outcome None steps = (tt, tt)
 end_job_moves s outcome (Some job) steps =
     all_append (Moves s) (ending_changes s outcome (Some job)) (Settles steps ∷ [])
-    (all_append (Moves s) (map Text (admissions (ending_at s outcome job).blobs)) (Keeps (results_with s.limits job.action (ending_at s outcome job).stored s.results) ∷ [])
-    (texts_hold s (Moves s) (moves_allow s) (admissions (ending_at s outcome job).blobs) (ending_stores s.quota s.visible job outcome)) (tt, tt))
+    (all_append (Moves s) (map Text (admissions (ending_at s outcome job).blobs))
+    (Keeps (results_with s.limits job.action (ending_at s outcome job).stored s.results) ∷ [])
+    (texts_hold s (Moves s) (moves_allow s) (admissions (ending_at s outcome job).blobs) (ending_stores s.quota s.visible job outcome))
+    (tt, tt))
     (tt, tt)
 
 moves_beside : (s : InstanceState) (event : CallEventValue) → HoldsBeside (Moves s) s event
@@ -165,7 +178,8 @@ texts_after limit quota (Does operation ∷ cs) xs = texts_after limit quota cs 
 texts_after limit quota (Pushes job ∷ cs) xs = texts_after limit quota cs xs
 texts_after limit quota (Settles steps ∷ cs) xs = texts_after limit quota cs xs
 
-texts_are : (cs : List InstanceChange) (s : InstanceState) → (state_after_changes cs s).visible ≡ texts_after s.limits.blobs s.quota cs s.visible
+texts_are : (cs : List InstanceChange) (s : InstanceState) →
+    (state_after_changes cs s).visible ≡ texts_after s.limits.blobs s.quota cs s.visible
 texts_are [] s = refl
 texts_are (Text c ∷ cs) s = texts_are cs (state_after_change (Text c) s)
 texts_are (Wrote w ∷ cs) s = texts_are cs (state_after_change (Wrote w) s)
@@ -183,18 +197,24 @@ pub record Holds (limit quota : ℕ) (ds : List Digest) (b : Blob) (xs : List Bl
   pub within : AreBlobsWithin limit quota xs
   pub stays : Stays limit quota ds b xs
 
-text_holds : (limit quota : ℕ) (ds : List Digest) (b : Blob) (c : Texts.TextChange) (xs : List Blob) → StoresNamedText c → AllByRecursion (IsOneOf ds) (digests_touched (Text c)) → Holds limit quota ds b xs → Holds limit quota ds b (Texts.visible_after_change limit quota c xs)
-text_holds limit quota ds b (Texts.Use d) xs named one h = record { some = h.some; within = used_within limit quota d xs h.within; stays = go h.stays } where
-  go : Stays limit quota ds b xs → Stays limit quota ds b (Texts.visible_after_change limit quota (Texts.Use d) xs)
-  go (inl there) = inl (used_behind ds d b xs (inl one.0) there)
-  go (inr lost) = inr lost
-text_holds limit quota ds b (Texts.Store d text) xs named one h = record { some = h.some; within = admitted_within limit quota d text xs h.some named h.within; stays = go h.stays } where
-  go : Stays limit quota ds b xs → Stays limit quota ds b (Texts.visible_after_change limit quota (Texts.Store d text) xs)
-  go (inl there) = admitted_stays limit quota ds d text b xs h.within named (inl one.0) there
-  go (inr lost) = inr lost
+text_holds : (limit quota : ℕ) (ds : List Digest) (b : Blob) (c : Texts.TextChange) (xs : List Blob) → StoresNamedText c →
+    AllByRecursion (IsOneOf ds) (digests_touched (Text c)) → Holds limit quota ds b xs →
+    Holds limit quota ds b (Texts.visible_after_change limit quota c xs)
+text_holds limit quota ds b (Texts.Use d) xs named one h =
+    record { some = h.some; within = used_within limit quota d xs h.within; stays = go h.stays } where
+      go : Stays limit quota ds b xs → Stays limit quota ds b (Texts.visible_after_change limit quota (Texts.Use d) xs)
+      go (inl there) = inl (used_behind ds d b xs (inl one.0) there)
+      go (inr lost) = inr lost
+text_holds limit quota ds b (Texts.Store d text) xs named one h =
+    record { some = h.some; within = admitted_within limit quota d text xs h.some named h.within; stays = go h.stays } where
+      go : Stays limit quota ds b xs → Stays limit quota ds b (Texts.visible_after_change limit quota (Texts.Store d text) xs)
+      go (inl there) = admitted_stays limit quota ds d text b xs h.within named (inl one.0) there
+      go (inr lost) = inr lost
 
 -- what a Write leaves is made of the texts before the event
-written_holds : (limit quota : ℕ) (ds : List Digest) (b : Blob) (old new : List Blob) → MovesTexts limit quota old (Wrote (record { visible = new; uploads = [] })) → AllByRecursion (IsOneOf ds) (keys_of (take 1 new)) → Holds limit quota ds b old → Holds limit quota ds b new
+written_holds : (limit quota : ℕ) (ds : List Digest) (b : Blob) (old new : List Blob) →
+    MovesTexts limit quota old (Wrote (record { visible = new; uploads = [] })) → AllByRecursion (IsOneOf ds) (keys_of (take 1 new)) →
+    Holds limit quota ds b old → Holds limit quota ds b new
 written_holds limit quota ds b old new (inl is) first h = subst (Holds limit quota ds b) (sym is) h
 written_holds limit quota ds b old new (inr a) first h = subst (Holds limit quota ds b) (sym a.is) (record {
   some = h.some;
@@ -213,11 +233,14 @@ pub of_both : (P : Digest → Type 0) (xs ys : List Digest) → AllByRecursion P
 of_both P [] ys h = (tt, h)
 of_both P (x ∷ xs) ys h = let more = of_both P xs ys h.1 in ((h.0, more.0), more.1)
 
-made_holds : (limit quota : ℕ) (ds : List Digest) (b : Blob) (old : List Blob) → Holds limit quota ds b old → (cs : List InstanceChange) (xs : List Blob) → AllAre (MovesTexts limit quota old) cs → AllByRecursion (IsOneOf ds) (all_touched cs) → Holds limit quota ds b xs → Holds limit quota ds b (texts_after limit quota cs xs)
+made_holds : (limit quota : ℕ) (ds : List Digest) (b : Blob) (old : List Blob) → Holds limit quota ds b old →
+    (cs : List InstanceChange) (xs : List Blob) → AllAre (MovesTexts limit quota old) cs → AllByRecursion (IsOneOf ds) (all_touched cs) →
+    Holds limit quota ds b xs → Holds limit quota ds b (texts_after limit quota cs xs)
 made_holds limit quota ds b old start [] xs moves one h = h
 made_holds limit quota ds b old start (Text c ∷ cs) xs moves one h =
     let parts = of_both (IsOneOf ds) (digests_touched (Text c)) (all_touched cs) one in
-    made_holds limit quota ds b old start cs (Texts.visible_after_change limit quota c xs) moves.1 parts.1 (text_holds limit quota ds b c xs moves.0 parts.0 h)
+    made_holds limit quota ds b old start cs (Texts.visible_after_change limit quota c xs) moves.1 parts.1
+    (text_holds limit quota ds b c xs moves.0 parts.0 h)
 made_holds limit quota ds b old start (Wrote w ∷ cs) xs moves one h =
     let parts = of_both (IsOneOf ds) (digests_touched (Wrote w)) (all_touched cs) one in
     made_holds limit quota ds b old start cs w.visible moves.1 parts.1 (written_holds limit quota ds b old w.visible moves.0 parts.0 start)
@@ -236,24 +259,32 @@ changes_front P (c ∷ made) left h = (h.0, changes_front P made left h.1)
 -- ---- an event
 
 -- after a front of its changes
-pub part_holds : (s t : InstanceState) (event : CallEventValue) (ds : List Digest) (b : Blob) (part : MadeInPart (answer s event).changes s t) → AllByRecursion (IsOneOf ds) (all_touched part.made) → Holds s.limits.blobs s.quota ds b s.visible → Holds s.limits.blobs s.quota ds b t.visible
+pub part_holds : (s t : InstanceState) (event : CallEventValue) (ds : List Digest) (b : Blob)
+    (part : MadeInPart (answer s event).changes s t) → AllByRecursion (IsOneOf ds) (all_touched part.made) →
+    Holds s.limits.blobs s.quota ds b s.visible → Holds s.limits.blobs s.quota ds b t.visible
 part_holds s t event ds b part one start =
-    let moves : AllAre (Moves s) part.made = changes_front (Moves s) part.made part.left (subst (AllAre (Moves s)) part.front (answer_moves s event)) in
-    let are : t.visible ≡ texts_after s.limits.blobs s.quota part.made s.visible = ap (λ (x : InstanceState). x.visible) part.so_far ∙ texts_are part.made s in
-    subst (Holds s.limits.blobs s.quota ds b) (sym are) (made_holds s.limits.blobs s.quota ds b s.visible start part.made s.visible moves one start)
+    let moves : AllAre (Moves s) part.made = changes_front (Moves s) part.made part.left
+    (subst (AllAre (Moves s)) part.front (answer_moves s event)) in
+    let are : t.visible ≡ texts_after s.limits.blobs s.quota part.made s.visible =
+    ap (λ (x : InstanceState). x.visible) part.so_far ∙ texts_are part.made s in
+    subst (Holds s.limits.blobs s.quota ds b) (sym are)
+    (made_holds s.limits.blobs s.quota ds b s.visible start part.made s.visible moves one start)
 
 -- a blob that is no more there had no room
-pub lost_for_room : (limit quota : ℕ) (ds : List Digest) (b : Blob) (xs : List Blob) → Stays limit quota ds b xs → (Contains xs b → ⊥) → HadNoRoom limit quota ds b
+pub lost_for_room : (limit quota : ℕ) (ds : List Digest) (b : Blob) (xs : List Blob) → Stays limit quota ds b xs → (Contains xs b → ⊥) →
+    HadNoRoom limit quota ds b
 lost_for_room limit quota ds b xs (inl there) gone = absurd (gone (behind_there ds b xs there))
 lost_for_room limit quota ds b xs (inr lost) gone = lost
 
 pub begins_behind : (ds : List Digest) (front back : List Blob) (b : Blob) → Behind (keys_of front ++ ds) b (front ++ b ∷ back)
 begins_behind ds front back b =
-    behind_front (keys_of front ++ ds) front back b (of_both (IsOneOf (keys_of front ++ ds)) (keys_of front) ds (each_among (keys_of front ++ ds))).0
+    behind_front (keys_of front ++ ds) front back b
+    (of_both (IsOneOf (keys_of front ++ ds)) (keys_of front) ds (each_among (keys_of front ++ ds))).0
 
 -- at the beginning it stands behind those that stand before it
 pub loses_from : (limit quota : ℕ) (ds : List Digest) (old new : List Blob) → 0 < limit → AreBlobsWithin limit quota old
-    → ((all : List Digest) (b : Blob) → AllByRecursion (IsOneOf all) ds → Holds limit quota all b old → Holds limit quota all b new) → LosesForRoom limit quota ds old new
+    → ((all : List Digest) (b : Blob) → AllByRecursion (IsOneOf all) ds → Holds limit quota all b old → Holds limit quota all b new) →
+    LosesForRoom limit quota ds old new
 loses_from limit quota ds old new some within holds = λ front back b is gone.
     let all : List Digest = keys_of front ++ ds in
     let one : AllByRecursion (IsOneOf all) ds = (of_both (IsOneOf all) (keys_of front) ds (each_among all)).1 in
@@ -261,12 +292,15 @@ loses_from limit quota ds old new some within holds = λ front back b is gone.
     lost_for_room limit quota all b new (holds all b one (record { some = some; within = within; stays = stays })).stays gone
 
 -- of a front of changes are those that it touched
-pub touched_front : (P : Digest → Type 0) (made left : List InstanceChange) → AllByRecursion P (all_touched (made ++ left)) → AllByRecursion P (all_touched made)
+pub touched_front : (P : Digest → Type 0) (made left : List InstanceChange) → AllByRecursion P (all_touched (made ++ left)) →
+    AllByRecursion P (all_touched made)
 touched_front P [] left h = tt
 touched_front P (c ∷ made) left h =
     let parts = of_both P (digests_touched c) (all_touched (made ++ left)) h in
     all_append P (digests_touched c) (all_touched made) parts.0 (touched_front P made left parts.1)
 
-pub part_loses : (s t : InstanceState) (event : CallEventValue) (part : MadeInPart (answer s event).changes s t) → 0 < s.limits.blobs → AreBlobsWithin s.limits.blobs s.quota s.visible → LosesForRoom s.limits.blobs s.quota (all_touched part.made) s.visible t.visible
+pub part_loses : (s t : InstanceState) (event : CallEventValue) (part : MadeInPart (answer s event).changes s t) → 0 < s.limits.blobs →
+    AreBlobsWithin s.limits.blobs s.quota s.visible → LosesForRoom s.limits.blobs s.quota (all_touched part.made) s.visible t.visible
 part_loses s t event part some within =
-    loses_from s.limits.blobs s.quota (all_touched part.made) s.visible t.visible some within (λ ds b one start. part_holds s t event ds b part one start)
+    loses_from s.limits.blobs s.quota (all_touched part.made) s.visible t.visible some within
+    (λ ds b one start. part_holds s t event ds b part one start)

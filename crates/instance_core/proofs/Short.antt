@@ -41,7 +41,8 @@ abbrev pub framed : List (List ℕ) → ℕ
 framed [] = 0
 framed (t ∷ ts) = 20 + length t + framed ts
 
-pub each_written : (field : ℕ) (ts : List (List ℕ)) → field < 2 ^ 29 → framed ts < 2 ^ 64 → length (records_text (each_field field ts)) ≤ framed ts
+pub each_written : (field : ℕ) (ts : List (List ℕ)) → field < 2 ^ 29 → framed ts < 2 ^ 64 →
+    length (records_text (each_field field ts)) ≤ framed ts
 each_written field [] small fits = omega arith
 each_written field (t ∷ ts) small fits =
     let both = both_written (message_field field t) (each_field field ts) in
@@ -78,7 +79,8 @@ digest_read t v h =
     rw (← e) (omega arith, fits)
 
 -- what holds of nothing read, and of one value more where it is read, holds of all that is read
-each_read : {V : Type 0} (read : List ℕ → Result V MessageError) (IsRead : List (List ℕ) → List V → Type 0) → IsRead [] [] → ((p : List ℕ) (v : V) (ps : List (List ℕ)) (vs : List V) → read p ≡ Ok v → IsRead ps vs → IsRead (p ∷ ps) (v ∷ vs)) →
+each_read : {V : Type 0} (read : List ℕ → Result V MessageError) (IsRead : List (List ℕ) → List V → Type 0) → IsRead [] [] →
+    ((p : List ℕ) (v : V) (ps : List (List ℕ)) (vs : List V) → read p ≡ Ok v → IsRead ps vs → IsRead (p ∷ ps) (v ∷ vs)) →
     (ps : List (List ℕ)) (vs : List V) → each_of read ps ≡ Ok vs → IsRead ps vs
 unfolding each_of
 each_read read IsRead none more [] vs h = let e : [] ≡ vs = ok_is [] vs h in subst (λ xs. IsRead [] xs) e none
@@ -88,8 +90,10 @@ each_read read IsRead none more (p ∷ ps) vs h =
     let e = ok_is (first.0 ∷ rest.0) vs rest.2 in
     subst (λ xs. IsRead (p ∷ ps) xs) e (more p first.0 ps rest.0 first.1 (each_read read IsRead none more ps rest.0 rest.1))
 
-pub digests_read : (ps : List (List ℕ)) (vs : List DigestValue) → each_of (value_of_text digest_of) ps ≡ Ok vs → (digest_sizes vs ≤ sizes ps) × AllByRecursion FitsSize vs
-digests_read = each_read (value_of_text digest_of) (λ ps vs. (digest_sizes vs ≤ sizes ps) × AllByRecursion FitsSize vs) (omega arith, tt) (λ p v ps vs read ih.
+pub digests_read : (ps : List (List ℕ)) (vs : List DigestValue) → each_of (value_of_text digest_of) ps ≡ Ok vs →
+    (digest_sizes vs ≤ sizes ps) × AllByRecursion FitsSize vs
+digests_read = each_read (value_of_text digest_of) (λ ps vs. (digest_sizes vs ≤ sizes ps) × AllByRecursion FitsSize vs) (omega arith, tt)
+    (λ p v ps vs read ih.
     let one = digest_read p v read in
     let a = ih.0 in
     let b = one.0 in
@@ -115,7 +119,8 @@ as_sent function v d h =
     value_is : (a b : List ℕ) (m n : ℤ) → a ≡ b → m ≡ n → sent_value a m ≡ sent_value b n
     value_is a b m n p q = rw (p, q) refl
 
-pub all_as_sent : (function : Option HashFunction) (vs : List DigestValue) (ds : List Digest) → digests_sent function vs ≡ Ok ds → map digest_value ds ≡ vs
+pub all_as_sent : (function : Option HashFunction) (vs : List DigestValue) (ds : List Digest) → digests_sent function vs ≡ Ok ds →
+    map digest_value ds ≡ vs
 all_as_sent function [] ds h = let e : [] ≡ ds = ok_is [] ds h in rw (← e) refl
 all_as_sent function (v ∷ vs) ds h =
     let first = bind_ok (digest_sent function v) _ ds h in
@@ -133,7 +138,9 @@ readable_ok (Err e) v h = absurd (cc)
 abbrev pub AreSent : List ℕ → List Digest → Type 0
 AreSent message ds = (digest_sizes (map digest_value ds) ≤ length message) × AllByRecursion FitsSize (map digest_value ds)
 
-pub sent_from : (function : Option HashFunction) (message : List ℕ) (rs : List Record) (field : ℕ) (vs : List DigestValue) (ds : List Digest) → weight rs ≤ length message → repeated_values digest_of field rs ≡ Ok vs → digests_sent function vs ≡ Ok ds → AreSent message ds
+pub sent_from : (function : Option HashFunction) (message : List ℕ) (rs : List Record) (field : ℕ) (vs : List DigestValue)
+    (ds : List Digest) → weight rs ≤ length message → repeated_values digest_of field rs ≡ Ok vs → digests_sent function vs ≡ Ok ds →
+    AreSent message ds
 sent_from function message rs field vs ds light h g =
     let read = digests_read (payloads field rs) vs h in
     let a = read.0 in
@@ -144,7 +151,8 @@ pub asked_sent : (own message : List ℕ) (ds : List Digest) → digests_asked o
 unfolding digests_asked find_missing_blobs_request_of
 asked_sent own message ds h =
     let q = bind_ok (message_or_refusal (value_of_text find_missing_blobs_request_of message)) _ ds h in
-    let r = read_from find_missing_blobs_request_of message q.0 (readable_ok (value_of_text find_missing_blobs_request_of message) q.0 q.1) in
+    let r = read_from find_missing_blobs_request_of message q.0
+    (readable_ok (value_of_text find_missing_blobs_request_of message) q.0 q.1) in
     let name = bind_ok (string 1 r.records) _ q.0 r.means in
     let digests = bind_ok (repeated_values digest_of 2 r.records) _ q.0 name.2 in
     let e = ok_is (record { instance_name = name.0; blob_digests = digests.0; digest_function = int32 3 r.records }) q.0 digests.2 in
@@ -153,41 +161,49 @@ asked_sent own message ds h =
     let same : q.0.blob_digests ≡ digests.0 = cc in
     sent_from f.0 message r.records 2 digests.0 ds r.light digests.1 (rw (← same) f.2)
 
-filter_sizes : (test : Digest → Bool) (ds : List Digest) → digest_sizes (map digest_value (filter test ds)) ≤ digest_sizes (map digest_value ds)
+filter_sizes : (test : Digest → Bool) (ds : List Digest) →
+    digest_sizes (map digest_value (filter test ds)) ≤ digest_sizes (map digest_value ds)
 filter_sizes test [] = omega arith
 filter_sizes test (d ∷ ds) = go (test d) refl (filter_sizes test ds) where
-  go : (b : Bool) → test d ≡ b → digest_sizes (map digest_value (filter test ds)) ≤ digest_sizes (map digest_value ds) → digest_sizes (map digest_value (filter test (d ∷ ds))) ≤ digest_sizes (map digest_value (d ∷ ds))
+  go : (b : Bool) → test d ≡ b → digest_sizes (map digest_value (filter test ds)) ≤ digest_sizes (map digest_value ds) →
+      digest_sizes (map digest_value (filter test (d ∷ ds))) ≤ digest_sizes (map digest_value (d ∷ ds))
   go true is ih = rw is (omega arith)
   go false is ih = rw is (omega arith)
 
-filter_fits : (test : Digest → Bool) (ds : List Digest) → AllByRecursion FitsSize (map digest_value ds) → AllByRecursion FitsSize (map digest_value (filter test ds))
+filter_fits : (test : Digest → Bool) (ds : List Digest) → AllByRecursion FitsSize (map digest_value ds) →
+    AllByRecursion FitsSize (map digest_value (filter test ds))
 filter_fits test [] h = tt
 filter_fits test (d ∷ ds) h = go (test d) refl (filter_fits test ds h.1) where
-  go : (b : Bool) → test d ≡ b → AllByRecursion FitsSize (map digest_value (filter test ds)) → AllByRecursion FitsSize (map digest_value (filter test (d ∷ ds)))
+  go : (b : Bool) → test d ≡ b → AllByRecursion FitsSize (map digest_value (filter test ds)) →
+      AllByRecursion FitsSize (map digest_value (filter test (d ∷ ds)))
   go true is ih = rw is (h.0, ih)
   go false is ih = rw is ih
 
-pub digests_framed : (vs : List DigestValue) → AllByRecursion FitsSize vs → digest_sizes vs < 2 ^ 40 → framed (map (text_for digest_records) vs) ≤ 30 * digest_sizes vs
+pub digests_framed : (vs : List DigestValue) → AllByRecursion FitsSize vs → digest_sizes vs < 2 ^ 40 →
+    framed (map (text_for digest_records) vs) ≤ 30 * digest_sizes vs
 digests_framed [] h small = omega arith
 digests_framed (v ∷ vs) h small =
     let first = digest_written v (omega arith) h.0 in
     let rest = digests_framed vs h.1 (omega arith) in
     omega arith
 
-pub digest_list_written : (vs : List DigestValue) → AllByRecursion FitsSize vs → digest_sizes vs < 2 ^ 40 → length (records_text (repeated_field digest_records 2 vs)) ≤ 30 * digest_sizes vs
+pub digest_list_written : (vs : List DigestValue) → AllByRecursion FitsSize vs → digest_sizes vs < 2 ^ 40 →
+    length (records_text (repeated_field digest_records 2 vs)) ≤ 30 * digest_sizes vs
 digest_list_written vs h small =
     let f = digests_framed vs h small in
     let w = each_written 2 (map (text_for digest_records) vs) (omega arith) (omega arith) in
     omega arith
 
-pub find_missing_short : (own : List ℕ) (visible : List Blob) (message reply : List ℕ) → length message ≤ 4194304 → find_missing_reply own visible message ≡ Ok reply → length reply < 2 ^ 32
+pub find_missing_short : (own : List ℕ) (visible : List Blob) (message reply : List ℕ) → length message ≤ 4194304 →
+    find_missing_reply own visible message ≡ Ok reply → length reply < 2 ^ 32
 find_missing_short own visible message reply short h =
     let b = bind_ok (digests_asked own message) _ reply h in
     let sent = asked_sent own message b.0 b.1 in
     let e = ok_is (missing_reply (missing_digests visible b.0)) reply b.2 in
     let a = sent.0 in
     let f = filter_sizes (is_missing visible) b.0 in
-    let w = digest_list_written (map digest_value (missing_digests visible b.0)) (filter_fits (is_missing visible) b.0 sent.1) (omega arith) in
+    let w = digest_list_written (map digest_value (missing_digests visible b.0)) (filter_fits (is_missing visible) b.0 sent.1)
+    (omega arith) in
     rw (← e) (omega arith)
 
 -- ---- statuses
@@ -200,13 +216,15 @@ text_small : (r : Refusal) → length (text_of r) ≤ 40
 text_small UnknownMethod = omega arith
 text_small _ = omega arith
 
-plain_status_written : (n : ℕ) (m : List ℕ) → n < 2 ^ 64 → length m ≤ 40 → length (text_for status_records (record { code = pos n; message = m; details = [] })) ≤ 80
+plain_status_written : (n : ℕ) (m : List ℕ) → n < 2 ^ 64 → length m ≤ 40 →
+    length (text_for status_records (record { code = pos n; message = m; details = [] })) ≤ 80
 plain_status_written n m fits small =
     let all = both_written (number_field 1 n ++ string_field 2 m) [] in
     let first = both_written (number_field 1 n) (string_field 2 m) in
     let code = number_written 1 n (omega arith) fits in
     let words = bytes_written 2 m (omega arith) (omega arith) in
-    let whole : length (text_for status_records (record { code = pos n; message = m; details = [] })) ≡ length (records_text ((number_field 1 n ++ string_field 2 m) ++ [])) = refl in
+    let whole : length (text_for status_records (record { code = pos n; message = m; details = [] }))
+    ≡ length (records_text ((number_field 1 n ++ string_field 2 m) ++ [])) = refl in
     omega arith
 
 refused_written : (r : Refusal) → length (text_for status_records (refused_status r)) ≤ 80
@@ -229,7 +247,8 @@ FitsSet : Option DigestValue → Type 0
 FitsSet None = Unit {0}
 FitsSet (Some v) = FitsSize v
 
-digest_set_written : (o : Option DigestValue) → hash_size o < 2 ^ 40 → FitsSet o → length (records_text (embedded_field digest_records 1 o)) ≤ 60 + hash_size o
+digest_set_written : (o : Option DigestValue) → hash_size o < 2 ^ 40 → FitsSet o →
+    length (records_text (embedded_field digest_records 1 o)) ≤ 60 + hash_size o
 unfolding hash_size FitsSet
 digest_set_written None small fits = omega arith
 digest_set_written (Some v) small fits =
@@ -252,7 +271,8 @@ whole_read (p ∷ ps) o h =
     let joined = concat_size (p ∷ ps) in
     rw (← e) (omega arith, d.1)
 
-update_request_read : (t : List ℕ) (r : UpdateBlobRequestValue) → value_of_text update_blob_request_of t ≡ Ok r → (hash_size r.digest ≤ length t) × FitsSet r.digest
+update_request_read : (t : List ℕ) (r : UpdateBlobRequestValue) → value_of_text update_blob_request_of t ≡ Ok r →
+    (hash_size r.digest ≤ length t) × FitsSet r.digest
 unfolding update_blob_request_of
 update_request_read t r h =
     let f = read_from update_blob_request_of t r h in
@@ -272,15 +292,18 @@ update_sizes (r ∷ rs) = 2 + hash_size r.digest + update_sizes rs
 FitSets : List UpdateBlobRequestValue → Type 0
 FitSets rs = AllByRecursion (λ (r : UpdateBlobRequestValue). FitsSet r.digest) rs
 
-updates_read : (ps : List (List ℕ)) (rs : List UpdateBlobRequestValue) → each_of (value_of_text update_blob_request_of) ps ≡ Ok rs → (update_sizes rs ≤ sizes ps) × FitSets rs
+updates_read : (ps : List (List ℕ)) (rs : List UpdateBlobRequestValue) → each_of (value_of_text update_blob_request_of) ps ≡ Ok rs →
+    (update_sizes rs ≤ sizes ps) × FitSets rs
 unfolding update_sizes FitSets
-updates_read = each_read (value_of_text update_blob_request_of) (λ ps rs. (update_sizes rs ≤ sizes ps) × FitSets rs) (omega arith, tt) (λ p r ps rs read ih.
+updates_read = each_read (value_of_text update_blob_request_of) (λ ps rs. (update_sizes rs ≤ sizes ps) × FitSets rs) (omega arith, tt)
+    (λ p r ps rs read ih.
     let one = update_request_read p r read in
     let a = ih.0 in
     let b = one.0 in
     (omega arith, (one.1, ih.1)))
 
-update_response_written : (function : Option HashFunction) (quota : ℕ) (r : UpdateBlobRequestValue) → hash_size r.digest < 2 ^ 40 → FitsSet r.digest → length (text_for update_blob_response_records (update_response function quota r)) ≤ 160 + hash_size r.digest
+update_response_written : (function : Option HashFunction) (quota : ℕ) (r : UpdateBlobRequestValue) → hash_size r.digest < 2 ^ 40 →
+    FitsSet r.digest → length (text_for update_blob_response_records (update_response function quota r)) ≤ 160 + hash_size r.digest
 update_response_written function quota r small fits =
     let status = text_for status_records (status_of_result (storage_digest function quota r)) in
     let both = both_written (embedded_field digest_records 1 r.digest) (message_field 2 status) in
@@ -289,7 +312,8 @@ update_response_written function quota r small fits =
     let around = message_written 2 status (omega arith) (omega arith) in
     omega arith
 
-updates_framed : (function : Option HashFunction) (quota : ℕ) (rs : List UpdateBlobRequestValue) → FitSets rs → update_sizes rs < 2 ^ 40 → framed (map (text_for update_blob_response_records) (map (update_response function quota) rs)) ≤ 90 * update_sizes rs
+updates_framed : (function : Option HashFunction) (quota : ℕ) (rs : List UpdateBlobRequestValue) → FitSets rs → update_sizes rs < 2 ^ 40 →
+    framed (map (text_for update_blob_response_records) (map (update_response function quota) rs)) ≤ 90 * update_sizes rs
 unfolding update_sizes FitSets
 updates_framed function quota [] h small = omega arith
 updates_framed function quota (r ∷ rs) h small =
@@ -297,11 +321,13 @@ updates_framed function quota (r ∷ rs) h small =
     let rest = updates_framed function quota rs h.1 (omega arith) in
     omega arith
 
-blobs_size : (own message : List ℕ) (sent : BlobsSentValue) → blobs_sent own message ≡ Ok sent → (update_sizes sent.requests ≤ length message) × FitSets sent.requests
+blobs_size : (own message : List ℕ) (sent : BlobsSentValue) → blobs_sent own message ≡ Ok sent →
+    (update_sizes sent.requests ≤ length message) × FitSets sent.requests
 unfolding blobs_sent batch_update_blobs_request_of
 blobs_size own message sent h =
     let q = bind_ok (message_or_refusal (value_of_text batch_update_blobs_request_of message)) _ sent h in
-    let r = read_from batch_update_blobs_request_of message q.0 (readable_ok (value_of_text batch_update_blobs_request_of message) q.0 q.1) in
+    let r = read_from batch_update_blobs_request_of message q.0
+    (readable_ok (value_of_text batch_update_blobs_request_of message) q.0 q.1) in
     let name = bind_ok (string 1 r.records) _ q.0 r.means in
     let blobs = bind_ok (repeated_values update_blob_request_of 2 r.records) _ q.0 name.2 in
     let e = ok_is (record { instance_name = name.0; requests = blobs.0; digest_function = int32 5 r.records }) q.0 blobs.2 in
@@ -316,14 +342,16 @@ blobs_size own message sent h =
     let some = payloads_weight 2 r.records in
     rw (← same) (omega arith, read.1)
 
-pub batch_update_short : (own : List ℕ) (quota : ℕ) (message reply : List ℕ) → length message ≤ 4194304 → batch_update_reply own quota message ≡ Ok reply → length reply < 2 ^ 32
+pub batch_update_short : (own : List ℕ) (quota : ℕ) (message reply : List ℕ) → length message ≤ 4194304 →
+    batch_update_reply own quota message ≡ Ok reply → length reply < 2 ^ 32
 batch_update_short own quota message reply short h =
     let b = bind_ok (blobs_sent own message) _ reply h in
     let e = ok_is (update_reply b.0.function quota b.0.requests) reply b.2 in
     let sent = blobs_size own message b.0 b.1 in
     let a = sent.0 in
     let f = updates_framed b.0.function quota b.0.requests sent.1 (omega arith) in
-    let w = each_written 1 (map (text_for update_blob_response_records) (map (update_response b.0.function quota) b.0.requests)) (omega arith) (omega arith) in
+    let w = each_written 1 (map (text_for update_blob_response_records) (map (update_response b.0.function quota) b.0.requests))
+    (omega arith) (omega arith) in
     rw (← e) (omega arith)
 
 -- ---- BatchReadBlobs
@@ -334,7 +362,8 @@ batch_size n u h = go (nat_le n 4000000) refl h where
   go true is h = leb-true n 4000000 is
   go false is h = absurd (cc)
 
-read_asked : (own message : List ℕ) (ds : List Digest) → digests_to_read own message ≡ Ok ds → AreSent message ds × (stated_size ds ≤ 4000000)
+read_asked : (own message : List ℕ) (ds : List Digest) → digests_to_read own message ≡ Ok ds →
+    AreSent message ds × (stated_size ds ≤ 4000000)
 unfolding digests_to_read batch_read_blobs_request_of
 read_asked own message ds h =
     let q = bind_ok (message_or_refusal (value_of_text batch_read_blobs_request_of message)) _ ds h in
@@ -354,10 +383,12 @@ read_asked own message ds h =
 some_is : (a b : List ℕ) → Some a ≡ Some b → a ≡ b
 some_is a b h = cc
 
-found_size : (d : Digest) (bs : List Blob) (text : List ℕ) → AllByRecursion (λ (b : Blob). Names b.0 b.1) bs → lookup (same_digest d) bs ≡ Some text → length text ≤ d.size
+found_size : (d : Digest) (bs : List Blob) (text : List ℕ) → AllByRecursion (λ (b : Blob). Names b.0 b.1) bs →
+    lookup (same_digest d) bs ≡ Some text → length text ≤ d.size
 found_size d [] text h is = absurd (cc)
 found_size d (b ∷ bs) text h is = go (same_digest d b.0) refl is (λ later. found_size d bs text h.1 later) where
-  go : (c : Bool) → same_digest d b.0 ≡ c → cond c (Some b.1) (lookup (same_digest d) bs) ≡ Some text → (lookup (same_digest d) bs ≡ Some text → length text ≤ d.size) → length text ≤ d.size
+  go : (c : Bool) → same_digest d b.0 ≡ c → cond c (Some b.1) (lookup (same_digest d) bs) ≡ Some text →
+      (lookup (same_digest d) bs ≡ Some text → length text ≤ d.size) → length text ≤ d.size
   go true one is ih =
       let e : d ≡ b.0 = same_equal d b.0 one in
       let t : b.1 ≡ text = some_is b.1 text is in
@@ -365,20 +396,25 @@ found_size d (b ∷ bs) text h is = go (same_digest d b.0) refl is (λ later. fo
       rw (e, ← t) (omega (arith, n))
   go false one is ih = ih is
 
-seen_size : (d : Digest) (visible : List Blob) → AllByRecursion (λ (b : Blob). Names b.0 b.1) visible → length (read_response d (visible_text d visible)).content ≤ d.size
+seen_size : (d : Digest) (visible : List Blob) → AllByRecursion (λ (b : Blob). Names b.0 b.1) visible →
+    length (read_response d (visible_text d visible)).content ≤ d.size
 seen_size d visible h = go (Rattle.digest.specs.Naming.is_empty_digest d) refl where
   at : (o : Option (List ℕ)) → ((text : List ℕ) → o ≡ Some text → length text ≤ d.size) → length (read_response d o).content ≤ d.size
   at None f = omega arith
   at (Some records_text) f = f records_text refl
 
-  go : (c : Bool) → Rattle.digest.specs.Naming.is_empty_digest d ≡ c → length (read_response d (cond c (Some []) (lookup (same_digest d) visible))).content ≤ d.size
+  go : (c : Bool) → Rattle.digest.specs.Naming.is_empty_digest d ≡ c →
+      length (read_response d (cond c (Some []) (lookup (same_digest d) visible))).content ≤ d.size
   go true is = omega arith
   go false is = at (lookup (same_digest d) visible) (λ text found. found_size d visible text h found)
 
-part_written : (v : DigestValue) (content : List ℕ) (status : StatusValue) → length v.hash < 2 ^ 40 → FitsSize v → length content < 2 ^ 40 → length (text_for status_records status) ≤ 80
-    → length (records_text ((embedded_field digest_records 1 (Some v) ++ bytes_field 2 content) ++ embedded_field status_records 3 (Some status))) ≤ 180 + length v.hash + length content
+part_written : (v : DigestValue) (content : List ℕ) (status : StatusValue) → length v.hash < 2 ^ 40 → FitsSize v → length content < 2 ^ 40 →
+    length (text_for status_records status) ≤ 80
+    → length (records_text ((embedded_field digest_records 1 (Some v) ++ bytes_field 2 content)
+    ++ embedded_field status_records 3 (Some status))) ≤ 180 + length v.hash + length content
 part_written v content status small fits few said =
-    let all = both_written (embedded_field digest_records 1 (Some v) ++ bytes_field 2 content) (message_field 3 (text_for status_records status)) in
+    let all = both_written (embedded_field digest_records 1 (Some v) ++ bytes_field 2 content)
+    (message_field 3 (text_for status_records status)) in
     let front = both_written (message_field 1 (text_for digest_records v)) (bytes_field 2 content) in
     let inside = digest_written v small fits in
     let digest = message_written 1 (text_for digest_records v) (omega arith) (omega arith) in
@@ -386,13 +422,18 @@ part_written v content status small fits few said =
     let around = message_written 3 (text_for status_records status) (omega arith) (omega arith) in
     omega arith
 
-read_response_written : (d : Digest) (o : Option (List ℕ)) → length (digest_value d).hash < 2 ^ 40 → FitsSize (digest_value d) → length (read_response d o).content < 2 ^ 40
-    → length (text_for read_blob_response_records (read_response d o)) ≤ 180 + length (digest_value d).hash + length (read_response d o).content
-read_response_written d None small fits few = part_written (digest_value d) [] (refused_status BlobNotFound) small fits few (refused_written BlobNotFound)
+read_response_written : (d : Digest) (o : Option (List ℕ)) → length (digest_value d).hash < 2 ^ 40 → FitsSize (digest_value d) →
+    length (read_response d o).content < 2 ^ 40
+    → length (text_for read_blob_response_records (read_response d o)) ≤ 180 + length (digest_value d).hash + length
+    (read_response d o).content
+read_response_written d None small fits few = part_written (digest_value d) [] (refused_status BlobNotFound) small fits few
+    (refused_written BlobNotFound)
 read_response_written d (Some content) small fits few = part_written (digest_value d) content ok_status small fits few ok_written
 
-reads_framed : (visible : List Blob) (ds : List Digest) → AllByRecursion (λ (b : Blob). Names b.0 b.1) visible → AllByRecursion FitsSize (map digest_value ds) → digest_sizes (map digest_value ds) < 2 ^ 32 → stated_size ds < 2 ^ 32
-    → framed (map (text_for read_blob_response_records) (map (λ d. read_response d (visible_text d visible)) ds)) ≤ 100 * digest_sizes (map digest_value ds) + stated_size ds
+reads_framed : (visible : List Blob) (ds : List Digest) → AllByRecursion (λ (b : Blob). Names b.0 b.1) visible →
+    AllByRecursion FitsSize (map digest_value ds) → digest_sizes (map digest_value ds) < 2 ^ 32 → stated_size ds < 2 ^ 32
+    → framed (map (text_for read_blob_response_records) (map (λ d. read_response d (visible_text d visible)) ds)) ≤ 100 * digest_sizes
+    (map digest_value ds) + stated_size ds
 reads_framed visible [] h fits small few = omega arith
 reads_framed visible (d ∷ ds) h fits small few =
     let size = seen_size d visible h in
@@ -400,7 +441,9 @@ reads_framed visible (d ∷ ds) h fits small few =
     let rest = reads_framed visible ds h fits.1 (omega arith) (omega arith) in
     omega arith
 
-pub batch_read_short : (own : List ℕ) (visible : List Blob) (message reply : List ℕ) → AllByRecursion (λ (b : Blob). Names b.0 b.1) visible → length message ≤ 4194304 → batch_read_reply own visible message ≡ Ok reply → length reply < 2 ^ 32
+pub batch_read_short : (own : List ℕ) (visible : List Blob) (message reply : List ℕ) →
+    AllByRecursion (λ (b : Blob). Names b.0 b.1) visible → length message ≤ 4194304 → batch_read_reply own visible message ≡ Ok reply →
+    length reply < 2 ^ 32
 batch_read_short own visible message reply named short h =
     let b = bind_ok (digests_to_read own message) _ reply h in
     let e = ok_is (read_reply visible b.0) reply b.2 in
@@ -408,7 +451,8 @@ batch_read_short own visible message reply named short h =
     let sent = asked.0.0 in
     let stated = asked.1 in
     let f = reads_framed visible b.0 named asked.0.1 (omega arith) (omega arith) in
-    let w = each_written 1 (map (text_for read_blob_response_records) (map (λ d. read_response d (visible_text d visible)) b.0)) (omega arith) (omega arith) in
+    let w = each_written 1 (map (text_for read_blob_response_records) (map (λ d. read_response d (visible_text d visible)) b.0))
+    (omega arith) (omega arith) in
     rw (← e) (omega arith)
 
 -- ---- GetCapabilities
@@ -436,13 +480,15 @@ execution_written slots = go (nat_lt 0 slots) where
       let both = both_written (number_field 1 1) (number_field 2 1) in
       let f = number_written 1 1 (omega arith) (omega arith) in
       let e = number_written 2 1 (omega arith) (omega arith) in
-      let whole : length (text_for execution_capabilities_records (record { digest_function = pos 1; exec_enabled = true })) ≡ length (records_text (number_field 1 1 ++ number_field 2 1)) = refl in
+      let whole : length (text_for execution_capabilities_records (record { digest_function = pos 1; exec_enabled = true }))
+      ≡ length (records_text (number_field 1 1 ++ number_field 2 1)) = refl in
       omega arith
   go false =
       let both = both_written (number_field 1 1) (number_field 2 0) in
       let f = number_written 1 1 (omega arith) (omega arith) in
       let e = number_written 2 0 (omega arith) (omega arith) in
-      let whole : length (text_for execution_capabilities_records (record { digest_function = pos 1; exec_enabled = false })) ≡ length (records_text (number_field 1 1 ++ number_field 2 0)) = refl in
+      let whole : length (text_for execution_capabilities_records (record { digest_function = pos 1; exec_enabled = false }))
+      ≡ length (records_text (number_field 1 1 ++ number_field 2 0)) = refl in
       omega arith
 
 cache_written : length (text_for cache_capabilities_records cache) ≤ 120
@@ -458,7 +504,8 @@ cache_written =
     let second = message_written 2 enabled (omega arith) (omega arith) in
     let third = number_written 4 4000000 (omega arith) (omega arith) in
     let fourth = number_written 5 1 (omega arith) (omega arith) in
-    let whole : length (text_for cache_capabilities_records cache) ≡ length (records_text (((functions ++ message_field 2 enabled) ++ number_field 4 4000000) ++ number_field 5 1)) = refl in
+    let whole : length (text_for cache_capabilities_records cache)
+    ≡ length (records_text (((functions ++ message_field 2 enabled) ++ number_field 4 4000000) ++ number_field 5 1)) = refl in
     omega arith
 
 capabilities_written : (slots : ℕ) → length (capabilities_message slots) ≤ 400
@@ -476,10 +523,12 @@ capabilities_written slots =
     let second = message_written 2 b (omega arith) (omega arith) in
     let third = message_written 4 v (omega arith) (omega arith) in
     let fourth = message_written 5 v (omega arith) (omega arith) in
-    let whole : length (capabilities_message slots) ≡ length (records_text (((message_field 1 a ++ message_field 2 b) ++ message_field 4 v) ++ message_field 5 v)) = refl in
+    let whole : length (capabilities_message slots)
+    ≡ length (records_text (((message_field 1 a ++ message_field 2 b) ++ message_field 4 v) ++ message_field 5 v)) = refl in
     omega arith
 
-pub get_capabilities_short : (own : List ℕ) (slots : ℕ) (message reply : List ℕ) → get_capabilities_reply own slots message ≡ Ok reply → length reply < 2 ^ 32
+pub get_capabilities_short : (own : List ℕ) (slots : ℕ) (message reply : List ℕ) → get_capabilities_reply own slots message ≡ Ok reply →
+    length reply < 2 ^ 32
 get_capabilities_short own slots message reply h =
     let b = bind_ok (capabilities_asked own message) _ reply h in
     let e = ok_is (capabilities_message slots) reply b.2 in

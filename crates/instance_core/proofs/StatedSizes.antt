@@ -24,7 +24,8 @@ size_below text n is = go (is_numeral text) (nat_lt (digits_value 10 text) (2 ^ 
 
 digest_below : (hash size : List ℕ) (d : Digest) → digest_of_segments hash size ≡ Ok d → d.size < 2 ^ 63
 digest_below hash size d is = go (hash_in hash) (size_in size) refl is where
-  go : (h : Option BlobHash) (n : Option ℕ) → size_in size ≡ n → (or_fault Hash h >>= λ x. or_fault Size n >>= λ m. Ok (record { hash = x; size = m })) ≡ Ok d → d.size < 2 ^ 63
+  go : (h : Option BlobHash) (n : Option ℕ) → size_in size ≡ n →
+      (or_fault Hash h >>= λ x. or_fault Size n >>= λ m. Ok (record { hash = x; size = m })) ≡ Ok d → d.size < 2 ^ 63
   go (Some x) (Some m) at is =
       let whole : Digest = record { hash = x; size = m } in
       let same : whole ≡ d = cc in
@@ -35,17 +36,19 @@ digest_below hash size d is = go (hash_in hash) (size_in size) refl is where
 abbrev IsBelow : WriteNameValue → Type 0
 IsBelow name = name.digest.size < 2 ^ 63
 
-upload_below : (instance : List ℕ) (segments : List (List ℕ)) (name : WriteNameValue) → upload_named instance segments ≡ Ok name → IsBelow name
-upload_below instance (uuid ∷ place ∷ hash ∷ size ∷ more) name is = go (uuid_of uuid) (blobs_place place) (digest_of_segments hash size) refl is where
-  go : (a : Result (List ℕ) NameError) (b : Result Unit NameError) (c : Result Digest NameError) → digest_of_segments hash size ≡ c
-      → (a >>= λ u. b >>= λ _. c >>= λ d. Ok (record { instance = instance; uuid = u; digest = d })) ≡ Ok name → IsBelow name
-  go (Ok u) (Ok _) (Ok d) at is =
-      let whole : WriteNameValue = record { instance = instance; uuid = u; digest = d } in
-      let same : whole ≡ name = cc in
-      subst IsBelow same (digest_below hash size d at)
-  go (Ok u) (Ok _) (Err e) at is = absurd (cc)
-  go (Ok u) (Err e) c at is = absurd (cc)
-  go (Err e) b c at is = absurd (cc)
+upload_below : (instance : List ℕ) (segments : List (List ℕ)) (name : WriteNameValue) → upload_named instance segments ≡ Ok name →
+    IsBelow name
+upload_below instance (uuid ∷ place ∷ hash ∷ size ∷ more) name is =
+    go (uuid_of uuid) (blobs_place place) (digest_of_segments hash size) refl is where
+      go : (a : Result (List ℕ) NameError) (b : Result Unit NameError) (c : Result Digest NameError) → digest_of_segments hash size ≡ c
+          → (a >>= λ u. b >>= λ _. c >>= λ d. Ok (record { instance = instance; uuid = u; digest = d })) ≡ Ok name → IsBelow name
+      go (Ok u) (Ok _) (Ok d) at is =
+          let whole : WriteNameValue = record { instance = instance; uuid = u; digest = d } in
+          let same : whole ≡ name = cc in
+          subst IsBelow same (digest_below hash size d at)
+      go (Ok u) (Ok _) (Err e) at is = absurd (cc)
+      go (Ok u) (Err e) c at is = absurd (cc)
+      go (Err e) b c at is = absurd (cc)
 upload_below instance (uuid ∷ place ∷ hash ∷ []) name is = absurd (cc)
 upload_below instance (uuid ∷ place ∷ []) name is = absurd (cc)
 upload_below instance (uuid ∷ []) name is = absurd (cc)
@@ -53,11 +56,13 @@ upload_below instance [] name is = absurd (cc)
 
 pub name_below : (text : List ℕ) (name : WriteNameValue) → write_name text ≡ Ok name → name.digest.size < 2 ^ 63
 name_below text name is = go (division_of divides_write (segments_of text)) is where
-  after : (d : DivisionValue) (a : Result Unit NameError) (b : Result (List ℕ) NameError) → (a >>= λ _. b >>= λ i. upload_named i d.after) ≡ Ok name → IsBelow name
+  after : (d : DivisionValue) (a : Result Unit NameError) (b : Result (List ℕ) NameError) →
+      (a >>= λ _. b >>= λ i. upload_named i d.after) ≡ Ok name → IsBelow name
   after d (Ok _) (Ok i) is = upload_below i d.after name is
   after d (Ok _) (Err e) is = absurd (cc)
   after d (Err e) b is = absurd (cc)
 
-  go : (o : Option DivisionValue) → (or_fault Form o >>= λ d. upload_compression_check d.after >>= λ _. instance_of d.before >>= λ i. upload_named i d.after) ≡ Ok name → IsBelow name
+  go : (o : Option DivisionValue) → (or_fault Form o >>= λ d. upload_compression_check d.after >>= λ _. instance_of d.before >>= λ i.
+      upload_named i d.after) ≡ Ok name → IsBelow name
   go (Some d) is = after d (upload_compression_check d.after) (instance_of d.before) is
   go None is = absurd (cc)

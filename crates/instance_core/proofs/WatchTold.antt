@@ -33,7 +33,8 @@ told_on P t calls h = go t.is_last where
   go true = all_filtered (λ (c : CallId × CallValue). P c.1.progress) (λ c. not (is_watcher t.number c)) calls h
   go false = h
 
-steps_on : (P : ProgressValue → Type 0) (steps : List StepValue) (calls : Calls) → HaveProgress P calls → HaveProgress P (calls_after_steps steps calls)
+steps_on : (P : ProgressValue → Type 0) (steps : List StepValue) (calls : Calls) → HaveProgress P calls →
+    HaveProgress P (calls_after_steps steps calls)
 steps_on P [] calls h = h
 steps_on P (step ∷ steps) calls h = steps_on P steps (calls_told (told step) calls) (told_on P (told step) calls h)
 
@@ -61,13 +62,15 @@ all_of P f [] = tt
 all_of P f (c ∷ cs) = (f c.1.progress, all_of P f cs)
 
 -- jobs end, and others start
-pub turn_rests : (ending : List StepValue) (s : InstanceState) → HaveProgress (IsGiven s.jobs.next) s.calls → WatchAtRest (state_after_change (Settles (then_starts s.slots s.moment ending s.jobs)) s)
+pub turn_rests : (ending : List StepValue) (s : InstanceState) → HaveProgress (IsGiven s.jobs.next) s.calls →
+    WatchAtRest (state_after_change (Settles (then_starts s.slots s.moment ending s.jobs)) s)
 turn_rests ending s given =
     let steps = then_starts s.slots s.moment ending s.jobs in
     let after = jobs_after_steps steps s.jobs in
     let calls = calls_after_steps steps s.calls in
     record {
-      given = subst (λ (n : ℕ). HaveProgress (IsGiven n) calls) (sym (steps_next steps s.jobs)) (steps_on (IsGiven s.jobs.next) steps s.calls given);
+      given = subst (λ (n : ℕ). HaveProgress (IsGiven n) calls) (sym (steps_next steps s.jobs))
+          (steps_on (IsGiven s.jobs.next) steps s.calls given);
       busy = elim (turn-fills s.slots s.moment ending s.jobs) [
         | inl full ↦ inl full
         | inr none ↦ inr (all_of (λ p. waits_for after.waiting p ≡ false) (λ p. none_waits after.waiting p none) calls)
@@ -81,16 +84,20 @@ pub late_rest : (s : InstanceState) → WatchAtRest s → WatchAtRest (state_aft
 late_rest s h = turn_rests (timings_out s.moment s.jobs.running) s h.given
 
 -- what a job leaves changes neither jobs nor calls
-admitted_rest : (ts : List Texts.TextChange) (results : List Blob) (steps : List StepValue) (s : InstanceState) → WatchAtRest (state_after_change (Settles steps) s)
+admitted_rest : (ts : List Texts.TextChange) (results : List Blob) (steps : List StepValue) (s : InstanceState) →
+    WatchAtRest (state_after_change (Settles steps) s)
     → WatchAtRest (state_after_changes ((map Text ts ++ Keeps results ∷ []) ++ Settles steps ∷ []) s)
 admitted_rest [] results steps s h = record { given = h.given; busy = h.busy }
-admitted_rest (t ∷ ts) results steps s h = admitted_rest ts results steps (state_after_change (Text t) s) (record { given = h.given; busy = h.busy })
+admitted_rest (t ∷ ts) results steps s h = admitted_rest ts results steps (state_after_change (Text t) s)
+    (record { given = h.given; busy = h.busy })
 
-ended_with : (s : InstanceState) (n : ℕ) (outcome : OutcomeValue) (o : Option JobValue) → WatchAtRest s → WatchAtRest (state_after_changes (ending_changes s outcome o ++ Settles (ending_steps s n outcome o) ∷ []) s)
+ended_with : (s : InstanceState) (n : ℕ) (outcome : OutcomeValue) (o : Option JobValue) → WatchAtRest s →
+    WatchAtRest (state_after_changes (ending_changes s outcome o ++ Settles (ending_steps s n outcome o) ∷ []) s)
 ended_with s n outcome None h = record { given = h.given; busy = h.busy }
 ended_with s n outcome (Some job) h =
     let end = ending_at s outcome job in
-    admitted_rest (admissions end.blobs) (results_with s.limits job.action end.stored s.results) (ending_steps s n outcome (Some job)) s (turn_rests (ending_of n end.end_is (running_job n s.jobs)) s h.given)
+    admitted_rest (admissions end.blobs) (results_with s.limits job.action end.stored s.results) (ending_steps s n outcome (Some job)) s
+    (turn_rests (ending_of n end.end_is (running_job n s.jobs)) s h.given)
 
 pub ended_rest : (s : InstanceState) (n : ℕ) (outcome : OutcomeValue) → WatchAtRest s → WatchAtRest (state_after s (end_job n outcome))
 ended_rest s n outcome h = ended_with s n outcome (running_job n s.jobs) h
@@ -112,7 +119,8 @@ cancel_rest id s h = record {
 -- ---- who is told
 
 module _ {J : Type 0} where
-  found_behind : (n : ℕ) (e : ℕ × J) (es : List (ℕ × J)) → is_some (lookup (same_number n) es) ≡ true → is_some (lookup (same_number n) (e ∷ es)) ≡ true
+  found_behind : (n : ℕ) (e : ℕ × J) (es : List (ℕ × J)) → is_some (lookup (same_number n) es) ≡ true →
+      is_some (lookup (same_number n) (e ∷ es)) ≡ true
   found_behind n e es h = go (same_number n e.0) where
     go : (b : Bool) → is_some (cond b (Some e.1) (lookup (same_number n) es)) ≡ true
     go true = refl
@@ -130,17 +138,22 @@ module _ {J : Type 0} where
 
   all_found : (es : List (ℕ × J)) → AreFound es es
   all_found [] = tt
-  all_found (e ∷ es) =
-      (found_first e es, all-weaker (λ (x : ℕ × J). is_some (lookup (same_number x.0) es) ≡ true) (λ (x : ℕ × J). is_some (lookup (same_number x.0) (e ∷ es)) ≡ true) (λ x. found_behind x.0 e es) es (all_found es))
+  all_found (e ∷ es) = (
+    found_first e es,
+    all-weaker (λ (x : ℕ × J). is_some (lookup (same_number x.0) es) ≡ true)
+        (λ (x : ℕ × J). is_some (lookup (same_number x.0) (e ∷ es)) ≡ true) (λ x. found_behind x.0 e es) es (all_found es),
+  )
 
   -- who watches none that waits does not watch this one
-  not_watched : (ws : List (ℕ × J)) (n : ℕ) (p : ProgressValue) → is_some (lookup (same_number n) ws) ≡ true → waits_for ws p ≡ false → is_watching n p ≡ false
+  not_watched : (ws : List (ℕ × J)) (n : ℕ) (p : ProgressValue) → is_some (lookup (same_number n) ws) ≡ true → waits_for ws p ≡ false →
+      is_watching n p ≡ false
   not_watched ws n waits there h = refl
   not_watched ws n (has request) there h = refl
   not_watched ws n (writes write) there h = refl
   not_watched ws n (watches m) there h = go (m == n) refl where
     go : (b : Bool) → (m == n) ≡ b → (m == n) ≡ false
-    go true is = absurd (let same : m ≡ n = eqb-true m n is in let found : is_some (lookup (same_number m) ws) ≡ true = subst (λ (k : ℕ). is_some (lookup (same_number k) ws) ≡ true) (sym same) there in let no : true ≡ false = sym found ∙ h in cc)
+    go true is = absurd (let same : m ≡ n = eqb-true m n is in let found : is_some (lookup (same_number m) ws) ≡ true =
+        subst (λ (k : ℕ). is_some (lookup (same_number k) ws) ≡ true) (sym same) there in let no : true ≡ false = sym found ∙ h in cc)
     go false is = is
 
 -- those who watch are on the connection
@@ -148,7 +161,8 @@ abbrev AreOn : ℕ → List CallId → Type 0
 AreOn c ids = AllByRecursion (λ (id : CallId). (id.connection == c) ≡ true) ids
 
 on_by : (c n : ℕ) (k : CallId × CallValue) (ks : Calls) (a b : Bool) → (k.0.connection == c) ≡ a → is_watcher n k ≡ b
-    → HaveProgress (λ p. is_watching n p ≡ false) (cond (not a) (k ∷ calls_apart c ks) (calls_apart c ks)) → (HaveProgress (λ p. is_watching n p ≡ false) (calls_apart c ks) → AreOn c (watchers n ks))
+    → HaveProgress (λ p. is_watching n p ≡ false) (cond (not a) (k ∷ calls_apart c ks) (calls_apart c ks)) →
+    (HaveProgress (λ p. is_watching n p ≡ false) (calls_apart c ks) → AreOn c (watchers n ks))
     → AreOn c (map (λ (x : CallId × CallValue). x.0) (cond b (k ∷ filter (is_watcher n) ks) (filter (is_watcher n) ks)))
 on_by c n k ks true true on is h later = (on, later h)
 on_by c n k ks true false on is h later = later h
@@ -159,17 +173,22 @@ watchers_on : (c n : ℕ) (calls : Calls) → HaveProgress (λ p. is_watching n 
 watchers_on c n [] h = tt
 watchers_on c n (k ∷ ks) h = on_by c n k ks (k.0.connection == c) (is_watcher n k) refl refl h (watchers_on c n ks)
 
-replied_on : (c : ℕ) (t : ToldValue) (ids : List CallId) (rest : List ReplyValue) → AreOn c ids → replies_on c rest ≡ rest → replies_on c (map (told_reply t) ids ++ rest) ≡ map (told_reply t) ids ++ rest
+replied_on : (c : ℕ) (t : ToldValue) (ids : List CallId) (rest : List ReplyValue) → AreOn c ids → replies_on c rest ≡ rest →
+    replies_on c (map (told_reply t) ids ++ rest) ≡ map (told_reply t) ids ++ rest
 replied_on c t [] rest on h = h
 replied_on c t (id ∷ ids) rest on h = rw on.0 (ap (λ (rs : List ReplyValue). told_reply t id ∷ rs) (replied_on c t ids rest on.1 h))
 
-started_on : (c most moment : ℕ) (calls : Calls) (all ws : List (ℕ × JobValue)) → HaveProgress (λ p. waits_for all p ≡ false) (calls_apart c calls) → AreFound all ws
+started_on : (c most moment : ℕ) (calls : Calls) (all ws : List (ℕ × JobValue)) →
+    HaveProgress (λ p. waits_for all p ≡ false) (calls_apart c calls) → AreFound all ws
     → replies_on c (replies_to_watchers calls (starts_of most moment ws)) ≡ replies_to_watchers calls (starts_of most moment ws)
 started_on c zero moment calls all ws h found = refl
 started_on c (suc most) moment calls all [] h found = refl
 started_on c (suc most) moment calls all (w ∷ ws) h found =
-    let apart = all-weaker (λ (k : CallId × CallValue). waits_for all k.1.progress ≡ false) (λ (k : CallId × CallValue). is_watching w.0 k.1.progress ≡ false) (λ k. not_watched all w.0 k.1.progress found.0) (calls_apart c calls) h in
-    replied_on c (told (start_of moment w)) (watchers w.0 calls) (replies_to_watchers calls (starts_of most moment ws)) (watchers_on c w.0 calls apart) (started_on c most moment calls all ws h found.1)
+    let apart = all-weaker (λ (k : CallId × CallValue). waits_for all k.1.progress ≡ false)
+    (λ (k : CallId × CallValue). is_watching w.0 k.1.progress ≡ false) (λ k. not_watched all w.0 k.1.progress found.0)
+    (calls_apart c calls) h in
+    replied_on c (told (start_of moment w)) (watchers w.0 calls) (replies_to_watchers calls (starts_of most moment ws))
+    (watchers_on c w.0 calls apart) (started_on c most moment calls all ws h found.1)
 
 no_room : (a b : ℕ) → a ≤ b → a - b ≡ 0
 no_room a b h = omega arith
@@ -177,7 +196,8 @@ no_room a b h = omega arith
 pub told_there : (c : ℕ) (s : InstanceState) → WatchDuring c s → replies_on c (answer s start_jobs).replies ≡ (answer s start_jobs).replies
 told_there c s h = elim h.busy [
   | inl full ↦
-      subst (λ (most : ℕ). replies_on c (replies_to_watchers s.calls (starts_of most s.moment s.jobs.waiting)) ≡ replies_to_watchers s.calls (starts_of most s.moment s.jobs.waiting))
+      subst (λ (most : ℕ). replies_on c (replies_to_watchers s.calls (starts_of most s.moment s.jobs.waiting))
+      ≡ replies_to_watchers s.calls (starts_of most s.moment s.jobs.waiting))
       (sym (no_room s.slots (length s.jobs.running) full)) refl
   | inr none ↦ started_on c (s.slots - length s.jobs.running) s.moment s.calls s.jobs.waiting s.jobs.waiting none (all_found s.jobs.waiting)
 ]

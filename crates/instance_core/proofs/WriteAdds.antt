@@ -47,13 +47,16 @@ used_all P d bs h = go (lookup_entry (same_digest d) bs) refl where
 front_all : (P : Blob → Type 0) (room : ℕ) (bs : List Blob) → AllByRecursion P bs → AllByRecursion P (longest_front room bs)
 front_all P room [] h = h
 front_all P room (b ∷ bs) h = go (nat_le (length b.1) room) (front_all P (room - length b.1) bs h.1) where
-  go : (t : Bool) → AllByRecursion P (longest_front (room - length b.1) bs) → AllByRecursion P (cond t (b ∷ longest_front (room - length b.1) bs) [])
+  go : (t : Bool) → AllByRecursion P (longest_front (room - length b.1) bs) →
+      AllByRecursion P (cond t (b ∷ longest_front (room - length b.1) bs) [])
   go true ih = (h.0, ih)
   go false ih = tt
 
-pub admitted_all : (P : Blob → Type 0) (limit quota : ℕ) (d : Digest) (text : List ℕ) (bs : List Blob) → P (d, text) → AllByRecursion P bs → AllByRecursion P (visible_after_admission limit quota d text bs)
+pub admitted_all : (P : Blob → Type 0) (limit quota : ℕ) (d : Digest) (text : List ℕ) (bs : List Blob) → P (d, text) → AllByRecursion P bs →
+    AllByRecursion P (visible_after_admission limit quota d text bs)
 admitted_all P limit quota d text bs new h = go (is_some (visible_text d bs)) (nat_lt quota (length text)) where
-  go : (s t : Bool) → AllByRecursion P (cond s (visible_after_use d bs) (cond t bs ((d, text) ∷ take (limit - 1) (longest_front (quota - length text) bs))))
+  go : (s t : Bool) → AllByRecursion P (cond s (visible_after_use d bs)
+      (cond t bs ((d, text) ∷ take (limit - 1) (longest_front (quota - length text) bs))))
   go true t = used_all P d bs h
   go false true = h
   go false false = (new, take-all P (limit - 1) (longest_front (quota - length text) bs) (front_all P (quota - length text) bs h))
@@ -63,18 +66,24 @@ admitted_all P limit quota d text bs new h = go (is_some (visible_text d bs)) (n
 abbrev HoldsNamed : (Blob → Type 0) → Type 0
 HoldsNamed P = (b : Blob) → IsNamed b → P b
 
-finished_all : (P : Blob → Type 0) (limit quota : ℕ) (key : KeyValue) (w : WriteState) (r : Result Unit UploadError) → HoldsNamed P → r ≡ finish_answer key w.uploads → AllByRecursion P w.visible → AllByRecursion P (after_last_part limit quota key r w).visible
-finished_all P limit quota key w (Ok u) named is h = admitted_all P limit quota key.digest (text_so_far key w.uploads) w.visible (named (key.digest, text_so_far key w.uploads) (finish_names key w.uploads u is)) h
+finished_all : (P : Blob → Type 0) (limit quota : ℕ) (key : KeyValue) (w : WriteState) (r : Result Unit UploadError) → HoldsNamed P →
+    r ≡ finish_answer key w.uploads → AllByRecursion P w.visible → AllByRecursion P (after_last_part limit quota key r w).visible
+finished_all P limit quota key w (Ok u) named is h =
+    admitted_all P limit quota key.digest (text_so_far key w.uploads) w.visible
+    (named (key.digest, text_so_far key w.uploads) (finish_names key w.uploads u is)) h
 finished_all P limit quota key w (Err e) named is h = h
 
-end_all : (P : Blob → Type 0) (limit quota : ℕ) (part : PartValue) (w : WriteState) → HoldsNamed P → AllByRecursion P w.visible → AllByRecursion P (after_end limit quota part w).visible
+end_all : (P : Blob → Type 0) (limit quota : ℕ) (part : PartValue) (w : WriteState) → HoldsNamed P → AllByRecursion P w.visible →
+    AllByRecursion P (after_end limit quota part w).visible
 end_all P limit quota part w named h = go part.is_last where
   go : (last : Bool) → AllByRecursion P (cond last (after_last_part limit quota part.key (finish_answer part.key w.uploads) w) w).visible
   go true = finished_all P limit quota part.key w (finish_answer part.key w.uploads) named refl h
   go false = h
 
-part_all : (P : Blob → Type 0) (limit quota moment : ℕ) (part : PartValue) (w : WriteState) (r : Result Unit UploadError) → HoldsNamed P → AllByRecursion P w.visible → AllByRecursion P (after_taking limit quota moment part r w).visible
-part_all P limit quota moment part w (Ok u) named h = end_all P limit quota part (record w { uploads = after_piece moment part.key part.piece (Ok u) w.uploads }) named h
+part_all : (P : Blob → Type 0) (limit quota moment : ℕ) (part : PartValue) (w : WriteState) (r : Result Unit UploadError) → HoldsNamed P →
+    AllByRecursion P w.visible → AllByRecursion P (after_taking limit quota moment part r w).visible
+part_all P limit quota moment part w (Ok u) named h =
+    end_all P limit quota part (record w { uploads = after_piece moment part.key part.piece (Ok u) w.uploads }) named h
 part_all P limit quota moment part w (Err e) named h = h
 
 -- ---- old texts, and named ones
@@ -82,11 +91,14 @@ part_all P limit quota moment part w (Err e) named h = h
 old_ones : (bs : List Blob) → AllByRecursion (IsOldOrNamed bs) bs
 old_ones bs = recursion_from_All (IsOldOrNamed bs) bs (λ k d within. inl (All-contains_itself bs k d within))
 
-pub whole_adds : (first : Bool) (s : InstanceState) (part : PartValue) → AllByRecursion (IsOldOrNamed s.visible) (after_part first s.limits.blobs s.quota s.moment part (write_state s)).visible
-whole_adds first s part = part_all (IsOldOrNamed s.visible) s.limits.blobs s.quota s.moment part (write_state s) (part_outcome first s.quota part s.uploads) (λ b named. inr named) (old_ones s.visible)
+pub whole_adds : (first : Bool) (s : InstanceState) (part : PartValue) →
+    AllByRecursion (IsOldOrNamed s.visible) (after_part first s.limits.blobs s.quota s.moment part (write_state s)).visible
+whole_adds first s part = part_all (IsOldOrNamed s.visible) s.limits.blobs s.quota s.moment part (write_state s)
+    (part_outcome first s.quota part s.uploads) (λ b named. inr named) (old_ones s.visible)
 
 -- a piece changes no text
-pub piece_adds : (first : Bool) (s : InstanceState) (part : PartValue) → AllByRecursion (IsOldOrNamed s.visible) (with_part first s part).visible
+pub piece_adds : (first : Bool) (s : InstanceState) (part : PartValue) →
+    AllByRecursion (IsOldOrNamed s.visible) (with_part first s part).visible
 piece_adds first s part = go (part_outcome first s.quota part s.uploads) where
   go : (r : Result Unit UploadError) → AllByRecursion (IsOldOrNamed s.visible) (with_piece s.moment part r (write_state s)).visible
   go (Ok u) = old_ones s.visible

@@ -19,7 +19,7 @@ use crate::trees::get_pages;
 use blob_pool::Pool;
 use bytestream::query;
 use cas_service::{CallError, batch_read, batch_update, find_missing};
-use instance_view::View;
+use instance_view::{View, Work};
 use rpc::Method;
 use std::alloc::Global;
 
@@ -35,7 +35,9 @@ fn find_blobs(
         CarriesTexts FindMissingBlobs settings.now (visible_in p parent.now) message.now
         p contents.old result p contents.new }
 {
-    let outcome = find_missing(alloc, &settings.name, &mut contents.view, parent, message);
+    let mut work = Work::new();
+    let view = &mut contents.view;
+    let outcome = find_missing(alloc, &settings.name, view, parent, message, &mut work);
     one_message(outcome)
 }
 

@@ -12,14 +12,16 @@ use Rattle.instance_view.specs.Sight.{SightValue, seen_in}
 lookup-some : (t : Digest → Bool) (as' bs : List Blob) (x : List ℕ) → lookup t as' ≡ Some x → lookup t (as' ++ bs) ≡ Some x
 lookup-some t [] bs x is = cc
 lookup-some t (a ∷ as') bs x is = at (t a.0) refl is (λ later. lookup-some t as' bs x later) where
-  at : (c : Bool) → t a.0 ≡ c → cond c (Some a.1) (lookup t as') ≡ Some x → (lookup t as' ≡ Some x → lookup t (as' ++ bs) ≡ Some x) → lookup t (a ∷ as' ++ bs) ≡ Some x
+  at : (c : Bool) → t a.0 ≡ c → cond c (Some a.1) (lookup t as') ≡ Some x → (lookup t as' ≡ Some x → lookup t (as' ++ bs) ≡ Some x) →
+      lookup t (a ∷ as' ++ bs) ≡ Some x
   at true c is ih = rw c is
   at false c is ih = rw c (ih is)
 
 lookup-none : (t : Digest → Bool) (as' bs : List Blob) → lookup t as' ≡ None → lookup t (as' ++ bs) ≡ lookup t bs
 lookup-none t [] bs is = refl
 lookup-none t (a ∷ as') bs is = at (t a.0) refl is (λ later. lookup-none t as' bs later) where
-  at : (c : Bool) → t a.0 ≡ c → cond c (Some a.1) (lookup t as') ≡ None → (lookup t as' ≡ None → lookup t (as' ++ bs) ≡ lookup t bs) → lookup t (a ∷ as' ++ bs) ≡ lookup t bs
+  at : (c : Bool) → t a.0 ≡ c → cond c (Some a.1) (lookup t as') ≡ None → (lookup t as' ≡ None → lookup t (as' ++ bs) ≡ lookup t bs) →
+      lookup t (a ∷ as' ++ bs) ≡ lookup t bs
   at true c is ih = absurd (cc)
   at false c is ih = rw c (ih is)
 
@@ -33,7 +35,8 @@ own_text d as' bs x is = at (is_empty_digest d) is where
 -- and else what the other has
 pub parents_text : (d : Digest) (as' bs : List Blob) → visible_text d as' ≡ None → visible_text d (as' ++ bs) ≡ visible_text d bs
 parents_text d as' bs is = at (is_empty_digest d) is where
-  at : (c : Bool) → cond c (Some []) (lookup (same_digest d) as') ≡ None → cond c (Some []) (lookup (same_digest d) (as' ++ bs)) ≡ cond c (Some []) (lookup (same_digest d) bs)
+  at : (c : Bool) → cond c (Some []) (lookup (same_digest d) as') ≡ None →
+      cond c (Some []) (lookup (same_digest d) (as' ++ bs)) ≡ cond c (Some []) (lookup (same_digest d) bs)
   at true is = refl
   at false is = lookup-none (same_digest d) as' bs is
 

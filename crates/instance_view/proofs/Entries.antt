@@ -16,7 +16,8 @@ text_of p o = option_map (text_at p) o
 pub lookup-shown : (p : Slots) (t : Digest → Bool) (v : List ViewEntry) → lookup t (blobs_in p v) ≡ option_map (text_at p) (lookup t v)
 lookup-shown p t [] = refl
 lookup-shown p t (e ∷ v) = go (t e.0) refl (lookup-shown p t v) where
-  go : (b : Bool) → t e.0 ≡ b → lookup t (blobs_in p v) ≡ option_map (text_at p) (lookup t v) → lookup t (blobs_in p (e ∷ v)) ≡ option_map (text_at p) (lookup t (e ∷ v))
+  go : (b : Bool) → t e.0 ≡ b → lookup t (blobs_in p v) ≡ option_map (text_at p) (lookup t v) →
+      lookup t (blobs_in p (e ∷ v)) ≡ option_map (text_at p) (lookup t (e ∷ v))
   go true is ih = rw is refl
   go false is ih = rw is ih
 
@@ -26,24 +27,29 @@ is_some-shown p t v = go (lookup t v) (lookup-shown p t v) where
   go None is = rw is refl
   go (Some text) is = rw is refl
 
-lookup_entry-shown : (p : Slots) (t : Digest → Bool) (v : List ViewEntry) → lookup_entry t (blobs_in p v) ≡ option_map (blob_in p) (lookup_entry t v)
+lookup_entry-shown : (p : Slots) (t : Digest → Bool) (v : List ViewEntry) →
+    lookup_entry t (blobs_in p v) ≡ option_map (blob_in p) (lookup_entry t v)
 lookup_entry-shown p t [] = refl
 lookup_entry-shown p t (e ∷ v) = go (t e.0) refl (lookup_entry-shown p t v) where
-  go : (b : Bool) → t e.0 ≡ b → lookup_entry t (blobs_in p v) ≡ option_map (blob_in p) (lookup_entry t v) → lookup_entry t (blobs_in p (e ∷ v)) ≡ option_map (blob_in p) (lookup_entry t (e ∷ v))
+  go : (b : Bool) → t e.0 ≡ b → lookup_entry t (blobs_in p v) ≡ option_map (blob_in p) (lookup_entry t v) →
+      lookup_entry t (blobs_in p (e ∷ v)) ≡ option_map (blob_in p) (lookup_entry t (e ∷ v))
   go true is ih = rw is refl
   go false is ih = rw is ih
 
 remove_entry-shown : (p : Slots) (t : Digest → Bool) (v : List ViewEntry) → remove_entry t (blobs_in p v) ≡ blobs_in p (remove_entry t v)
 remove_entry-shown p t [] = refl
 remove_entry-shown p t (e ∷ v) = go (t e.0) refl (remove_entry-shown p t v) where
-  go : (b : Bool) → t e.0 ≡ b → remove_entry t (blobs_in p v) ≡ blobs_in p (remove_entry t v) → remove_entry t (blobs_in p (e ∷ v)) ≡ blobs_in p (remove_entry t (e ∷ v))
+  go : (b : Bool) → t e.0 ≡ b → remove_entry t (blobs_in p v) ≡ blobs_in p (remove_entry t v) →
+      remove_entry t (blobs_in p (e ∷ v)) ≡ blobs_in p (remove_entry t (e ∷ v))
   go true is ih = rw is refl
   go false is ih = rw is (ap (λ (bs : List Blob). blob_in p e ∷ bs) ih)
 
-pub with_match_first-shown : (p : Slots) (t : Digest → Bool) (v : List ViewEntry) → blobs_in p (with_match_first t v) ≡ with_match_first t (blobs_in p v)
+pub with_match_first-shown : (p : Slots) (t : Digest → Bool) (v : List ViewEntry) →
+    blobs_in p (with_match_first t v) ≡ with_match_first t (blobs_in p v)
 with_match_first-shown p t v = go (lookup_entry t v) refl where
   go : (o : Option ViewEntry) → lookup_entry t v ≡ o → blobs_in p (with_match_first t v) ≡ with_match_first t (blobs_in p v)
-  go None is = let there : lookup_entry t (blobs_in p v) ≡ None = lookup_entry-shown p t v ∙ ap (option_map (blob_in p)) is in rw (there, is) refl
+  go None is = let there : lookup_entry t (blobs_in p v) ≡ None = lookup_entry-shown p t v ∙ ap (option_map (blob_in p)) is in
+      rw (there, is) refl
   go (Some e) is =
       let there : lookup_entry t (blobs_in p v) ≡ Some (blob_in p e) = lookup_entry-shown p t v ∙ ap (option_map (blob_in p)) is in
       let rest = remove_entry-shown p t v in
@@ -59,7 +65,9 @@ sum-with_match_first f t v = go (lookup_entry t v) refl where
   without : (v : List ViewEntry) (e : ViewEntry) → lookup_entry t v ≡ Some e → f e + sum_of f (remove_entry t v) ≡ sum_of f v
   without [] e is = cc
   without (x ∷ v) e is = at (t x.0) refl is (λ later. without v e later) where
-    at : (c : Bool) → t x.0 ≡ c → cond c (Some x) (lookup_entry t v) ≡ Some e → (lookup_entry t v ≡ Some e → f e + sum_of f (remove_entry t v) ≡ sum_of f v) → f e + sum_of f (remove_entry t (x ∷ v)) ≡ sum_of f (x ∷ v)
+    at : (c : Bool) → t x.0 ≡ c → cond c (Some x) (lookup_entry t v) ≡ Some e →
+        (lookup_entry t v ≡ Some e → f e + sum_of f (remove_entry t v) ≡ sum_of f v) →
+        f e + sum_of f (remove_entry t (x ∷ v)) ≡ sum_of f (x ∷ v)
     at true c is ih = let same : x ≡ e = cc in rw (c, same) refl
     at false c is ih = let rest = ih is in rw c (omega (arith, rest))
 
@@ -87,14 +95,16 @@ unfound t v h = rw (none v h) refl where
   none : (v : List ViewEntry) → is_some (lookup t v) ≡ false → lookup_entry t v ≡ None
   none [] h = refl
   none (e ∷ v) h = go (t e.0) refl h (λ later. none v later) where
-    go : (c : Bool) → t e.0 ≡ c → is_some (cond c (Some e.1) (lookup t v)) ≡ false → (is_some (lookup t v) ≡ false → lookup_entry t v ≡ None) → lookup_entry t (e ∷ v) ≡ None
+    go : (c : Bool) → t e.0 ≡ c → is_some (cond c (Some e.1) (lookup t v)) ≡ false →
+        (is_some (lookup t v) ≡ false → lookup_entry t v ≡ None) → lookup_entry t (e ∷ v) ≡ None
     go true is h ih = absurd (cc)
     go false is h ih = rw is (ih h)
 
 pub absent_pair : (t : Digest → Bool) (v : List ViewEntry) → lookup t v ≡ None → lookup_entry t v ≡ None
 absent_pair t [] h = refl
 absent_pair t (e ∷ v) h = go (t e.0) refl h (λ later. absent_pair t v later) where
-  go : (c : Bool) → t e.0 ≡ c → cond c (Some e.1) (lookup t v) ≡ None → (lookup t v ≡ None → lookup_entry t v ≡ None) → lookup_entry t (e ∷ v) ≡ None
+  go : (c : Bool) → t e.0 ≡ c → cond c (Some e.1) (lookup t v) ≡ None → (lookup t v ≡ None → lookup_entry t v ≡ None) →
+      lookup_entry t (e ∷ v) ≡ None
   go true is h ih = absurd (cc)
   go false is h ih = rw is (ih h)
 
@@ -104,7 +114,8 @@ take_fits (suc n) [] h = refl
 take_fits zero (x ∷ xs) h = absurd (omega arith)
 take_fits {X = X} (suc n) (x ∷ xs) h = ap (λ (ys : List X). x ∷ ys) (take_fits n xs (omega arith))
 
-pub put_new : (d : Digest) (k : ℕ) (c : LruCache Digest ℕ) → lookup (same_digest d) c.entries ≡ None → length c.entries < c.cap → put_entries same_digest c d k ≡ (d, k) ∷ c.entries
+pub put_new : (d : Digest) (k : ℕ) (c : LruCache Digest ℕ) → lookup (same_digest d) c.entries ≡ None → length c.entries < c.cap →
+    put_entries same_digest c d k ≡ (d, k) ∷ c.entries
 put_new d k c absent few =
     let none = absent_pair (same_digest d) c.entries absent in
     rw none (ap (λ (v : List ViewEntry). (d, k) ∷ v) (take_fits (c.cap - 1) c.entries (omega (arith, few))))
@@ -112,7 +123,8 @@ put_new d k c absent few =
 -- what is seen nowhere is not there
 pub unseen_absent : (d : Digest) (v : List ViewEntry) → visible_text d (blobs_in [] v) ≡ None → lookup (same_digest d) v ≡ None
 unseen_absent d v h = go (is_empty_digest d) (lookup (same_digest d) v) refl (lookup-shown [] (same_digest d) v) h where
-  go : (t : Bool) (o : Option ℕ) → is_empty_digest d ≡ t → lookup (same_digest d) (blobs_in [] v) ≡ option_map (text_at []) o → cond t (Some []) (lookup (same_digest d) (blobs_in [] v)) ≡ None → o ≡ None
+  go : (t : Bool) (o : Option ℕ) → is_empty_digest d ≡ t → lookup (same_digest d) (blobs_in [] v) ≡ option_map (text_at []) o →
+      cond t (Some []) (lookup (same_digest d) (blobs_in [] v)) ≡ None → o ≡ None
   go true o is at h = absurd (cc)
   go false None is at h = refl
   go false (Some k) is at h = absurd (cc)
@@ -121,7 +133,8 @@ unseen_absent d v h = go (is_empty_digest d) (lookup (same_digest d) v) refl (lo
 pub found_holds : (t : Digest → Bool) (v : List ViewEntry) (s : ℕ) → lookup t v ≡ Some s → (k : ℕ) → one_at s k ≤ entry_holders v k
 found_holds t [] s is k = cc
 found_holds t (e ∷ v) s is k = go (t e.0) refl is (λ later. found_holds t v s later k) where
-  go : (b : Bool) → t e.0 ≡ b → cond b (Some e.1) (lookup t v) ≡ Some s → (lookup t v ≡ Some s → one_at s k ≤ entry_holders v k) → one_at s k ≤ entry_holders (e ∷ v) k
+  go : (b : Bool) → t e.0 ≡ b → cond b (Some e.1) (lookup t v) ≡ Some s → (lookup t v ≡ Some s → one_at s k ≤ entry_holders v k) →
+      one_at s k ≤ entry_holders (e ∷ v) k
   go true test is ih = let same : e.1 ≡ s = cc in subst (λ (n : ℕ). one_at n k ≤ entry_holders (e ∷ v) k) same (omega arith)
   go false test is ih = let rest = ih is in omega (arith, rest)
 
@@ -169,19 +182,22 @@ popped_sizes v None is = rw (last_none v (sym is)) refl
 popped_sizes v (Some e) is = sym (ap sizes (last_some v e (sym is)) ∙ sizes-push (take (length v - 1) v) e)
 
 -- to write the value that stands there changes nothing of a use
-pub rewritten : (t : Digest → Bool) (v : List ViewEntry) (w : ℕ) → lookup t v ≡ Some w → set_value t (with_match_first t v) w ≡ with_match_first t v
+pub rewritten : (t : Digest → Bool) (v : List ViewEntry) (w : ℕ) → lookup t v ≡ Some w →
+    set_value t (with_match_first t v) w ≡ with_match_first t v
 rewritten t v w there = go (lookup_entry t v) refl where
   finds : (v : List ViewEntry) (e : ViewEntry) → lookup_entry t v ≡ Some e → (t e.0 ≡ true) × (lookup t v ≡ Some e.1)
   finds [] e is = cc
   finds (x ∷ v) e is = at (t x.0) refl is (λ later. finds v e later) where
-    at : (c : Bool) → t x.0 ≡ c → cond c (Some x) (lookup_entry t v) ≡ Some e → (lookup_entry t v ≡ Some e → (t e.0 ≡ true) × (lookup t v ≡ Some e.1)) → (t e.0 ≡ true) × (lookup t (x ∷ v) ≡ Some e.1)
+    at : (c : Bool) → t x.0 ≡ c → cond c (Some x) (lookup_entry t v) ≡ Some e →
+        (lookup_entry t v ≡ Some e → (t e.0 ≡ true) × (lookup t v ≡ Some e.1)) → (t e.0 ≡ true) × (lookup t (x ∷ v) ≡ Some e.1)
     at true c is ih = let same : x ≡ e = cc in (sym (ap (λ (y : ViewEntry). t y.0) same) ∙ c, rw c (ap (λ (y : ViewEntry). Some y.1) same))
     at false c is ih = let rest = ih is in (rest.0, rw c rest.1)
 
   misses : (v : List ViewEntry) → lookup_entry t v ≡ None → lookup t v ≡ None
   misses [] is = refl
   misses (x ∷ v) is = at (t x.0) refl is (λ later. misses v later) where
-    at : (c : Bool) → t x.0 ≡ c → cond c (Some x) (lookup_entry t v) ≡ None → (lookup_entry t v ≡ None → lookup t v ≡ None) → lookup t (x ∷ v) ≡ None
+    at : (c : Bool) → t x.0 ≡ c → cond c (Some x) (lookup_entry t v) ≡ None → (lookup_entry t v ≡ None → lookup t v ≡ None) →
+        lookup t (x ∷ v) ≡ None
     at true c is ih = cc
     at false c is ih = rw c (ih is)
 

@@ -20,7 +20,8 @@ holders-few [] k = omega arith
 holders-few (e ∷ v) k = let ih = holders-few v k in let one = one_at-small e.1 k in omega (arith, ih, one)
 
 -- what is blobs_in is told by the texts of the slots that are held
-pub shown_same : (p q : Slots) (v : List ViewEntry) → ((k : ℕ) → 0 < entry_holders v k → text_at q k ≡ text_at p k) → blobs_in q v ≡ blobs_in p v
+pub shown_same : (p q : Slots) (v : List ViewEntry) → ((k : ℕ) → 0 < entry_holders v k → text_at q k ≡ text_at p k) →
+    blobs_in q v ≡ blobs_in p v
 shown_same p q [] h = refl
 shown_same p q (e ∷ v) h =
     let own : 0 < entry_holders (e ∷ v) e.1 = let one = one_at-own e.1 in omega (arith, one) in
@@ -29,7 +30,8 @@ shown_same p q (e ∷ v) h =
     cc
 
 -- others' doings change nothing of what is blobs_in
-pub shown_apart : (p q : Slots) (v : List ViewEntry) (h i : ℕ → ℕ) → Moves p q h i → ((k : ℕ) → h k + entry_holders v k ≤ count_at p k) → blobs_in q v ≡ blobs_in p v
+pub shown_apart : (p q : Slots) (v : List ViewEntry) (h i : ℕ → ℕ) → Moves p q h i → ((k : ℕ) → h k + entry_holders v k ≤ count_at p k) →
+    blobs_in q v ≡ blobs_in p v
 shown_apart p q v h i m apart = shown_same p q v (λ k held. m.texts k (omega (arith, apart k)))
 
 map-append : (p : Slots) (v w : List ViewEntry) → blobs_in p (v ++ w) ≡ blobs_in p v ++ blobs_in p w
@@ -45,33 +47,41 @@ without_push (x ∷ y ∷ bs) b =
 
 -- ---- an entry goes
 
-pub dropped_held : (p : Slots) (old new : List ViewEntry) (e : ViewEntry) → AreHeld p (entry_holders old) → old ≡ new ++ e ∷ [] → 0 < count_at p e.1
+pub dropped_held : (p : Slots) (old new : List ViewEntry) (e : ViewEntry) → AreHeld p (entry_holders old) → old ≡ new ++ e ∷ [] →
+    0 < count_at p e.1
 dropped_held p old new e held is =
     let there = held.counted e.1 in
-    let push : entry_holders old e.1 ≡ entry_holders new e.1 + one_at e.1 e.1 = ap (λ (v : List ViewEntry). entry_holders v e.1) is ∙ holders-push new e e.1 in
+    let push : entry_holders old e.1 ≡ entry_holders new e.1 + one_at e.1 e.1 =
+    ap (λ (v : List ViewEntry). entry_holders v e.1) is ∙ holders-push new e e.1 in
     let own = one_at-own e.1 in
     omega (arith, there, push, own)
 
-pub dropped_moves : (p q : Slots) (old new : List ViewEntry) (e : ViewEntry) → old ≡ new ++ e ∷ [] → Moves p q (one_at e.1) no_holders → Moves p q (entry_holders old) (entry_holders new)
+pub dropped_moves : (p q : Slots) (old new : List ViewEntry) (e : ViewEntry) → old ≡ new ++ e ∷ [] → Moves p q (one_at e.1) no_holders →
+    Moves p q (entry_holders old) (entry_holders new)
 dropped_moves p q old new e is m =
-    let push : (k : ℕ) → entry_holders old k ≡ entry_holders new k + one_at e.1 k = λ k. ap (λ (v : List ViewEntry). entry_holders v k) is ∙ holders-push new e k in
+    let push : (k : ℕ) → entry_holders old k ≡ entry_holders new k + one_at e.1 k =
+    λ k. ap (λ (v : List ViewEntry). entry_holders v k) is ∙ holders-push new e k in
     record {
       counts = λ k. omega (arith, m.counts k, push k);
       texts = λ k held. m.texts k (omega (arith, push k));
     }
 
-pub dropped_shown : (p q : Slots) (old new : List ViewEntry) (e : ViewEntry) → AreHeld p (entry_holders old) → old ≡ new ++ e ∷ [] → Moves p q (one_at e.1) no_holders → blobs_in q new ≡ without_oldest (blobs_in p old)
+pub dropped_shown : (p q : Slots) (old new : List ViewEntry) (e : ViewEntry) → AreHeld p (entry_holders old) → old ≡ new ++ e ∷ [] →
+    Moves p q (one_at e.1) no_holders → blobs_in q new ≡ without_oldest (blobs_in p old)
 dropped_shown p q old new e held is m =
-    let push : (k : ℕ) → entry_holders old k ≡ entry_holders new k + one_at e.1 k = λ k. ap (λ (v : List ViewEntry). entry_holders v k) is ∙ holders-push new e k in
+    let push : (k : ℕ) → entry_holders old k ≡ entry_holders new k + one_at e.1 k =
+    λ k. ap (λ (v : List ViewEntry). entry_holders v k) is ∙ holders-push new e k in
     let same = shown_apart p q new (one_at e.1) no_holders m (λ k. omega (arith, held.counted k, push k)) in
-    same ∙ sym (ap (λ (v : List ViewEntry). without_oldest (blobs_in p v)) is ∙ ap without_oldest (map-append p new (e ∷ [])) ∙ without_push (blobs_in p new) (blob_in p e))
+    same ∙ sym (ap (λ (v : List ViewEntry). without_oldest (blobs_in p v)) is ∙ ap without_oldest (map-append p new (e ∷ []))
+    ∙ without_push (blobs_in p new) (blob_in p e))
 
 -- ---- an entry comes
 
 pub room_for_one : (p : Slots) (v : List ViewEntry) → AreHeld p (entry_holders v) → length v ≤ 2 ^ 31 → HasRoom p
 room_for_one p v held few = λ k. let most = holders-few v k in omega (arith, held.others k, most)
 
-pub added_shown : (p q : Slots) (v w : List ViewEntry) (d : Digest) (k : ℕ) (t : List ℕ) → AreHeld p (entry_holders v) → w ≡ (d, k) ∷ v → text_at q k ≡ t → Moves p q no_holders (one_at k) → blobs_in q w ≡ (d, t) ∷ blobs_in p v
+pub added_shown : (p q : Slots) (v w : List ViewEntry) (d : Digest) (k : ℕ) (t : List ℕ) → AreHeld p (entry_holders v) → w ≡ (d, k) ∷ v →
+    text_at q k ≡ t → Moves p q no_holders (one_at k) → blobs_in q w ≡ (d, t) ∷ blobs_in p v
 added_shown p q v w d k t held is text m =
     let same = shown_apart p q v no_holders (one_at k) m (λ j. omega (arith, held.counted j)) in
     ap (blobs_in q) is

@@ -3,8 +3,12 @@
 
 mod dropped;
 mod sight;
+mod texts;
 mod view;
+mod work;
 
 pub use dropped::Dropped;
-pub use sight::Sight;
+pub use sight::{CountedSight, Sight};
+pub use texts::{Finds, Texts};
 pub use view::{MOST_LIMIT, Seen, View, copy_of};
+pub use work::Work;

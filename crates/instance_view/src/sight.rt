@@ -5,8 +5,10 @@ ghost use Rattle.blob_pool.specs.Slots.{Slots};
 ghost use Rattle.instance_view.specs.Visible.{visible_text};
 ghost use Rattle.instance_view.specs.Shown.{visible_in, holders, text_seen, holders_seen};
 ghost use Rattle.instance_view.specs.Sight.{SightValue, seen_in, sight_holders};
+ghost use Rattle.instance_view.specs.Texts.{WorkValue, counted};
 
 use crate::view::{Seen, View};
+use crate::work::Work;
 use digest::Digest;
 use std::marker::Model;
 
@@ -47,6 +49,44 @@ impl<'a> Sight<'a> {
         ensures { (p : Slots) → result ≡ is_some (visible_text digest.now (seen_in p self.now)) }
     {
         self.get(digest).is_some()
+    }
+}
+
+/// What an instance sees, where each look is counted. Its field is this module's own: whoever has
+/// one of these, and nothing else to look in, looks by `contains` alone.
+#[derive(Drop)]
+pub struct CountedSight<'a> {
+    sight: Sight<'a>,
+}
+
+impl<'a> Model for CountedSight<'a> {
+    ghost use Rattle.instance_view.specs.Sight.{SightValue};
+
+    ghost Value = { SightValue };
+
+    ghost view = { λ s. s.sight };
+}
+
+impl<'a> CountedSight<'a> {
+    /// What an instance with these texts sees, whose parent has those.
+    pub fn new(own: &'a View, parent: &'a View) -> CountedSight<'a>
+        ensures { result ≡ record { own = own.now; parent = parent.now } }
+    {
+        CountedSight {
+            sight: Sight::new(own, parent),
+        }
+    }
+
+    /// Whether there is a text of the digest. This is one look, whichever of the two has it.
+    pub fn contains(&self, work: &mut Work, digest: &Digest) -> bool
+        ensures there { (p : Slots) →
+            result ≡ is_some (visible_text digest.now (seen_in p self.now)) }
+        ensures counted { work.new.looks ≡ counted work.old.looks 1 }
+        ensures looks { work.new.looks ≤ work.old.looks + 1 }
+        ensures bytes { work.new.bytes ≡ work.old.bytes }
+    {
+        work.look();
+        self.sight.contains(digest)
     }
 }
 

@@ -25,7 +25,8 @@ apart-none : (ns : List ℕ) → AllByRecursion (λ n. AllByRecursion (λ e. n �
 apart-none [] = tt
 apart-none (n ∷ ns) = (tt, apart-none ns)
 
-apart-one : (e : ℕ) (es ns : List ℕ) → AllByRecursion (λ n. n ≢ e) ns → AllByRecursion (λ n. AllByRecursion (λ m. n ≢ m) es) ns → AllByRecursion (λ n. AllByRecursion (λ m. n ≢ m) (e ∷ es)) ns
+apart-one : (e : ℕ) (es ns : List ℕ) → AllByRecursion (λ n. n ≢ e) ns → AllByRecursion (λ n. AllByRecursion (λ m. n ≢ m) es) ns →
+    AllByRecursion (λ n. AllByRecursion (λ m. n ≢ m) (e ∷ es)) ns
 apart-one e es [] a b = tt
 apart-one e es (n ∷ ns) a b = ((a.0, b.0), apart-one e es ns a.1 b.1)
 
@@ -34,7 +35,8 @@ apart-other ns [] h = apart-none ns
 apart-other ns (e ∷ es) h = apart-one e es ns h.0 (apart-other ns es h.1)
 
 module _ {J : Type 0} where
-  pub given-from : (cs : List (JobChange J)) (jobs : Jobs J) → numbers_given cs jobs ≡ consecutive jobs.next (length (numbers_given cs jobs))
+  pub given-from : (cs : List (JobChange J)) (jobs : Jobs J) →
+      numbers_given cs jobs ≡ consecutive jobs.next (length (numbers_given cs jobs))
   given-from [] jobs = refl
   given-from (pushes job ∷ cs) jobs = ap (λ (ns : List ℕ). jobs.next ∷ ns) (given-from cs (jobs_after (pushes job) jobs))
   given-from (does operation ∷ cs) jobs = ap (λ (ns : List ℕ). jobs.next ∷ ns) (given-from cs (jobs_after (does operation) jobs))
@@ -58,5 +60,7 @@ module _ {J : Type 0} where
       let same : w.0 ≡ n = cc in
       (omega (arith, same), all-weaker (λ m. w.0 < m) (λ m. n ≤ m) (λ m less. omega (arith, same)) (keys_of ws) h.0)
 
-  pub least-starts : (n : ℕ) (jobs : Jobs J) → AreJobs jobs → first_number jobs.waiting ≡ Some n → AllByRecursion (λ m. n ≤ m) (keys_of jobs.waiting)
-  least-starts n jobs h is = least-first n jobs.waiting is (related-back (λ a b. a < b) (keys_of jobs.running) (keys_of jobs.waiting) h.rising)
+  pub least-starts : (n : ℕ) (jobs : Jobs J) → AreJobs jobs → first_number jobs.waiting ≡ Some n →
+      AllByRecursion (λ m. n ≤ m) (keys_of jobs.waiting)
+  least-starts n jobs h is = least-first n jobs.waiting is
+      (related-back (λ a b. a < b) (keys_of jobs.running) (keys_of jobs.waiting) h.rising)

@@ -22,7 +22,8 @@ module _ {A : Type 0} where
   all-drop P (suc k) [] h = tt
   all-drop P (suc k) (x ∷ xs) h = all-drop P k xs h.1
 
-  pub related-append : (R : A → A → Type 0) (xs ys : List A) → AreRelated R xs → AreRelated R ys → AllByRecursion (λ x. AllByRecursion (R x) ys) xs → AreRelated R (xs ++ ys)
+  pub related-append : (R : A → A → Type 0) (xs ys : List A) → AreRelated R xs → AreRelated R ys →
+      AllByRecursion (λ x. AllByRecursion (R x) ys) xs → AreRelated R (xs ++ ys)
   related-append R [] ys h k m = k
   related-append R (x ∷ xs) ys h k m = (all-append (R x) xs ys h.0 m.0, related-append R xs ys h.1 k m.1)
 
@@ -38,14 +39,17 @@ module _ {A : Type 0} where
 -- ---- numbers of entries, without the first of a number
 
 module _ {A : Type 0} where
-  pub all-without : (P : ℕ → Type 0) (t : ℕ → Bool) (es : List (ℕ × A)) (ys : List ℕ) → AllByRecursion P (keys_of es ++ ys) → AllByRecursion P (keys_of (remove_entry t es) ++ ys)
+  pub all-without : (P : ℕ → Type 0) (t : ℕ → Bool) (es : List (ℕ × A)) (ys : List ℕ) → AllByRecursion P (keys_of es ++ ys) →
+      AllByRecursion P (keys_of (remove_entry t es) ++ ys)
   all-without P t [] ys h = h
   all-without P t (e ∷ es) ys h = go (t e.0) refl (all-without P t es ys h.1) where
-    go : (b : Bool) → t e.0 ≡ b → AllByRecursion P (keys_of (remove_entry t es) ++ ys) → AllByRecursion P (keys_of (remove_entry t (e ∷ es)) ++ ys)
+    go : (b : Bool) → t e.0 ≡ b → AllByRecursion P (keys_of (remove_entry t es) ++ ys) →
+        AllByRecursion P (keys_of (remove_entry t (e ∷ es)) ++ ys)
     go true is later = rw is h.1
     go false is later = rw is (h.0, later)
 
-  pub related-without : (R : ℕ → ℕ → Type 0) (t : ℕ → Bool) (es : List (ℕ × A)) (ys : List ℕ) → AreRelated R (keys_of es ++ ys) → AreRelated R (keys_of (remove_entry t es) ++ ys)
+  pub related-without : (R : ℕ → ℕ → Type 0) (t : ℕ → Bool) (es : List (ℕ × A)) (ys : List ℕ) → AreRelated R (keys_of es ++ ys) →
+      AreRelated R (keys_of (remove_entry t es) ++ ys)
   related-without R t [] ys h = h
   related-without R t (e ∷ es) ys h = go (t e.0) refl (related-without R t es ys h.1) where
     go : (b : Bool) → t e.0 ≡ b → AreRelated R (keys_of (remove_entry t es) ++ ys) → AreRelated R (keys_of (remove_entry t (e ∷ es)) ++ ys)
@@ -53,7 +57,8 @@ module _ {A : Type 0} where
     go false is later = rw is (all-without (R e.0) t es ys h.0, later)
 
   -- what holds of all numbers holds of one that is found
-  pub found-among : (P : ℕ → Type 0) (n : ℕ) (x : A) (es : List (ℕ × A)) (ys : List ℕ) → lookup (same_number n) es ≡ Some x → AllByRecursion P (keys_of es ++ ys) → P n
+  pub found-among : (P : ℕ → Type 0) (n : ℕ) (x : A) (es : List (ℕ × A)) (ys : List ℕ) → lookup (same_number n) es ≡ Some x →
+      AllByRecursion P (keys_of es ++ ys) → P n
   found-among P n x [] ys is h = absurd (let no : None ≡ Some x = is in cc)
   found-among P n x (e ∷ es) ys is h = go (same_number n e.0) refl (λ later. found-among P n x es ys later h.1) where
     go : (b : Bool) → same_number n e.0 ≡ b → (lookup (same_number n) es ≡ Some x → P n) → P n
@@ -61,10 +66,12 @@ module _ {A : Type 0} where
     go false here later = later (rw here at is)
 
   -- of numbers in rising order none is left of one that is taken out
-  pub none-left : (n : ℕ) (x : A) (es : List (ℕ × A)) (ys : List ℕ) → lookup (same_number n) es ≡ Some x → AreRising (keys_of es ++ ys) → IsNone (keys_of (remove_entry (same_number n) es) ++ ys) n
+  pub none-left : (n : ℕ) (x : A) (es : List (ℕ × A)) (ys : List ℕ) → lookup (same_number n) es ≡ Some x → AreRising (keys_of es ++ ys) →
+      IsNone (keys_of (remove_entry (same_number n) es) ++ ys) n
   none-left n x [] ys is h = absurd (let no : None ≡ Some x = is in cc)
   none-left n x (e ∷ es) ys is h = go (same_number n e.0) refl (λ later. none-left n x es ys later h.1) where
-    go : (b : Bool) → same_number n e.0 ≡ b → (lookup (same_number n) es ≡ Some x → IsNone (keys_of (remove_entry (same_number n) es) ++ ys) n) → IsNone (keys_of (remove_entry (same_number n) (e ∷ es)) ++ ys) n
+    go : (b : Bool) → same_number n e.0 ≡ b → (lookup (same_number n) es ≡ Some x →
+        IsNone (keys_of (remove_entry (same_number n) es) ++ ys) n) → IsNone (keys_of (remove_entry (same_number n) (e ∷ es)) ++ ys) n
     go true here later =
         let same : n ≡ e.0 = eqb-true n e.0 here in
         rw here (all-weaker (λ m. e.0 < m) (λ m. m ≢ n) (λ m above is. omega arith) (keys_of es ++ ys) h.0)

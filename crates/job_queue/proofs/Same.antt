@@ -52,17 +52,20 @@ module _ {A : Type 0} where
   back-all P (e ∷ es) ys h = back-all P es ys h.1
 
   -- a lookup behind others
-  lookup-behind : (n : ℕ) (es : List (ℕ × A)) (e : ℕ × A) → same_number n e.0 ≡ false → lookup (same_number n) (es ++ e ∷ []) ≡ lookup (same_number n) es
+  lookup-behind : (n : ℕ) (es : List (ℕ × A)) (e : ℕ × A) → same_number n e.0 ≡ false →
+      lookup (same_number n) (es ++ e ∷ []) ≡ lookup (same_number n) es
   lookup-behind n [] e other = rw other refl
   lookup-behind n (x ∷ es) e other = go (same_number n x.0) refl (lookup-behind n es e other) where
-    go : (b : Bool) → same_number n x.0 ≡ b → lookup (same_number n) (es ++ e ∷ []) ≡ lookup (same_number n) es → lookup (same_number n) (x ∷ es ++ e ∷ []) ≡ lookup (same_number n) (x ∷ es)
+    go : (b : Bool) → same_number n x.0 ≡ b → lookup (same_number n) (es ++ e ∷ []) ≡ lookup (same_number n) es →
+        lookup (same_number n) (x ∷ es ++ e ∷ []) ≡ lookup (same_number n) (x ∷ es)
     go true same later = rw same refl
     go false apart later = rw apart later
 
   lookup-last : (n : ℕ) (es : List (ℕ × A)) (x : A) → lookup (same_number n) es ≡ None → lookup (same_number n) (es ++ (n, x) ∷ []) ≡ Some x
   lookup-last n [] x none = let same : same_number n n ≡ true = eq-eqb n n refl in rw same refl
   lookup-last n (e ∷ es) x none = go (same_number n e.0) refl (lookup-last n es x) where
-    go : (b : Bool) → same_number n e.0 ≡ b → (lookup (same_number n) es ≡ None → lookup (same_number n) (es ++ (n, x) ∷ []) ≡ Some x) → lookup (same_number n) (e ∷ es ++ (n, x) ∷ []) ≡ Some x
+    go : (b : Bool) → same_number n e.0 ≡ b → (lookup (same_number n) es ≡ None → lookup (same_number n) (es ++ (n, x) ∷ []) ≡ Some x) →
+        lookup (same_number n) (e ∷ es ++ (n, x) ∷ []) ≡ Some x
     go true same later = absurd (let no : Some e.1 ≡ None = rw same at none in cc)
     go false apart later = rw apart (later (rw apart at none))
 
@@ -72,25 +75,31 @@ module _ {A : Type 0} where
       let other : same_number n e.0 ≡ false = ne_eqb n e.0 (λ same. let less = h.0 in omega arith) in
       rw other (lookup-none n es h.1)
 
-  lookup-without : (n m : ℕ) (es : List (ℕ × A)) → same_number n m ≡ false → lookup (same_number n) (remove_entry (same_number m) es) ≡ lookup (same_number n) es
+  lookup-without : (n m : ℕ) (es : List (ℕ × A)) → same_number n m ≡ false →
+      lookup (same_number n) (remove_entry (same_number m) es) ≡ lookup (same_number n) es
   lookup-without n m [] apart = refl
   lookup-without n m (e ∷ es) apart = go (same_number m e.0) (same_number n e.0) refl refl (lookup-without n m es apart) where
-    go : (b c : Bool) → same_number m e.0 ≡ b → same_number n e.0 ≡ c → lookup (same_number n) (remove_entry (same_number m) es) ≡ lookup (same_number n) es → lookup (same_number n) (remove_entry (same_number m) (e ∷ es)) ≡ lookup (same_number n) (e ∷ es)
+    go : (b c : Bool) → same_number m e.0 ≡ b → same_number n e.0 ≡ c →
+        lookup (same_number n) (remove_entry (same_number m) es) ≡ lookup (same_number n) es →
+        lookup (same_number n) (remove_entry (same_number m) (e ∷ es)) ≡ lookup (same_number n) (e ∷ es)
     go true true is here later = absurd (eqb-false n m apart (eqb-true n e.0 here ∙ sym (eqb-true m e.0 is)))
     go true false is here later = rw (is, here) refl
     go false true is here later = rw (is, here) refl
     go false false is here later = rw (is, here) later
 
   -- the first of a number in rising order is the only one
-  only-rising : (n : ℕ) (P : A → Type 0) (x : A) (es : List (ℕ × A)) (ys : List ℕ) → lookup (same_number n) es ≡ Some x → P x → AreRising (keys_of es ++ ys) → IsAlone n P es × AllByRecursion (λ m. n ≢ m) ys
+  only-rising : (n : ℕ) (P : A → Type 0) (x : A) (es : List (ℕ × A)) (ys : List ℕ) → lookup (same_number n) es ≡ Some x → P x →
+      AreRising (keys_of es ++ ys) → IsAlone n P es × AllByRecursion (λ m. n ≢ m) ys
   only-rising n P x [] ys is so h = absurd (let no : None ≡ Some x = is in cc)
   only-rising n P x (e ∷ es) ys is so h = go (same_number n e.0) refl (λ found. only-rising n P x es ys found so h.1) where
-    go : (b : Bool) → same_number n e.0 ≡ b → (lookup (same_number n) es ≡ Some x → IsAlone n P es × AllByRecursion (λ m. n ≢ m) ys) → IsAlone n P (e ∷ es) × AllByRecursion (λ m. n ≢ m) ys
+    go : (b : Bool) → same_number n e.0 ≡ b → (lookup (same_number n) es ≡ Some x → IsAlone n P es × AllByRecursion (λ m. n ≢ m) ys) →
+        IsAlone n P (e ∷ es) × AllByRecursion (λ m. n ≢ m) ys
     go true same later =
         let found : Some e.1 ≡ Some x = rw same at is in
         let here : e.1 ≡ x = cc in
         let number : n ≡ e.0 = eqb-true n e.0 same in
-        let above : AllByRecursion (λ m. n ≢ m) (keys_of es ++ ys) = all-weaker (λ m. e.0 < m) (λ m. n ≢ m) (λ m less is. omega (arith, number, less, is)) (keys_of es ++ ys) h.0 in
+        let above : AllByRecursion (λ m. n ≢ m) (keys_of es ++ ys) =
+        all-weaker (λ m. e.0 < m) (λ m. n ≢ m) (λ m less is. omega (arith, number, less, is)) (keys_of es ++ ys) h.0 in
         (((λ is. subst P (sym here) so), others-alone n P es (front-all (λ m. n ≢ m) es ys above)), back-all (λ m. n ≢ m) es ys above)
     go false other later =
         let behind = later (rw other at is) in
@@ -116,14 +125,17 @@ module _ {J : Type 0} where
   only-waiting-drop n job [] h = tt
   only-waiting-drop n job (w ∷ ws) h = h.1
 
-  only-started : (n deadline : ℕ) (job : J) (rs : List (ℕ × Running J)) (ws : List (ℕ × J)) → IsAlone n (λ (r : Running J). r.job ≡ job) rs → IsAlone n (λ x. x ≡ job) ws → IsAlone n (λ (r : Running J). r.job ≡ job) (rs ++ started deadline ws)
+  only-started : (n deadline : ℕ) (job : J) (rs : List (ℕ × Running J)) (ws : List (ℕ × J)) →
+      IsAlone n (λ (r : Running J). r.job ≡ job) rs → IsAlone n (λ x. x ≡ job) ws →
+      IsAlone n (λ (r : Running J). r.job ≡ job) (rs ++ started deadline ws)
   only-started n deadline job rs [] h g = all-append _ rs [] h tt
   only-started n deadline job rs (w ∷ ws) h g = all-append _ rs ((w.0, record { deadline = deadline; job = w.1 }) ∷ []) h (g.0, tt)
 
   pub only-after : (n : ℕ) (job : J) (c : JobChange J) (jobs : Jobs J) → IsOnly n job jobs → IsOnly n job (jobs_after c jobs)
   only-after n job (pushes new) jobs h = record {
     given = let g = h.given in omega (arith, g);
-    waiting = all-append _ jobs.waiting ((jobs.next, new) ∷ []) h.waiting ((λ same. absurd (let g = h.given in omega (arith, g, same))), tt);
+    waiting = all-append _ jobs.waiting ((jobs.next, new) ∷ []) h.waiting
+        ((λ same. absurd (let g = h.given in omega (arith, g, same))), tt);
     running = h.running;
   }
   only-after n job (does operation) jobs h = record {
@@ -147,7 +159,8 @@ module _ {J : Type 0} where
     running = alone-without n _ (same_number m) jobs.running h.running;
   }
 
-  pub only-after-all : (n : ℕ) (job : J) (cs : List (JobChange J)) (jobs : Jobs J) → IsOnly n job jobs → IsOnly n job (jobs_after_all cs jobs)
+  pub only-after-all : (n : ℕ) (job : J) (cs : List (JobChange J)) (jobs : Jobs J) → IsOnly n job jobs →
+      IsOnly n job (jobs_after_all cs jobs)
   only-after-all n job [] jobs h = h
   only-after-all n job (c ∷ cs) jobs h = only-after-all n job cs (jobs_after c jobs) (only-after n job c jobs h)
 
@@ -164,10 +177,12 @@ module _ {J : Type 0} where
   pub only-open : (n : ℕ) (job : J) (jobs : Jobs J) → AreJobs jobs → open_job n jobs ≡ Some job → IsOnly n job jobs
   only-open n job jobs h is = go (lookup (same_number n) jobs.running) refl where
     waiting_rise : AreRising (keys_of jobs.waiting ++ [])
-    waiting_rise = subst AreRising (sym (append-nil (keys_of jobs.waiting))) (related-back (λ a b. a < b) (keys_of jobs.running) (keys_of jobs.waiting) h.rising)
+    waiting_rise = subst AreRising (sym (append-nil (keys_of jobs.waiting)))
+        (related-back (λ a b. a < b) (keys_of jobs.running) (keys_of jobs.waiting) h.rising)
 
     waiting_given : AllByRecursion (λ m. m < jobs.next) (keys_of jobs.waiting ++ [])
-    waiting_given = subst (AllByRecursion (λ m. m < jobs.next)) (sym (append-nil (keys_of jobs.waiting))) (back-all (λ m. m < jobs.next) jobs.running (keys_of jobs.waiting) h.given)
+    waiting_given = subst (AllByRecursion (λ m. m < jobs.next)) (sym (append-nil (keys_of jobs.waiting)))
+        (back-all (λ m. m < jobs.next) jobs.running (keys_of jobs.waiting) h.given)
 
     go : (o : Option (Running J)) → lookup (same_number n) jobs.running ≡ o → IsOnly n job jobs
     go None none =
@@ -191,40 +206,56 @@ module _ {J : Type 0} where
   pub only-pushed : (job : J) (jobs : Jobs J) → AreJobs jobs → IsOnly jobs.next job (jobs_after_push job jobs)
   only-pushed job jobs h = record {
     given = omega arith;
-    waiting = all-append _ jobs.waiting ((jobs.next, job) ∷ []) (others-alone jobs.next (λ x. x ≡ job) jobs.waiting (all-weaker (λ m. m < jobs.next) (λ m. jobs.next ≢ m) (λ m less same. omega (arith, less, same)) (keys_of jobs.waiting) (back-all (λ m. m < jobs.next) jobs.running (keys_of jobs.waiting) h.given))) ((λ same. refl), tt);
-    running = others-alone jobs.next (λ (r : Running J). r.job ≡ job) jobs.running (all-weaker (λ m. m < jobs.next) (λ m. jobs.next ≢ m) (λ m less same. omega (arith, less, same)) (keys_of jobs.running) (front-all (λ m. m < jobs.next) jobs.running (keys_of jobs.waiting) h.given));
+    waiting = all-append _ jobs.waiting ((jobs.next, job) ∷ [])
+        (others-alone jobs.next (λ x. x ≡ job) jobs.waiting
+        (all-weaker (λ m. m < jobs.next) (λ m. jobs.next ≢ m) (λ m less same. omega (arith, less, same)) (keys_of jobs.waiting)
+        (back-all (λ m. m < jobs.next) jobs.running (keys_of jobs.waiting) h.given))) ((λ same. refl), tt);
+    running = others-alone jobs.next (λ (r : Running J). r.job ≡ job) jobs.running
+        (all-weaker (λ m. m < jobs.next) (λ m. jobs.next ≢ m) (λ m less same. omega (arith, less, same)) (keys_of jobs.running)
+        (front-all (λ m. m < jobs.next) jobs.running (keys_of jobs.waiting) h.given));
   }
 
-  pub stays-same : (n : ℕ) (job other : J) (cs : List (JobChange J)) (jobs : Jobs J) → AreJobs jobs → open_job n jobs ≡ Some job → open_job n (jobs_after_all cs jobs) ≡ Some other → other ≡ job
-  stays-same n job other cs jobs h is found = only-found n job other (jobs_after_all cs jobs) (only-after-all n job cs jobs (only-open n job jobs h is)) found
+  pub stays-same : (n : ℕ) (job other : J) (cs : List (JobChange J)) (jobs : Jobs J) → AreJobs jobs → open_job n jobs ≡ Some job →
+      open_job n (jobs_after_all cs jobs) ≡ Some other → other ≡ job
+  stays-same n job other cs jobs h is found = only-found n job other (jobs_after_all cs jobs)
+      (only-after-all n job cs jobs (only-open n job jobs h is)) found
 
   -- ---- until it ends or is forgotten
 
   abbrev open_of : ℕ → List (ℕ × Running J) → List (ℕ × J) → Option J
   open_of n rs ws = or_else (option_map (λ r. r.job) (lookup (same_number n) rs)) (lookup (same_number n) ws)
 
-  start-one : (n deadline : ℕ) (rs : List (ℕ × Running J)) (w : ℕ × J) (ws : List (ℕ × J)) → open_of n (rs ++ (w.0, record { deadline = deadline; job = w.1 }) ∷ []) ws ≡ open_of n rs (w ∷ ws)
+  start-one : (n deadline : ℕ) (rs : List (ℕ × Running J)) (w : ℕ × J) (ws : List (ℕ × J)) →
+      open_of n (rs ++ (w.0, record { deadline = deadline; job = w.1 }) ∷ []) ws ≡ open_of n rs (w ∷ ws)
   start-one n deadline [] w ws = go (same_number n w.0) refl where
     go : (b : Bool) → same_number n w.0 ≡ b → open_of n ((w.0, record { deadline = deadline; job = w.1 }) ∷ []) ws ≡ open_of n [] (w ∷ ws)
     go true same = rw same refl
     go false other = rw other refl
   start-one n deadline (r ∷ rs) w ws = go (same_number n r.0) refl (start-one n deadline rs w ws) where
-    go : (b : Bool) → same_number n r.0 ≡ b → open_of n (rs ++ (w.0, record { deadline = deadline; job = w.1 }) ∷ []) ws ≡ open_of n rs (w ∷ ws) → open_of n (r ∷ rs ++ (w.0, record { deadline = deadline; job = w.1 }) ∷ []) ws ≡ open_of n (r ∷ rs) (w ∷ ws)
+    go : (b : Bool) → same_number n r.0 ≡ b → open_of n (rs ++ (w.0, record { deadline = deadline; job = w.1 }) ∷ []) ws
+        ≡ open_of n rs (w ∷ ws) → open_of n (r ∷ rs ++ (w.0, record { deadline = deadline; job = w.1 }) ∷ []) ws
+        ≡ open_of n (r ∷ rs) (w ∷ ws)
     go true same later = rw same refl
     go false other later = rw other later
 
-  start-open : (n deadline : ℕ) (rs : List (ℕ × Running J)) (ws : List (ℕ × J)) → open_of n (rs ++ started deadline ws) (drop 1 ws) ≡ open_of n rs ws
+  start-open : (n deadline : ℕ) (rs : List (ℕ × Running J)) (ws : List (ℕ × J)) →
+      open_of n (rs ++ started deadline ws) (drop 1 ws) ≡ open_of n rs ws
   start-open n deadline rs [] = ap (λ (xs : List (ℕ × Running J)). open_of n xs []) (append-nil rs)
   start-open n deadline rs (w ∷ ws) = start-one n deadline rs w ws
 
-  open-after : (n : ℕ) (c : JobChange J) (jobs : Jobs J) → n < jobs.next → closes n c ≡ false → open_job n (jobs_after c jobs) ≡ open_job n jobs
+  open-after : (n : ℕ) (c : JobChange J) (jobs : Jobs J) → n < jobs.next → closes n c ≡ false →
+      open_job n (jobs_after c jobs) ≡ open_job n jobs
   open-after n (pushes new) jobs given apart =
       let other : same_number n jobs.next ≡ false = ne_eqb n jobs.next (λ same. omega (arith, given, same)) in
       ap (λ (o : Option J). or_else (running_job n jobs) o) (lookup-behind n jobs.waiting (jobs.next, new) other)
   open-after n (does operation) jobs given apart = refl
   open-after n (starts deadline) jobs given apart = start-open n deadline jobs.running jobs.waiting
-  open-after n (ends m operation) jobs given apart = ap (λ (o : Option (Running J)). or_else (option_map (λ r. r.job) o) (lookup (same_number n) jobs.waiting)) (lookup-without n m jobs.running apart)
-  open-after n (forgets m) jobs given apart = ap (λ (o : Option (Running J)). or_else (option_map (λ r. r.job) o) (lookup (same_number n) jobs.waiting)) (lookup-without n m jobs.running apart)
+  open-after n (ends m operation) jobs given apart =
+      ap (λ (o : Option (Running J)). or_else (option_map (λ r. r.job) o) (lookup (same_number n) jobs.waiting))
+      (lookup-without n m jobs.running apart)
+  open-after n (forgets m) jobs given apart = ap
+      (λ (o : Option (Running J)). or_else (option_map (λ r. r.job) o) (lookup (same_number n) jobs.waiting))
+      (lookup-without n m jobs.running apart)
 
   given-after : (n : ℕ) (c : JobChange J) (jobs : Jobs J) → n < jobs.next → n < (jobs_after c jobs).next
   given-after n (pushes new) jobs given = omega (arith, given)
@@ -233,7 +264,8 @@ module _ {J : Type 0} where
   given-after n (ends m operation) jobs given = given
   given-after n (forgets m) jobs given = given
 
-  open-after-all : (n : ℕ) (cs : List (JobChange J)) (jobs : Jobs J) → n < jobs.next → list_any (closes n) cs ≡ false → open_job n (jobs_after_all cs jobs) ≡ open_job n jobs
+  open-after-all : (n : ℕ) (cs : List (JobChange J)) (jobs : Jobs J) → n < jobs.next → list_any (closes n) cs ≡ false →
+      open_job n (jobs_after_all cs jobs) ≡ open_job n jobs
   open-after-all n [] jobs given apart = refl
   open-after-all n (c ∷ cs) jobs given apart =
       let both = or-false (closes n c) (list_any (closes n) cs) apart in
@@ -241,9 +273,12 @@ module _ {J : Type 0} where
 
   open-pushed : (job : J) (jobs : Jobs J) → AreJobs jobs → open_job jobs.next (jobs_after_push job jobs) ≡ Some job
   open-pushed job jobs h =
-      let running : lookup (same_number jobs.next) jobs.running ≡ None = lookup-none jobs.next jobs.running (front-all (λ m. m < jobs.next) jobs.running (keys_of jobs.waiting) h.given) in
-      let waiting : lookup (same_number jobs.next) jobs.waiting ≡ None = lookup-none jobs.next jobs.waiting (back-all (λ m. m < jobs.next) jobs.running (keys_of jobs.waiting) h.given) in
+      let running : lookup (same_number jobs.next) jobs.running ≡ None =
+      lookup-none jobs.next jobs.running (front-all (λ m. m < jobs.next) jobs.running (keys_of jobs.waiting) h.given) in
+      let waiting : lookup (same_number jobs.next) jobs.waiting ≡ None =
+      lookup-none jobs.next jobs.waiting (back-all (λ m. m < jobs.next) jobs.running (keys_of jobs.waiting) h.given) in
       rw running (lookup-last jobs.next jobs.waiting job waiting)
 
-  pub stays-pushed : (job : J) (cs : List (JobChange J)) (jobs : Jobs J) → AreJobs jobs → list_any (closes jobs.next) cs ≡ false → open_job jobs.next (jobs_after_all cs (jobs_after_push job jobs)) ≡ Some job
+  pub stays-pushed : (job : J) (cs : List (JobChange J)) (jobs : Jobs J) → AreJobs jobs → list_any (closes jobs.next) cs ≡ false →
+      open_job jobs.next (jobs_after_all cs (jobs_after_push job jobs)) ≡ Some job
   stays-pushed job cs jobs h apart = open-after-all jobs.next cs (jobs_after_push job jobs) (omega arith) apart ∙ open-pushed job jobs h

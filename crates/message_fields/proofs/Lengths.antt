@@ -37,19 +37,25 @@ all_writable [] h short = tt
 all_writable (r ∷ rs) h short =
     let whole = ap (length {A = ℕ}) (flat_map-cons record_text r rs) in
     let parts = length-append (record_text r) (records_text rs) in
-    let tagged = length-append (varint (8 * r.number + wire_type r.value)) (content_text r.value) in
-    (record { positive = h.0.positive; small = h.0.small; value = content_shorter r.value h.0.content (omega arith) }, all_writable rs h.1 (omega arith))
+    let tagged = length-append (varint (8 * r.number + wire_type r.value)) (content_text r.value) in (
+      record { positive = h.0.positive; small = h.0.small; value = content_shorter r.value h.0.content (omega arith) },
+      all_writable rs h.1
+          (omega arith),
+    )
 
 -- what is written is read again as the same records
-pub parsed_again : (rs : List Record) → AllByRecursion IsNumbered rs → length (records_text rs) < 2 ^ 64 → records_in (records_text rs) ≡ Ok rs
+pub parsed_again : (rs : List Record) → AllByRecursion IsNumbered rs → length (records_text rs) < 2 ^ 64 →
+    records_in (records_text rs) ≡ Ok rs
 unfolding records_in
 parsed_again rs h short = rw (reads_spelled (records_text rs) rs (text_spells rs (all_writable rs h short))) refl
 
 pub first_shorter : (a b : List Record) → length (records_text (a ++ b)) < 2 ^ 64 → length (records_text a) < 2 ^ 64
-first_shorter a b short = let e = ap (length {A = ℕ}) (text_append a b) in let parts = length-append (records_text a) (records_text b) in omega arith
+first_shorter a b short = let e = ap (length {A = ℕ}) (text_append a b) in let parts = length-append (records_text a) (records_text b) in
+    omega arith
 
 pub second_shorter : (a b : List Record) → length (records_text (a ++ b)) < 2 ^ 64 → length (records_text b) < 2 ^ 64
-second_shorter a b short = let e = ap (length {A = ℕ}) (text_append a b) in let parts = length-append (records_text a) (records_text b) in omega arith
+second_shorter a b short = let e = ap (length {A = ℕ}) (text_append a b) in let parts = length-append (records_text a) (records_text b) in
+    omega arith
 
 -- ---- what each kind of field is written as
 
@@ -87,7 +93,8 @@ module _ (field : ℕ) (positive : 0 < field) (small : field < 2 ^ 29) where
   each_numbered [] = tt
   each_numbered (t ∷ ts) = (record { positive = positive; small = small; content = tt }, each_numbered ts)
 
-  pub embedded_numbered : {V : Type 0} (records_for : V → List Record) (o : Option V) → AllByRecursion IsNumbered (embedded_field records_for field o)
+  pub embedded_numbered : {V : Type 0} (records_for : V → List Record) (o : Option V) →
+      AllByRecursion IsNumbered (embedded_field records_for field o)
   embedded_numbered records_for None = tt
   embedded_numbered records_for (Some v) = message_numbered (text_for records_for v)
 
@@ -105,7 +112,8 @@ payload_shorter field t short =
     let inside = length-append (varint (length t)) t in
     omega arith
 
-pub payloads_shorter : {V : Type 0} (records_for : V → List Record) (field : ℕ) (vs : List V) → length (records_text (repeated_field records_for field vs)) < 2 ^ 64 → AllByRecursion (λ v. length (text_for records_for v) < 2 ^ 64) vs
+pub payloads_shorter : {V : Type 0} (records_for : V → List Record) (field : ℕ) (vs : List V) →
+    length (records_text (repeated_field records_for field vs)) < 2 ^ 64 → AllByRecursion (λ v. length (text_for records_for v) < 2 ^ 64) vs
 payloads_shorter records_for field [] short = tt
 payloads_shorter records_for field (v ∷ vs) short =
     let t : List ℕ = text_for records_for v in

@@ -26,7 +26,8 @@ module _ {A : Type 0} (content_in : Record → Option A) (field : ℕ) (others :
   contents_in_part part rs h =
       ap (filter_map content_in) h.parts
       ∙ filter_map-append content_in (h.front ++ part) h.back
-      ∙ rw (filter_map-append content_in h.front part, none_in h.front h.before, none_in h.back h.behind) (append-nil (filter_map content_in part))
+      ∙ rw (filter_map-append content_in h.front part, none_in h.front h.before, none_in h.back h.behind)
+      (append-nil (filter_map content_in part))
 
 other_number : (field : ℕ) (r : Record) → r.number ≢ field → number_in field r ≡ None
 other_number field r ne = let test = other r field ne in rw test refl
@@ -58,10 +59,12 @@ skips (Err e) = refl
 other_record : (field : ℕ) (r : Record) → r.number ≢ field → record_numbers field r ≡ Ok []
 other_record field r ne = let test = other r field ne in rw test refl
 
-skip_front : (field : ℕ) (front rest : List Record) → Lacks field front → repeated_numbers field (front ++ rest) ≡ repeated_numbers field rest
+skip_front : (field : ℕ) (front rest : List Record) → Lacks field front →
+    repeated_numbers field (front ++ rest) ≡ repeated_numbers field rest
 unfolding each_of
 skip_front field [] rest h = refl
-skip_front field (r ∷ rs) rest h = rw (other_record field r h.0) (skips (each_of (record_numbers field) (rs ++ rest)) ∙ skip_front field rs rest h.1)
+skip_front field (r ∷ rs) rest h = rw (other_record field r h.0)
+    (skips (each_of (record_numbers field) (rs ++ rest)) ∙ skip_front field rs rest h.1)
 
 -- one record's numbers before those of the rest
 abbrev and_then : List ℕ → Result (List ℕ) MessageError → Result (List ℕ) MessageError
@@ -77,11 +80,15 @@ unfolding each_of concatenation
 drop_back field [] [] h = refl
 drop_back field [] (r ∷ rs) h = rw (other_record field r h.0) (skips (each_of (record_numbers field) rs) ∙ drop_back field [] rs h.1)
 drop_back field (r ∷ part) back h = go (record_numbers field r) (drop_back field part back h) where
-  go : (first : Result (List ℕ) MessageError) → repeated_numbers field (part ++ back) ≡ repeated_numbers field part → all_of (first >>= λ ns. each_of (record_numbers field) (part ++ back) >>= λ nss. Ok (ns ∷ nss)) ≡ all_of (first >>= λ ns. each_of (record_numbers field) part >>= λ nss. Ok (ns ∷ nss))
+  go : (first : Result (List ℕ) MessageError) → repeated_numbers field (part ++ back) ≡ repeated_numbers field part →
+      all_of (first >>= λ ns. each_of (record_numbers field) (part ++ back) >>= λ nss. Ok (ns ∷ nss))
+      ≡ all_of (first >>= λ ns. each_of (record_numbers field) part >>= λ nss. Ok (ns ∷ nss))
   go (Err e) same = refl
-  go (Ok ns) same = takes_first ns (each_of (record_numbers field) (part ++ back)) ∙ ap (and_then ns) same ∙ sym (takes_first ns (each_of (record_numbers field) part))
+  go (Ok ns) same = takes_first ns (each_of (record_numbers field) (part ++ back)) ∙ ap (and_then ns) same
+      ∙ sym (takes_first ns (each_of (record_numbers field) part))
 
-pub repeated_numbers_in_part : (field : ℕ) (part rs : List Record) → HasField field part rs → repeated_numbers field rs ≡ repeated_numbers field part
+pub repeated_numbers_in_part : (field : ℕ) (part rs : List Record) → HasField field part rs →
+    repeated_numbers field rs ≡ repeated_numbers field part
 repeated_numbers_in_part field part rs h =
     ap (repeated_numbers field) h.parts ∙ drop_back field (h.front ++ part) h.back h.behind ∙ skip_front field h.front part h.before
 
@@ -98,7 +105,15 @@ pub after : (field : ℕ) (a part : List Record) → Lacks field a → HasField 
 after field a part h = record { front = a; back = []; parts = sym (append-nil (a ++ part)); before = h; behind = tt }
 
 pub before : (field : ℕ) (part rs b : List Record) → HasField field part rs → Lacks field b → HasField field part (rs ++ b)
-before field part rs b h g = record { front = h.front; back = h.back ++ b; parts = ap (λ (x : List Record). x ++ b) h.parts ∙ append_assoc (h.front ++ part) h.back b; before = h.before; behind = lacks_both field h.back b h.behind g }
+before field part rs b h g = record {
+  front = h.front;
+  back = h.back ++ b;
+  parts =
+      ap (λ (x : List Record). x ++ b) h.parts ∙ append_assoc (h.front ++ part) h.back b;
+  before = h.before;
+  behind =
+      lacks_both field h.back b h.behind g;
+}
 
 -- ---- a part of another field lacks this one
 

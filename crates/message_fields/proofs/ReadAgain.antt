@@ -84,7 +84,8 @@ string_alone field t ok = go (eqb (length t) 0) refl where
   go true h = ap (λ (x : List ℕ). Ok x) (sym (nil_from_length t (eqb-true _ _ h)))
   go false h = rw (payload_alone field t, ok) refl
 
-pub string_again : (field : ℕ) (t : List ℕ) (rs : List Record) → is_utf8 t ≡ true → HasField field (string_field field t) rs → string field rs ≡ Ok t
+pub string_again : (field : ℕ) (t : List ℕ) (rs : List Record) → is_utf8 t ≡ true → HasField field (string_field field t) rs →
+    string field rs ≡ Ok t
 string_again field t rs ok h = ap string_in (payloads_in_part field (bytes_field field t) rs h) ∙ string_alone field t ok
 
 each_alone : (field : ℕ) (ts : List (List ℕ)) → payloads field (each_field field ts) ≡ ts
@@ -97,10 +98,13 @@ unfolding each_of
 all_utf8 [] h = refl
 all_utf8 (t ∷ ts) h = rw (h.0, all_utf8 ts h.1) refl
 
-pub repeated_string_again : (field : ℕ) (ts : List (List ℕ)) (rs : List Record) → AllByRecursion (λ t. is_utf8 t ≡ true) ts → HasField field (repeated_string_field field ts) rs → repeated_string field rs ≡ Ok ts
-repeated_string_again field ts rs ok h = ap (each_of utf8) (payloads_in_part field (each_field field ts) rs h ∙ each_alone field ts) ∙ all_utf8 ts ok
+pub repeated_string_again : (field : ℕ) (ts : List (List ℕ)) (rs : List Record) → AllByRecursion (λ t. is_utf8 t ≡ true) ts →
+    HasField field (repeated_string_field field ts) rs → repeated_string field rs ≡ Ok ts
+repeated_string_again field ts rs ok h = ap (each_of utf8) (payloads_in_part field (each_field field ts) rs h ∙ each_alone field ts)
+    ∙ all_utf8 ts ok
 
-pub repeated_octets_again : (field : ℕ) (ts : List (List ℕ)) (rs : List Record) → HasField field (repeated_octets_field field ts) rs → repeated_octets field rs ≡ ts
+pub repeated_octets_again : (field : ℕ) (ts : List (List ℕ)) (rs : List Record) → HasField field (repeated_octets_field field ts) rs →
+    repeated_octets field rs ≡ ts
 repeated_octets_again field ts rs h = payloads_in_part field (each_field field ts) rs h ∙ each_alone field ts
 
 -- ---- repeated enums
@@ -109,7 +113,8 @@ packed_alone : (field : ℕ) (ns : List ℕ) → numbers_of (packed_text ns) ≡
 unfolding each_of concatenation items_in
 packed_alone field ns payload = go (eqb (length (packed_text ns)) 0) refl where
   go : (b : Bool) → eqb (length (packed_text ns)) 0 ≡ b → repeated_numbers field (cond b [] (message_field field (packed_text ns))) ≡ Ok ns
-  go true h = ap (λ (t : List ℕ). of_wire (numbers_of t)) (sym (nil_from_length (packed_text ns) (eqb-true _ _ h))) ∙ ap (λ r. of_wire r) payload
+  go true h = ap (λ (t : List ℕ). of_wire (numbers_of t)) (sym (nil_from_length (packed_text ns) (eqb-true _ _ h)))
+      ∙ ap (λ r. of_wire r) payload
   go false h = rw (same field, payload, append-nil ns) refl
 
 pub int32_below : (z : ℤ) → FitsSigned w32 z → cast_unsigned w64 z < 2 ^ 64
@@ -124,11 +129,13 @@ int32_values : (zs : List ℤ) → AllByRecursion (FitsSigned w32) zs → map in
 int32_values [] h = refl
 int32_values (z ∷ zs) h = rw (int32_value z h.0, int32_values zs h.1) refl
 
-pub repeated_enum_again : (field : ℕ) (zs : List ℤ) (rs : List Record) → AllByRecursion (FitsSigned w32) zs → HasField field (repeated_enum_field field zs) rs → repeated_enum field rs ≡ Ok zs
+pub repeated_enum_again : (field : ℕ) (zs : List ℤ) (rs : List Record) → AllByRecursion (FitsSigned w32) zs →
+    HasField field (repeated_enum_field field zs) rs → repeated_enum field rs ≡ Ok zs
 repeated_enum_again field zs rs fit h =
     let ns : List ℕ = map (cast_unsigned w64) zs in
     let payload : numbers_of (packed_text ns) ≡ Ok ns = numbers_spelled (packed_text ns) ns (packed_spells ns (all_below zs fit)) in
-    let found : repeated_numbers field rs ≡ Ok ns = repeated_numbers_in_part field (packed_field field ns) rs h ∙ packed_alone field ns payload in
+    let found : repeated_numbers field rs ≡ Ok ns =
+    repeated_numbers_in_part field (packed_field field ns) rs h ∙ packed_alone field ns payload in
     rw (found, int32_values zs fit) refl
 
 -- ---- embedded messages
@@ -137,7 +144,8 @@ module _ {V : Type 0} (value_of : List Record → Result V MessageError) (record
   well_formed : (v : V) → IsReadAgain value_of records_for v → (rs : List Record) × (records_in (text_for records_for v) ≡ Ok rs)
   well_formed v again = let found = bind_ok (records_in (text_for records_for v)) value_of v again in (found.0, found.1)
 
-  pub embedded_again : (field : ℕ) (v : V) (rs : List Record) → IsReadAgain value_of records_for v → HasField field (embedded_field records_for field (Some v)) rs → embedded_value value_of field rs ≡ Ok (Some v)
+  pub embedded_again : (field : ℕ) (v : V) (rs : List Record) → IsReadAgain value_of records_for v →
+      HasField field (embedded_field records_for field (Some v)) rs → embedded_value value_of field rs ≡ Ok (Some v)
   unfolding each_of
   embedded_again field v rs again h =
       let t : List ℕ = text_for records_for v in
@@ -145,19 +153,23 @@ module _ {V : Type 0} (value_of : List Record → Result V MessageError) (record
       let formed = well_formed v again in
       rw (payload, formed.1, append-nil t, again) refl
 
-  pub absent_again : (field : ℕ) (rs : List Record) → HasField field (embedded_field records_for field None) rs → embedded_value value_of field rs ≡ Ok None
+  pub absent_again : (field : ℕ) (rs : List Record) → HasField field (embedded_field records_for field None) rs →
+      embedded_value value_of field rs ≡ Ok None
   unfolding each_of payloads
   absent_again field rs h = rw (payloads_in_part field [] rs h) refl
 
-  values_again : (vs : List V) → AllByRecursion (IsReadAgain value_of records_for) vs → each_of (value_of_text value_of) (map (text_for records_for) vs) ≡ Ok vs
+  values_again : (vs : List V) → AllByRecursion (IsReadAgain value_of records_for) vs →
+      each_of (value_of_text value_of) (map (text_for records_for) vs) ≡ Ok vs
   unfolding each_of
   values_again [] h = refl
   values_again (v ∷ vs) h = rw (h.0, values_again vs h.1) refl
 
-  pub repeated_again : (field : ℕ) (vs : List V) (rs : List Record) → AllByRecursion (IsReadAgain value_of records_for) vs → HasField field (repeated_field records_for field vs) rs → repeated_values value_of field rs ≡ Ok vs
+  pub repeated_again : (field : ℕ) (vs : List V) (rs : List Record) → AllByRecursion (IsReadAgain value_of records_for) vs →
+      HasField field (repeated_field records_for field vs) rs → repeated_values value_of field rs ≡ Ok vs
   repeated_again field vs rs again h =
       let ts : List (List ℕ) = map (text_for records_for) vs in
-      ap (each_of (value_of_text value_of)) (payloads_in_part field (each_field field ts) rs h ∙ each_alone field ts) ∙ values_again vs again
+      ap (each_of (value_of_text value_of)) (payloads_in_part field (each_field field ts) rs h ∙ each_alone field ts)
+      ∙ values_again vs again
 
 -- ---- messages as they were sent
 
@@ -166,7 +178,8 @@ value_there (Ok x) h = (x, refl)
 value_there (Err e) h = absurd cc
 
 module _ {V : Type 0} (value_of : List Record → Result V MessageError) where
-  pub sent_again : (field : ℕ) (o : Option (List ℕ)) (rs : List Record) → IfSome o (λ t. IsOk (value_of_text value_of t)) → HasField field (sent_field field o) rs → sent_bytes value_of field rs ≡ Ok o
+  pub sent_again : (field : ℕ) (o : Option (List ℕ)) (rs : List Record) → IfSome o (λ t. IsOk (value_of_text value_of t)) →
+      HasField field (sent_field field o) rs → sent_bytes value_of field rs ≡ Ok o
   unfolding each_of payloads
   sent_again field None rs fit h = rw (payloads_in_part field [] rs h) refl
   sent_again field (Some t) rs fit h =

@@ -43,11 +43,13 @@ none_missing = record { forms = tt; few = omega arith }
 one_missing : (d : Digest) → HasForm d → AreFew most_missing (d ∷ [])
 one_missing d h = record { forms = (h, tt); few = omega arith }
 
-with_command_few : (d : Digest) (is_there : Bool) (ds : List Digest) → HasForm d → AreFew 10001 ds → AreFew most_missing (with_command d is_there ds)
+with_command_few : (d : Digest) (is_there : Bool) (ds : List Digest) → HasForm d → AreFew 10001 ds →
+    AreFew most_missing (with_command d is_there ds)
 with_command_few d true ds h few = let count = few.few in record { forms = few.forms; few = omega arith }
 with_command_few d false ds h few = let count = few.few in record { forms = (h, few.forms); few = omega arith }
 
-prepared_few : (a : ActionTaken) (command : Option (List ℕ)) (r : Nodes) → HasForms a → AreMissingFew 10001 r → IsFewFault (prepared_with a command r)
+prepared_few : (a : ActionTaken) (command : Option (List ℕ)) (r : Nodes) → HasForms a → AreMissingFew 10001 r →
+    IsFewFault (prepared_with a command r)
 prepared_few a command (Err (missing ds)) h few = with_command_few a.command (is_some command) ds h.command_form few
 prepared_few a command (Err bad_directory) h few = none_missing
 prepared_few a command (Err too_many) h few = none_missing
@@ -74,7 +76,8 @@ action_few d (Some text) h = go (action_in text) refl where
   go None is = none_missing
   go (Some a) is = action_forms text a is
 
-steps_few : (look : Lookup) (r : Result ActionTaken FaultValue) → IsActionFound r → IsFewFault (r >>= λ a. command_found (look a.command) >>= λ command. prepared_with a command (walk look a.root))
+steps_few : (look : Lookup) (r : Result ActionTaken FaultValue) → IsActionFound r →
+    IsFewFault (r >>= λ a. command_found (look a.command) >>= λ command. prepared_with a command (walk look a.root))
 steps_few look (Err f) few = few
 steps_few look (Ok a) forms = go (command_found (look a.command)) (command_few (look a.command)) where
   go : (r : Result (Option (List ℕ)) FaultValue) → IsFewFault r → IsFewFault (r >>= λ command. prepared_with a command (walk look a.root))
@@ -89,20 +92,25 @@ missing_few look d f h is = let known : IsFewFault {A = PreparedValue} (Err f) =
 
 -- ---- stored results
 
-pub stored_short : (t : Digest → Bool) (results : List Blob) (text : List ℕ) → lookup t results ≡ Some text → length text ≤ blobs_length results
+pub stored_short : (t : Digest → Bool) (results : List Blob) (text : List ℕ) → lookup t results ≡ Some text →
+    length text ≤ blobs_length results
 stored_short t [] text h = absurd (cc)
 stored_short t (b ∷ bs) text h = go (t b.0) h (λ later. stored_short t bs text later) where
-  go : (c : Bool) → cond c (Some b.1) (lookup t bs) ≡ Some text → (lookup t bs ≡ Some text → length text ≤ blobs_length bs) → length text ≤ length b.1 + blobs_length bs
+  go : (c : Bool) → cond c (Some b.1) (lookup t bs) ≡ Some text → (lookup t bs ≡ Some text → length text ≤ blobs_length bs) →
+      length text ≤ length b.1 + blobs_length bs
   go true h later = let e : b.1 ≡ text = cc in rw (← e) (omega arith)
   go false h later = let rest = later h in omega arith
 
-then_stored : {A : Type 0} (o : Option A) (stored : Option (List ℕ)) (text : List ℕ) → and_then o (λ _. stored) ≡ Some text → stored ≡ Some text
+then_stored : {A : Type 0} (o : Option A) (stored : Option (List ℕ)) (text : List ℕ) → and_then o (λ _. stored) ≡ Some text →
+    stored ≡ Some text
 then_stored None stored text h = absurd (cc)
 then_stored (Some x) stored text h = h
 
-looked_up_short : (skip : Bool) (look : Lookup) (d : Digest) (results : List Blob) (text : List ℕ) → looked_up skip look d results ≡ Some text → length text ≤ blobs_length results
+looked_up_short : (skip : Bool) (look : Lookup) (d : Digest) (results : List Blob) (text : List ℕ) →
+    looked_up skip look d results ≡ Some text → length text ≤ blobs_length results
 looked_up_short true look d results text h = absurd (cc)
-looked_up_short false look d results text h = stored_short (same_digest d) results text (then_stored (blobs_for look d results) (lookup (same_digest d) results) text h)
+looked_up_short false look d results text h = stored_short (same_digest d) results text
+    (then_stored (blobs_for look d results) (lookup (same_digest d) results) text h)
 
 -- ---- answers
 
@@ -139,12 +147,21 @@ module _ (s : ExecutionState) (d : Digest) (few : s.jobs.next ≤ LAST_NUMBER + 
   looking_told (Some text) stored =
       let room = stored text refl in
       let short = found_short s.jobs.next d text few h (omega arith) in
-      record { answered = omega arith; changed = (tt, after_uses (blobs_used (look_in s) d s.results) (Does (completed_text s.jobs.next d (finds text)) ∷ []) (omega arith, tt)) }
+      record {
+        answered = omega arith;
+        changed = (
+          tt,
+          after_uses (blobs_used (look_in s) d s.results)
+              (Does (completed_text s.jobs.next d (finds text)) ∷ []) (omega arith, tt),
+        );
+      }
 
-pub execute_told : (limits : LimitsValue) (slots : ℕ) (s : ExecutionState) (skip : Bool) (d : Digest) → s.jobs.next ≤ LAST_NUMBER + 1 → IsLimits limits → AreResultsWithin limits s.results → HasForm d → IsToldDone (execute slots s skip d)
+pub execute_told : (limits : LimitsValue) (slots : ℕ) (s : ExecutionState) (skip : Bool) (d : Digest) → s.jobs.next ≤ LAST_NUMBER + 1 →
+    IsLimits limits → AreResultsWithin limits s.results → HasForm d → IsToldDone (execute slots s skip d)
 execute_told limits slots s skip d few good within h = off (nat_eq slots 0) refl where
   stored : (text : List ℕ) → looked_up skip (look_in s) d s.results ≡ Some text → length text ≤ 2147483648
-  stored text is = let one = looked_up_short skip (look_in s) d s.results text is in let all = within.short in let most = good.short_results in omega arith
+  stored text is = let one = looked_up_short skip (look_in s) d s.results text is in let all = within.short in let most =
+      good.short_results in omega arith
 
   left : (b : Bool) → nat_eq slots 0 ≡ false → nat_lt LAST_NUMBER s.jobs.next ≡ b → IsToldDone (execute slots s skip d)
   left true on none = rw (on, none) (refusal_told QueueFull)
@@ -154,5 +171,6 @@ execute_told limits slots s skip d few good within h = off (nat_eq slots 0) refl
   off true none = rw none (refusal_told ExecutionIsOff)
   off false on = left (nat_lt LAST_NUMBER s.jobs.next) on refl
 
-pub execute_short : (limits : LimitsValue) (slots : ℕ) (s : ExecutionState) (skip : Bool) (d : Digest) → s.jobs.next ≤ LAST_NUMBER + 1 → IsLimits limits → AreResultsWithin limits s.results → HasForm d → IfOk (execute slots s skip d).answer IsShortExecuteAnswer
+pub execute_short : (limits : LimitsValue) (slots : ℕ) (s : ExecutionState) (skip : Bool) (d : Digest) → s.jobs.next ≤ LAST_NUMBER + 1 →
+    IsLimits limits → AreResultsWithin limits s.results → HasForm d → IfOk (execute slots s skip d).answer IsShortExecuteAnswer
 execute_short limits slots s skip d few good within h = (execute_told limits slots s skip d few good within h).answered

@@ -13,9 +13,11 @@ small : (n : ℕ) → n < 128 → length (varint n) ≡ 1
 small n lt = ap (length {A = ℕ}) (groups_small n lt)
 
 one_record : (r : Record) → length (records_text (r ∷ [])) ≡ length (record_text r)
-one_record r = let e = ap (length {A = ℕ}) (flat_map-cons record_text r []) in let parts = length-append (record_text r) (records_text []) in omega arith
+one_record r = let e = ap (length {A = ℕ}) (flat_map-cons record_text r []) in let parts =
+    length-append (record_text r) (records_text []) in omega arith
 
-payload_is : (field : ℕ) (b : List ℕ) → field < 15 → length (records_text (message_field field b)) ≡ 1 + length (varint (length b)) + length b
+payload_is : (field : ℕ) (b : List ℕ) → field < 15 →
+    length (records_text (message_field field b)) ≡ 1 + length (varint (length b)) + length b
 payload_is field b few =
     let tag = small (8 * field + 2) (omega arith) in
     let whole = one_record (record { number = field; value = Payload b }) in
@@ -23,7 +25,8 @@ payload_is field b few =
     let inside = length-append (varint (length b)) b in
     omega arith
 
-pub payload_written : (field : ℕ) (b : List ℕ) → field < 15 → length b < 2 ^ 64 → length (records_text (message_field field b)) ≤ 11 + length b
+pub payload_written : (field : ℕ) (b : List ℕ) → field < 15 → length b < 2 ^ 64 →
+    length (records_text (message_field field b)) ≤ 11 + length b
 payload_written field b few fits =
     let whole = payload_is field b few in
     let size = (varint_is (length b) fits).short in
@@ -54,7 +57,8 @@ few_text_written field b few fits = go (eqb (length b) 0) where
   go true = omega arith
   go false = let e = few_written field b few fits in omega arith
 
-pub middle_text_written : (field : ℕ) (b : List ℕ) → field < 15 → length b < 16384 → length (records_text (bytes_field field b)) ≤ 3 + length b
+pub middle_text_written : (field : ℕ) (b : List ℕ) → field < 15 → length b < 16384 →
+    length (records_text (bytes_field field b)) ≤ 3 + length b
 middle_text_written field b few fits = go (eqb (length b) 0) where
   go : (c : Bool) → length (records_text (cond c [] (message_field field b))) ≤ 3 + length b
   go true = omega arith
@@ -81,13 +85,15 @@ flag_written field true few = let whole = number_is field 1 few in let size = sm
 flag_written field false few = omega arith
 
 -- one payload more
-pub more_written : (field : ℕ) (t : List ℕ) (ts : List (List ℕ)) → field < 15 → length t < 2 ^ 64 → length (records_text (each_field field (t ∷ ts))) ≤ 11 + length t + length (records_text (each_field field ts))
+pub more_written : (field : ℕ) (t : List ℕ) (ts : List (List ℕ)) → field < 15 → length t < 2 ^ 64 →
+    length (records_text (each_field field (t ∷ ts))) ≤ 11 + length t + length (records_text (each_field field ts))
 more_written field t ts few fits =
     let both = both_written (message_field field t) (each_field field ts) in
     let first = payload_written field t few fits in
     omega arith
 
-pub middle_more : (field : ℕ) (t : List ℕ) (ts : List (List ℕ)) → field < 15 → length t < 16384 → length (records_text (each_field field (t ∷ ts))) ≤ 3 + length t + length (records_text (each_field field ts))
+pub middle_more : (field : ℕ) (t : List ℕ) (ts : List (List ℕ)) → field < 15 → length t < 16384 →
+    length (records_text (each_field field (t ∷ ts))) ≤ 3 + length t + length (records_text (each_field field ts))
 middle_more field t ts few fits =
     let both = both_written (message_field field t) (each_field field ts) in
     let first = middle_written field t few fits in

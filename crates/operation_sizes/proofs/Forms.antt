@@ -38,7 +38,8 @@ signed_below m n is = go (ltb m (2 ^ 63)) refl where
 few_digits : (digits : List ℕ) (hash : Hash) → hash_in digits ≡ Some hash → length digits ≤ 128
 few_digits digits hash h = go (nat_eq (length digits) 64) (nat_eq (length digits) 128) refl refl h where
   go : (short long : Bool) → nat_eq (length digits) 64 ≡ short → nat_eq (length digits) 128 ≡ long
-      → cond short (option_map (λ bytes. Sha256 bytes) (bytes_in 32 digits)) (cond long (option_map (λ bytes. Sha512 bytes) (bytes_in 64 digits)) None) ≡ Some hash → length digits ≤ 128
+      → cond short (option_map (λ bytes. Sha256 bytes) (bytes_in 32 digits))
+      (cond long (option_map (λ bytes. Sha512 bytes) (bytes_in 64 digits)) None) ≡ Some hash → length digits ≤ 128
   go true long is other h = let same = eqb-true (length digits) 64 is in omega arith
   go false true other is h = let same = eqb-true (length digits) 128 is in omega arith
   go false false is other h = absurd (cc)
@@ -90,7 +91,8 @@ embedded_read field rs o h =
 
 -- ---- directories
 
-each_read : {V : Type 0} (read : List ℕ → Result V MessageError) (P : V → Type 0) → ((t : List ℕ) (v : V) → read t ≡ Ok v → P v) → (ps : List (List ℕ)) (vs : List V) → each_of read ps ≡ Ok vs → AllByRecursion P vs
+each_read : {V : Type 0} (read : List ℕ → Result V MessageError) (P : V → Type 0) → ((t : List ℕ) (v : V) → read t ≡ Ok v → P v) →
+    (ps : List (List ℕ)) (vs : List V) → each_of read ps ≡ Ok vs → AllByRecursion P vs
 unfolding each_of
 each_read read P one [] vs h = subst (AllByRecursion P) (ok_is [] vs h) tt
 each_read read P one (p ∷ ps) vs h =
@@ -130,8 +132,10 @@ directory_read t v h =
     let links = bind_ok (repeated_values symlink_node_of 3 r.records) _ v children.2 in
     let e = ok_is (record { files = files.0; directories = children.0; symlinks = links.0 }) v links.2 in
     subst IsDirectoryRead e (record {
-      read_files = each_read (value_of_text file_node_of) (λ (n : FileNodeValue). IsRead n.digest) file_read (payloads 1 r.records) files.0 files.1;
-      read_children = each_read (value_of_text directory_node_of) (λ (n : DirectoryNodeValue). IsRead n.digest) child_read (payloads 2 r.records) children.0 children.1;
+      read_files = each_read (value_of_text file_node_of) (λ (n : FileNodeValue). IsRead n.digest) file_read
+          (payloads 1 r.records) files.0 files.1;
+      read_children = each_read (value_of_text directory_node_of) (λ (n : DirectoryNodeValue). IsRead n.digest) child_read
+          (payloads 2 r.records) children.0 children.1;
     })
 
 -- ---- actions
@@ -147,15 +151,21 @@ action_read t v h =
     let command = bind_ok (embedded_value digest_of 1 r.records) _ v r.means in
     let root = bind_ok (embedded_value digest_of 2 r.records) _ v command.2 in
     let timeout = bind_ok (embedded_value duration_of 6 r.records) _ v root.2 in
-    let e = ok_is (record { command_digest = command.0; input_root_digest = root.0; timeout = timeout.0; do_not_cache = flag 7 r.records }) v timeout.2 in
-    subst IsActionRead e (record { read_command = embedded_read 1 r.records command.0 command.1; read_root = embedded_read 2 r.records root.0 root.1 })
+    let e = ok_is (record { command_digest = command.0; input_root_digest = root.0; timeout = timeout.0; do_not_cache = flag 7 r.records })
+    v timeout.2 in
+    subst IsActionRead e (record {
+      read_command = embedded_read 1 r.records command.0 command.1;
+      read_root =
+          embedded_read 2 r.records root.0 root.1;
+    })
 
 -- the digests of an action that is taken have their form
 pub record HasForms (a : ActionTaken) : Type 0 where
   pub command_form : HasForm a.command
   pub root_form : HasForm a.root
 
-then_some : {A B : Type 0} (o : Option A) (step : A → Option B) (y : B) → and_then o step ≡ Some y → (x : A) × (o ≡ Some x) × (step x ≡ Some y)
+then_some : {A B : Type 0} (o : Option A) (step : A → Option B) (y : B) → and_then o step ≡ Some y →
+    (x : A) × (o ≡ Some x) × (step x ≡ Some y)
 then_some (Some x) step y h = (x, refl, h)
 then_some None step y h = absurd (cc)
 
@@ -179,7 +189,8 @@ action_forms text a h = go (value_of_text action_of text) refl h where
 
 -- ---- requests
 
-pub refused_form : (function : Option HashFunction) (o : Option DigestValue) (d : Digest) → IsRead o → digest_or_refusal function o ≡ Ok d → HasForm d
+pub refused_form : (function : Option HashFunction) (o : Option DigestValue) (d : Digest) → IsRead o → digest_or_refusal function o ≡ Ok d →
+    HasForm d
 refused_form function None d read h = absurd (cc)
 refused_form function (Some v) d read h = go (digest_in v.hash v.size_bytes) refl h where
   asked : (x : Digest) (b : Bool) → cond b (Ok x) (Err BadDigest) ≡ Ok d → x ≡ d
@@ -190,11 +201,19 @@ refused_form function (Some v) d read h = go (digest_in v.hash v.size_bytes) ref
   go None is e = absurd (cc)
   go (Some x) is e = subst HasForm (asked x (is_hash_asked function x.hash) e) (read_form v.hash v.size_bytes x read is)
 
-pub request_form : (function : Option HashFunction) (message : List ℕ) (request : ExecuteRequestValue) (d : Digest) → value_of_text execute_request_of message ≡ Ok request → digest_or_refusal function request.action_digest ≡ Ok d → HasForm d
+pub request_form : (function : Option HashFunction) (message : List ℕ) (request : ExecuteRequestValue) (d : Digest) →
+    value_of_text execute_request_of message ≡ Ok request → digest_or_refusal function request.action_digest ≡ Ok d → HasForm d
 unfolding execute_request_of
 request_form function message request d h is =
     let r = read_from execute_request_of message request h in
     let name = bind_ok (string 1 r.records) _ request r.means in
     let action = bind_ok (embedded_value digest_of 6 r.records) _ request name.2 in
-    let e = ok_is (record { instance_name = name.0; skip_cache_lookup = flag 3 r.records; action_digest = action.0; digest_function = int32 9 r.records }) request action.2 in
-    refused_form function request.action_digest d (subst (λ (x : ExecuteRequestValue). IsRead x.action_digest) e (embedded_read 6 r.records action.0 action.1)) is
+    let e = ok_is (record {
+      instance_name = name.0;
+      skip_cache_lookup = flag 3 r.records;
+      action_digest = action.0;
+      digest_function =
+          int32 9 r.records;
+    }) request action.2 in
+    refused_form function request.action_digest d
+    (subst (λ (x : ExecuteRequestValue). IsRead x.action_digest) e (embedded_read 6 r.records action.0 action.1)) is

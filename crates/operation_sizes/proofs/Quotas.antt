@@ -29,7 +29,8 @@ counted test (c ∷ cs) d passes is = go (same_digest d c) refl is (λ later. co
   skipped true rest = omega arith
   skipped false rest = rest
 
-  go : (b : Bool) → same_digest d c ≡ b → (b || among d cs) ≡ true → (among d cs ≡ true → d.size ≤ sizes_of (filter test cs)) → d.size ≤ sizes_of (filter test (c ∷ cs))
+  go : (b : Bool) → same_digest d c ≡ b → (b || among d cs) ≡ true → (among d cs ≡ true → d.size ≤ sizes_of (filter test cs)) →
+      d.size ≤ sizes_of (filter test (c ∷ cs))
   go true same is later =
       let e : d ≡ c = same_equal d c same in
       let kept : test c ≡ true = subst (λ (x : Digest). test x ≡ true) e passes in
@@ -43,7 +44,8 @@ seen_size visible d text h = go (is_empty_digest d) h where
   go true h = let e : [] ≡ text = cc in rw (← e) (omega arith)
   go false h = stored_short (same_digest d) visible text h
 
-one_size : (limit quota : ℕ) (visible : List Blob) (ds : List Digest) (d : Digest) → AreBlobsWithin limit quota visible → sizes_of (filter (λ d. not (is_some (visible_text d visible))) ds) ≤ quota → among d ds ≡ true → d.size ≤ quota
+one_size : (limit quota : ℕ) (visible : List Blob) (ds : List Digest) (d : Digest) → AreBlobsWithin limit quota visible →
+    sizes_of (filter (λ d. not (is_some (visible_text d visible))) ds) ≤ quota → among d ds ≡ true → d.size ≤ quota
 one_size limit quota visible ds d within room is = go (visible_text d visible) refl where
   go : (o : Option (List ℕ)) → visible_text d visible ≡ o → d.size ≤ quota
   go None none =
@@ -59,7 +61,8 @@ one_size limit quota visible ds d within room is = go (visible_text d visible) r
 abbrev digests : List Blob → List Digest
 digests blobs = map (λ (b : Blob). b.0) blobs
 
-all_sizes : (quota : ℕ) (met : List Digest) (blobs : List Blob) → quota < 2 ^ 63 → ((d : Digest) → among d met ≡ true → d.size ≤ quota) → ((d : Digest) → among d (digests blobs) ≡ true → among d met ≡ true) → HaveSizes blobs
+all_sizes : (quota : ℕ) (met : List Digest) (blobs : List Blob) → quota < 2 ^ 63 → ((d : Digest) → among d met ≡ true → d.size ≤ quota) →
+    ((d : Digest) → among d (digests blobs) ≡ true → among d met ≡ true) → HaveSizes blobs
 all_sizes quota met [] few h there = tt
 all_sizes quota met (b ∷ blobs) few h there =
     let same : same_digest b.0 b.0 ≡ true = same_refl b.0 in
@@ -71,14 +74,17 @@ all_sizes quota met (b ∷ blobs) few h there =
     either true c is = refl
     either false c is = is
 
-pub quota_sizes : (limit quota : ℕ) (visible blobs : List Blob) → quota < 2 ^ 63 → AreBlobsWithin limit quota visible → fresh_bytes visible blobs ≤ quota → HaveSizes blobs
+pub quota_sizes : (limit quota : ℕ) (visible blobs : List Blob) → quota < 2 ^ 63 → AreBlobsWithin limit quota visible →
+    fresh_bytes visible blobs ≤ quota → HaveSizes blobs
 quota_sizes limit quota visible blobs few within room =
     all_sizes quota (digests blobs) blobs few
     (λ d is. one_size limit quota visible (distinct (digests blobs)) d within room (same-ones d (digests blobs) ∙ is))
     (λ d is. is)
 
-pub run_told : (limit quota n : ℕ) (visible : List Blob) (like d : Digest) (x : ExitedValue) (text : List ℕ) (v : CommandValue) → n ≤ LAST_NUMBER + 1 → HasForm d → quota < 2 ^ 63 → AreBlobsWithin limit quota visible → fresh_bytes visible (blobs_given like x) ≤ quota
-    → command_in text ≡ Some v → are_asked (asked_outputs v) x.outputs ≡ true → FitsSigned w32 x.code → IsShort (completed_text n d (gives (result_text like x)))
+pub run_told : (limit quota n : ℕ) (visible : List Blob) (like d : Digest) (x : ExitedValue) (text : List ℕ) (v : CommandValue) →
+    n ≤ LAST_NUMBER + 1 → HasForm d → quota < 2 ^ 63 → AreBlobsWithin limit quota visible → fresh_bytes visible (blobs_given like x) ≤ quota
+    → command_in text ≡ Some v → are_asked (asked_outputs v) x.outputs ≡ true → FitsSigned w32 x.code →
+    IsShort (completed_text n d (gives (result_text like x)))
 run_told limit quota n visible like d x text v number h few within room is asked fits =
     let result = result_short like x text v is asked fits (quota_sizes limit quota visible (blobs_given like x) few within room) in
     let whole = given_short n d (result_text like x) number h (omega arith) in

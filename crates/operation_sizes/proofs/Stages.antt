@@ -20,7 +20,8 @@ use Rattle.operation_sizes.proofs.Written.{queued_short, executing_short}
 abbrev pub IsNumber : ℕ → Type 0
 IsNumber n = n ≤ LAST_NUMBER + 1
 
-pub numbers_are : (jobs : Jobs JobValue) → AreJobs jobs → AllByRecursion IsNumber (keys_of jobs.running) × AllByRecursion IsNumber (keys_of jobs.waiting)
+pub numbers_are : (jobs : Jobs JobValue) → AreJobs jobs →
+    AllByRecursion IsNumber (keys_of jobs.running) × AllByRecursion IsNumber (keys_of jobs.waiting)
 numbers_are jobs h =
     let few = h.few_numbers in
     all_front IsNumber (keys_of jobs.running) (keys_of jobs.waiting)
@@ -29,17 +30,20 @@ numbers_are jobs h =
 -- ---- what is found under a number
 
 module _ {X : Type 0} where
-  found_value : (P : X → Type 0) (n : ℕ) (es : List (ℕ × X)) (x : X) → AllByRecursion (λ (e : ℕ × X). P e.1) es → lookup (same_number n) es ≡ Some x → P x
+  found_value : (P : X → Type 0) (n : ℕ) (es : List (ℕ × X)) (x : X) → AllByRecursion (λ (e : ℕ × X). P e.1) es →
+      lookup (same_number n) es ≡ Some x → P x
   found_value P n [] x h is = absurd (cc)
   found_value P n (e ∷ es) x h is = go (same_number n e.0) is (λ later. found_value P n es x h.1 later) where
     go : (b : Bool) → cond b (Some e.1) (lookup (same_number n) es) ≡ Some x → (lookup (same_number n) es ≡ Some x → P x) → P x
     go true is later = let same : e.1 ≡ x = cc in subst P same h.0
     go false is later = later is
 
-  found_number : (P : ℕ → Type 0) (n : ℕ) (es : List (ℕ × X)) (x : X) → AllByRecursion P (keys_of es) → lookup (same_number n) es ≡ Some x → P n
+  found_number : (P : ℕ → Type 0) (n : ℕ) (es : List (ℕ × X)) (x : X) → AllByRecursion P (keys_of es) → lookup (same_number n) es ≡ Some x →
+      P n
   found_number P n [] x h is = absurd (cc)
   found_number P n (e ∷ es) x h is = go (same_number n e.0) refl is (λ later. found_number P n es x h.1 later) where
-    go : (b : Bool) → same_number n e.0 ≡ b → cond b (Some e.1) (lookup (same_number n) es) ≡ Some x → (lookup (same_number n) es ≡ Some x → P n) → P n
+    go : (b : Bool) → same_number n e.0 ≡ b → cond b (Some e.1) (lookup (same_number n) es) ≡ Some x →
+        (lookup (same_number n) es ≡ Some x → P n) → P n
     go true here is later = subst P (sym (eqb-true n e.0 here)) h.0
     go false here is later = later is
 
@@ -48,7 +52,8 @@ module _ {X : Type 0} where
 abbrev IsShortWait : ℕ → Option (StageValue JobValue) → Type 0
 IsShortWait n stage = IfOk (wait_answer n stage) IsShortWaitAnswer
 
-stage_short : (n : ℕ) (jobs : Jobs JobValue) (r : Option (Running JobValue)) (w : Option JobValue) (e : Option (List ℕ)) → AreJobs jobs → AreTold jobs
+stage_short : (n : ℕ) (jobs : Jobs JobValue) (r : Option (Running JobValue)) (w : Option JobValue) (e : Option (List ℕ)) → AreJobs jobs →
+    AreTold jobs
     → lookup (same_number n) jobs.running ≡ r → lookup (same_number n) jobs.waiting ≡ w → lookup (same_number n) jobs.ended ≡ e
     → IsShortWait n (or_else (option_map runs r) (or_else (option_map waits w) (option_map has_ended e)))
 stage_short n jobs (Some r) w e h told is later last =
@@ -68,4 +73,5 @@ pub wait_short : (name : List ℕ) (jobs : Jobs JobValue) → AreJobs jobs → A
 wait_short name jobs h told = go (number_named name) where
   go : (o : Option ℕ) → IfOk (wait_for o jobs) IsShortWaitAnswer
   go None = tt
-  go (Some n) = stage_short n jobs (lookup (same_number n) jobs.running) (lookup (same_number n) jobs.waiting) (lookup (same_number n) jobs.ended) h told refl refl refl
+  go (Some n) = stage_short n jobs (lookup (same_number n) jobs.running) (lookup (same_number n) jobs.waiting)
+      (lookup (same_number n) jobs.ended) h told refl refl refl

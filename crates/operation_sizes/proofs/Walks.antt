@@ -19,7 +19,8 @@ use Rattle.operation_sizes.proofs.Written.{AreFew}
 
 -- ---- lists
 
-all_mapped : {A B : Type 0} (f : A → Option B) (P : B → Type 0) (xs : List A) → AllByRecursion (λ x. IfSome (f x) P) xs → AllByRecursion P (filter_map f xs)
+all_mapped : {A B : Type 0} (f : A → Option B) (P : B → Type 0) (xs : List A) → AllByRecursion (λ x. IfSome (f x) P) xs →
+    AllByRecursion P (filter_map f xs)
 all_mapped f P [] h = tt
 all_mapped {B = B} f P (x ∷ xs) h = go (f x) h.0 (all_mapped f P xs h.1) where
   go : (o : Option B) → IfSome o P → AllByRecursion P (filter_map f xs) → AllByRecursion P (cons_option o (filter_map f xs))
@@ -58,21 +59,25 @@ AreFormed nodes = AllByRecursion IsFormed nodes
 
 file_formed : (level : ℕ) (n : FileNodeValue) → IsRead n.digest → IfSome (file_at level n) IsFormed
 file_formed level n read = go (written_digest n.digest) refl where
-  go : (o : Option Digest) → written_digest n.digest ≡ o → IfSome (option_map (λ d. record { name = n.name; level = level; kind = file d n.is_executable }) o) IsFormed
+  go : (o : Option Digest) → written_digest n.digest ≡ o →
+      IfSome (option_map (λ d. record { name = n.name; level = level; kind = file d n.is_executable }) o) IsFormed
   go None is = tt
   go (Some d) is = written_form n.digest d read is
 
 child_formed : (level : ℕ) (n : DirectoryNodeValue) → IsRead n.digest → IfSome (directory_at level n) IsFormed
 child_formed level n read = go (written_digest n.digest) refl where
-  go : (o : Option Digest) → written_digest n.digest ≡ o → IfSome (option_map (λ d. record { name = n.name; level = level; kind = directory d }) o) IsFormed
+  go : (o : Option Digest) → written_digest n.digest ≡ o →
+      IfSome (option_map (λ d. record { name = n.name; level = level; kind = directory d }) o) IsFormed
   go None is = tt
   go (Some d) is = written_form n.digest d read is
 
-all_files : (level : ℕ) (ns : List FileNodeValue) → AllByRecursion (λ (n : FileNodeValue). IsRead n.digest) ns → AllByRecursion (λ n. IfSome (file_at level n) IsFormed) ns
+all_files : (level : ℕ) (ns : List FileNodeValue) → AllByRecursion (λ (n : FileNodeValue). IsRead n.digest) ns →
+    AllByRecursion (λ n. IfSome (file_at level n) IsFormed) ns
 all_files level [] h = tt
 all_files level (n ∷ ns) h = (file_formed level n h.0, all_files level ns h.1)
 
-all_children : (level : ℕ) (ns : List DirectoryNodeValue) → AllByRecursion (λ (n : DirectoryNodeValue). IsRead n.digest) ns → AllByRecursion (λ n. IfSome (directory_at level n) IsFormed) ns
+all_children : (level : ℕ) (ns : List DirectoryNodeValue) → AllByRecursion (λ (n : DirectoryNodeValue). IsRead n.digest) ns →
+    AllByRecursion (λ n. IfSome (directory_at level n) IsFormed) ns
 all_children level [] h = tt
 all_children level (n ∷ ns) h = (child_formed level n h.0, all_children level ns h.1)
 
@@ -85,7 +90,8 @@ nodes_formed level v h =
     let files = all_mapped (file_at level) IsFormed v.files (all_files level v.files h.read_files) in
     let children = all_mapped (directory_at level) IsFormed v.directories (all_children level v.directories h.read_children) in
     all-append IsFormed (filter_map (file_at level) v.files) _ files
-    (all-append IsFormed (filter_map (symlink_at level) v.symlinks) (filter_map (directory_at level) v.directories) (all_links level v.symlinks) children)
+    (all-append IsFormed (filter_map (symlink_at level) v.symlinks) (filter_map (directory_at level) v.directories)
+    (all_links level v.symlinks) children)
 
 -- the nodes, or else what is missing
 abbrev AreKnown : Nodes → Type 0
@@ -95,13 +101,17 @@ AreKnown (Err bad_directory) = Unit {0}
 AreKnown (Err too_many) = Unit {0}
 AreKnown (Err too_deep) = Unit {0}
 
-text_known : (level most : ℕ) (text : List ℕ) → AreKnown (nodes_or_fault (option_map (nodes_of level) (cond (nat_le (length text) most) (valid_directory (value_of_text directory_of text)) None)))
+text_known : (level most : ℕ) (text : List ℕ) →
+    AreKnown (nodes_or_fault (option_map (nodes_of level)
+    (cond (nat_le (length text) most) (valid_directory (value_of_text directory_of text)) None)))
 text_known level most text = go (nat_le (length text) most) (value_of_text directory_of text) refl where
-  valid : (v : DirectoryValue) → IsDirectoryRead v → (b : Bool) → AreKnown (nodes_or_fault (option_map (nodes_of level) (cond b (Some v) None)))
+  valid : (v : DirectoryValue) → IsDirectoryRead v → (b : Bool) →
+      AreKnown (nodes_or_fault (option_map (nodes_of level) (cond b (Some v) None)))
   valid v read true = nodes_formed level v read
   valid v read false = tt
 
-  go : (b : Bool) (r : Result DirectoryValue MessageError) → value_of_text directory_of text ≡ r → AreKnown (nodes_or_fault (option_map (nodes_of level) (cond b (valid_directory r) None)))
+  go : (b : Bool) (r : Result DirectoryValue MessageError) → value_of_text directory_of text ≡ r →
+      AreKnown (nodes_or_fault (option_map (nodes_of level) (cond b (valid_directory r) None)))
   go true (Ok v) is = valid v (directory_read text v is) (is_directory v)
   go true (Err e) is = tt
   go false r is = tt
@@ -112,7 +122,8 @@ directory_known look level d = go (look d) where
   go None = tt
   go (Some text) = text_known level 67108864 text
 
-below_known : (look : Lookup) (most level : ℕ) (d : Digest) → AreKnown (cond (nat_le most level) (Err too_deep) (directory_nodes look (level + 1) d))
+below_known : (look : Lookup) (most level : ℕ) (d : Digest) →
+    AreKnown (cond (nat_le most level) (Err too_deep) (directory_nodes look (level + 1) d))
 below_known look most level d = go (nat_le most level) where
   go : (b : Bool) → AreKnown (cond b (Err too_deep) (directory_nodes look (level + 1) d))
   go true = tt
@@ -135,14 +146,16 @@ IsWalked most (Err bad_directory) = Unit {0}
 IsWalked most (Err too_many) = Unit {0}
 IsWalked most (Err too_deep) = Unit {0}
 
-then_walked : (most : ℕ) (r : Nodes) (step : List PlanNodeValue → Nodes) → AreKnown r → ((nodes : List PlanNodeValue) → AreFormed nodes → IsWalked most (step nodes)) → IsWalked most (r >>= step)
+then_walked : (most : ℕ) (r : Nodes) (step : List PlanNodeValue → Nodes) → AreKnown r →
+    ((nodes : List PlanNodeValue) → AreFormed nodes → IsWalked most (step nodes)) → IsWalked most (r >>= step)
 then_walked most (Ok nodes) step known later = later nodes known
 then_walked most (Err (missing ds)) step known later = known
 then_walked most (Err bad_directory) step known later = tt
 then_walked most (Err too_many) step known later = tt
 then_walked most (Err too_deep) step known later = tt
 
-along_walked : (most all : ℕ) (look : Lookup) (next met : List PlanNodeValue) → AreFormed next → AreFormed met → most + length met ≤ all → IsWalked all (walk_along most look next met)
+along_walked : (most all : ℕ) (look : Lookup) (next met : List PlanNodeValue) → AreFormed next → AreFormed met → most + length met ≤ all →
+    IsWalked all (walk_along most look next met)
 unfolding walk_along
 along_walked zero all look [] met h g few = (g, omega arith)
 along_walked zero all look (n ∷ next) met h g few = tt
@@ -150,9 +163,11 @@ along_walked (suc most) all look [] met h g few = (g, omega arith)
 along_walked (suc most) all look (n ∷ next) met h g few =
     let parts = length-append met (n ∷ []) in
     then_walked all (nodes_inside look n) (λ inside. walk_along most look (inside ++ next) (met ++ n ∷ [])) (inside_known look n)
-    (λ inside known. along_walked most all look (inside ++ next) (met ++ n ∷ []) (all-append IsFormed inside next known h.1) (all-append IsFormed met (n ∷ []) g (h.0, tt)) (omega arith))
+    (λ inside known. along_walked most all look (inside ++ next) (met ++ n ∷ []) (all-append IsFormed inside next known h.1)
+    (all-append IsFormed met (n ∷ []) g (h.0, tt)) (omega arith))
 
-met_walked : (most : ℕ) (look : Lookup) (root : Digest) → IsWalked most (directory_nodes look 1 root >>= (λ nodes. walk_along most look nodes []))
+met_walked : (most : ℕ) (look : Lookup) (root : Digest) →
+    IsWalked most (directory_nodes look 1 root >>= (λ nodes. walk_along most look nodes []))
 met_walked most look root =
     then_walked most (directory_nodes look 1 root) (λ nodes. walk_along most look nodes []) (directory_known look 1 root)
     (λ nodes known. along_walked most most look nodes [] known tt (omega arith))
@@ -165,18 +180,25 @@ AreMissingFew most (Err bad_directory) = Unit {0}
 AreMissingFew most (Err too_many) = Unit {0}
 AreMissingFew most (Err too_deep) = Unit {0}
 
-unless_few : (most : ℕ) (nodes : List PlanNodeValue) (ds : List Digest) → AreFew most ds → AreMissingFew most (nodes_unless_missing nodes ds)
+unless_few : (most : ℕ) (nodes : List PlanNodeValue) (ds : List Digest) → AreFew most ds →
+    AreMissingFew most (nodes_unless_missing nodes ds)
 unless_few most nodes [] few = tt
 unless_few most nodes (d ∷ ds) few = few
 
-met_few : (most : ℕ) (look : Lookup) (root : Digest) (nodes : List PlanNodeValue) → HasForm root → AreFormed nodes → length nodes ≤ most → AreFew (1 + most) (missing_among look (digests_met root nodes))
+met_few : (most : ℕ) (look : Lookup) (root : Digest) (nodes : List PlanNodeValue) → HasForm root → AreFormed nodes → length nodes ≤ most →
+    AreFew (1 + most) (missing_among look (digests_met root nodes))
 met_few most look root nodes form h few =
     let met = mapped_few digest_of_node nodes in
     let left = filtered_few (λ d. not (is_some (look d))) (digests_met root nodes) in
-    record { forms = all_filtered (λ d. not (is_some (look d))) (digests_met root nodes) (form, all_mapped digest_of_node HasForm nodes h); few = omega arith }
+    record {
+      forms = all_filtered (λ d. not (is_some (look d))) (digests_met root nodes) (form, all_mapped digest_of_node HasForm nodes h);
+      few = omega arith;
+    }
 
-planned_few : (most : ℕ) (look : Lookup) (root : Digest) (r : Nodes) → HasForm root → IsWalked most r → AreMissingFew (1 + most) (r >>= (λ nodes. nodes_unless_missing nodes (missing_among look (digests_met root nodes))))
-planned_few most look root (Ok nodes) form h = unless_few (1 + most) nodes (missing_among look (digests_met root nodes)) (met_few most look root nodes form h.0 h.1)
+planned_few : (most : ℕ) (look : Lookup) (root : Digest) (r : Nodes) → HasForm root → IsWalked most r →
+    AreMissingFew (1 + most) (r >>= (λ nodes. nodes_unless_missing nodes (missing_among look (digests_met root nodes))))
+planned_few most look root (Ok nodes) form h =
+    unless_few (1 + most) nodes (missing_among look (digests_met root nodes)) (met_few most look root nodes form h.0 h.1)
 planned_few most look root (Err (missing ds)) form h = absurd h
 planned_few most look root (Err bad_directory) form h = tt
 planned_few most look root (Err too_many) form h = tt

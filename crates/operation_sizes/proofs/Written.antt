@@ -26,7 +26,8 @@ use Rattle.operation_sizes.proofs.Fields.{payload_written, text_written, middle_
 
 -- ---- digests
 
-pub digest_written : (hash : List ℕ) (size : ℕ) → length hash ≤ 128 → size < 2 ^ 64 → length (text_for digest_records (record { hash = hash; size_bytes = pos size })) ≤ 142
+pub digest_written : (hash : List ℕ) (size : ℕ) → length hash ≤ 128 → size < 2 ^ 64 →
+    length (text_for digest_records (record { hash = hash; size_bytes = pos size })) ≤ 142
 digest_written hash size few fits =
     let both = both_written (string_field 1 hash) (int64_field 2 (pos size)) in
     let first = middle_text_written 1 hash (omega arith) (omega arith) in
@@ -38,7 +39,8 @@ form_written d h = let size = h.size in digest_written (hash_text d) d.size h.ha
 
 -- ---- Operations
 
-any_written : (url value : List ℕ) → length url < 2 ^ 40 → length value < 2 ^ 40 → length (text_for any_records (record { type_url = url; value = value })) ≤ 22 + length url + length value
+any_written : (url value : List ℕ) → length url < 2 ^ 40 → length value < 2 ^ 40 →
+    length (text_for any_records (record { type_url = url; value = value })) ≤ 22 + length url + length value
 any_written url value few short =
     let both = both_written (string_field 1 url) (bytes_field 2 value) in
     let first = text_written 1 url (omega arith) (omega arith) in
@@ -63,7 +65,8 @@ abbrev response_size : Option (List ℕ) → ℕ
 response_size None = 0
 response_size (Some t) = length t
 
-response_written : (response : Option (List ℕ)) → response_size response < 2 ^ 39 → length (records_text (embedded_field any_records 5 (response_any response))) ≤ 100 + response_size response
+response_written : (response : Option (List ℕ)) → response_size response < 2 ^ 39 →
+    length (records_text (embedded_field any_records 5 (response_any response))) ≤ 100 + response_size response
 response_written None short = omega arith
 response_written (Some text) short =
     let url : length response_url ≡ 67 = refl in
@@ -71,7 +74,8 @@ response_written (Some text) short =
     let around = payload_written 5 (text_for any_records (record { type_url = response_url; value = text })) (omega arith) (omega arith) in
     omega arith
 
-operation_written : (n stage : ℕ) (d : Digest) (done : Bool) (response : Option (List ℕ)) → n < 2 ^ 64 → stage < 2 ^ 64 → HasForm d → response_size response < 2 ^ 39 → length (operation_text n (pos stage) (digest_value d) done response) ≤ 420 + response_size response
+operation_written : (n stage : ℕ) (d : Digest) (done : Bool) (response : Option (List ℕ)) → n < 2 ^ 64 → stage < 2 ^ 64 → HasForm d →
+    response_size response < 2 ^ 39 → length (operation_text n (pos stage) (digest_value d) done response) ≤ 420 + response_size response
 operation_written n stage d done response number fits h short =
     let metadata = metadata_text (pos stage) (digest_value d) in
     let any = text_for any_records (record { type_url = metadata_url; value = metadata }) in
@@ -100,10 +104,12 @@ executing_short n d few h = let e = operation_written n 3 d false None (number_f
 
 -- ---- ends
 
-completed_written : (n : ℕ) (d : Digest) (e : EndValue) → n ≤ LAST_NUMBER + 1 → HasForm d → length (response_text e) < 2 ^ 39 → length (completed_text n d e) ≤ 420 + length (response_text e)
+completed_written : (n : ℕ) (d : Digest) (e : EndValue) → n ≤ LAST_NUMBER + 1 → HasForm d → length (response_text e) < 2 ^ 39 →
+    length (completed_text n d e) ≤ 420 + length (response_text e)
 completed_written n d e few h short = operation_written n 4 d true (Some (response_text e)) (number_fits n few) (omega arith) h short
 
-result_written : (text : List ℕ) (cached : Bool) → length text < 2 ^ 32 → length (text_for execute_response_records (record { result = Some text; cached_result = cached; status = None })) ≤ 13 + length text
+result_written : (text : List ℕ) (cached : Bool) → length text < 2 ^ 32 →
+    length (text_for execute_response_records (record { result = Some text; cached_result = cached; status = None })) ≤ 13 + length text
 result_written text cached short =
     let all = both_written (message_field 1 text ++ flag_field 2 cached) [] in
     let both = both_written (message_field 1 text) (flag_field 2 cached) in
@@ -111,13 +117,15 @@ result_written text cached short =
     let second = flag_written 2 cached (omega arith) in
     omega arith
 
-pub found_short : (n : ℕ) (d : Digest) (text : List ℕ) → n ≤ LAST_NUMBER + 1 → HasForm d → length text < 2 ^ 32 → length (completed_text n d (finds text)) ≤ 1000 + length text
+pub found_short : (n : ℕ) (d : Digest) (text : List ℕ) → n ≤ LAST_NUMBER + 1 → HasForm d → length text < 2 ^ 32 →
+    length (completed_text n d (finds text)) ≤ 1000 + length text
 found_short n d text few h short =
     let response = result_written text true short in
     let whole = completed_written n d (finds text) few h (omega arith) in
     omega arith
 
-pub given_short : (n : ℕ) (d : Digest) (text : List ℕ) → n ≤ LAST_NUMBER + 1 → HasForm d → length text < 2 ^ 32 → length (completed_text n d (gives text)) ≤ 1000 + length text
+pub given_short : (n : ℕ) (d : Digest) (text : List ℕ) → n ≤ LAST_NUMBER + 1 → HasForm d → length text < 2 ^ 32 →
+    length (completed_text n d (gives text)) ≤ 1000 + length text
 given_short n d text few h short =
     let response = result_written text false short in
     let whole = completed_written n d (gives text) few h (omega arith) in
@@ -136,7 +144,8 @@ text_small _ = omega arith
 abbrev details_size : List AnyValue → ℕ
 details_size details = length (records_text (repeated_field any_records 3 details))
 
-status_written : (fault : Fault) (details : List AnyValue) → length (text_for status_records (status_with fault details)) ≤ 36 + details_size details
+status_written : (fault : Fault) (details : List AnyValue) →
+    length (text_for status_records (status_with fault details)) ≤ 36 + details_size details
 status_written fault details =
     let front = number_field 1 (code_of fault) ++ string_field 2 (text_of fault) in
     let all = both_written front (repeated_field any_records 3 details) in
@@ -147,13 +156,15 @@ status_written fault details =
     let second = text_written 2 (text_of fault) (omega arith) (omega arith) in
     omega arith
 
-failed_written : (fault : Fault) (missing : List Digest) → details_size (details_of missing) < 2 ^ 38 → length (response_text (fails fault missing)) ≤ 47 + details_size (details_of missing)
+failed_written : (fault : Fault) (missing : List Digest) → details_size (details_of missing) < 2 ^ 38 →
+    length (response_text (fails fault missing)) ≤ 47 + details_size (details_of missing)
 failed_written fault missing short =
     let inside = status_written fault (details_of missing) in
     let around = payload_written 3 (text_for status_records (status_of fault missing)) (omega arith) (omega arith) in
     omega arith
 
-pub failed_short : (n : ℕ) (d : Digest) (fault : Fault) → n ≤ LAST_NUMBER + 1 → HasForm d → length (completed_text n d (fails fault [])) ≤ 1000
+pub failed_short : (n : ℕ) (d : Digest) (fault : Fault) → n ≤ LAST_NUMBER + 1 → HasForm d →
+    length (completed_text n d (fails fault [])) ≤ 1000
 failed_short n d fault few h =
     let response = failed_written fault [] (omega arith) in
     let whole = completed_written n d (fails fault []) few h (omega arith) in
@@ -175,7 +186,8 @@ one_distinct most ds d h one = go (list_any (same_digest d) ds) where
       let parts = length-append ds (d ∷ []) in
       record { forms = all-append HasForm ds (d ∷ []) h.forms (one, tt); few = omega arith }
 
-all_distinct : (most : ℕ) (ds cs : List Digest) → AreFew most ds → AllByRecursion HasForm cs → AreFew (most + length cs) (with_all_distinct ds cs)
+all_distinct : (most : ℕ) (ds cs : List Digest) → AreFew most ds → AllByRecursion HasForm cs →
+    AreFew (most + length cs) (with_all_distinct ds cs)
 all_distinct most ds [] h g = let few = h.few in record { forms = h.forms; few = omega arith }
 all_distinct most ds (c ∷ cs) h g =
     let rest = all_distinct (most + 1) (with_distinct ds c) cs (one_distinct most ds c h g.0) g.1 in
@@ -206,11 +218,13 @@ violation_written d h =
     let second = text_written 2 (subject_of d) (omega arith) (omega arith) in
     omega arith
 
-violations_written : (ds : List Digest) → AllByRecursion HasForm ds → length (records_text (repeated_field violation_records 1 (map violation_of (map subject_of ds)))) ≤ 195 * length ds
+violations_written : (ds : List Digest) → AllByRecursion HasForm ds →
+    length (records_text (repeated_field violation_records 1 (map violation_of (map subject_of ds)))) ≤ 195 * length ds
 violations_written [] h = omega arith
 violations_written (d ∷ ds) h =
     let one = violation_written d h.0 in
-    let more = more_written 1 (text_for violation_records (violation_of (subject_of d))) (map (text_for violation_records) (map violation_of (map subject_of ds))) (omega arith) (omega arith) in
+    let more = more_written 1 (text_for violation_records (violation_of (subject_of d)))
+    (map (text_for violation_records) (map violation_of (map subject_of ds))) (omega arith) (omega arith) in
     let rest = violations_written ds h.1 in
     omega arith
 
@@ -235,7 +249,9 @@ details_written ds h few = go (nat_eq (length ds) 0) where
       let around = more_written 3 (text_for any_records any) [] (omega arith) (omega arith) in
       omega arith
 
-pub missing_short : (n : ℕ) (d : Digest) (fault : Fault) (missing : List Digest) → n ≤ LAST_NUMBER + 1 → HasForm d → AllByRecursion HasForm missing → length missing < 2 ^ 20 → length (completed_text n d (fails fault missing)) ≤ 1000 + 200 * length missing
+pub missing_short : (n : ℕ) (d : Digest) (fault : Fault) (missing : List Digest) → n ≤ LAST_NUMBER + 1 → HasForm d →
+    AllByRecursion HasForm missing → length missing < 2 ^ 20 →
+    length (completed_text n d (fails fault missing)) ≤ 1000 + 200 * length missing
 missing_short n d fault missing few h forms count =
     let details = details_written missing forms count in
     let response = failed_written fault missing (omega arith) in

@@ -1,5 +1,8 @@
 //! What an operator is told of what has to be there before instances are served.
 
+ghost use Rattle.std.specs.Prelude.{◌≡◌, codes};
+ghost use Rattle.std.specs.Str.{bytes_eq};
+
 use crate::instance_words::{
     Instances, InstancesFault, Mistake, WordFault, mistake_of, parent_mistake_of,
 };
@@ -225,4 +228,12 @@ const NEEDS: &str = "# needs: ";
 pub fn need_of(line: &[u8]) -> Option<(&str, &str)> {
     let need = str::from_utf8(line).ok()?.strip_prefix(NEEDS)?;
     Some(need.split_once(" - ").unwrap_or((need, "it needs that")))
+}
+
+/// Whether a line of a launcher says that of what it started nothing runs any more once it has
+/// ended. Then nobody can have a lease on what a run left.
+pub fn says_no_process(line: &[u8]) -> bool
+    ensures { result ≡ bytes_eq line.now (codes "# leaves: no process") }
+{
+    line == b"# leaves: no process".as_slice()
 }

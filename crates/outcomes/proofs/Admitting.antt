@@ -6,7 +6,9 @@ use Rattle.quota_evict.specs.Admission.{visible_after_admission}
 use Rattle.cas_service.specs.Changes.{MadeInPart, TextChange, visible_after_change, visible_after_changes}
 use Rattle.outcomes.specs.Ending.{admission_of, admissions}
 
-after_both : (limit quota : ℕ) (cs ds : List TextChange) (visible : List Blob) → visible_after_changes limit quota (cs ++ ds) visible ≡ visible_after_changes limit quota ds (visible_after_changes limit quota cs visible)
+after_both : (limit quota : ℕ) (cs ds : List TextChange) (visible : List Blob) →
+    visible_after_changes limit quota (cs ++ ds) visible
+    ≡ visible_after_changes limit quota ds (visible_after_changes limit quota cs visible)
 after_both limit quota [] ds visible = refl
 after_both limit quota (c ∷ cs) ds visible = after_both limit quota cs ds (visible_after_change limit quota c visible)
 
@@ -21,7 +23,8 @@ begun limit quota old blobs left is = record {
   left_is = ap admissions (sym is);
 }
 
-pub gone_on : (limit quota : ℕ) (all : List TextChange) (old now next : List Blob) (b : Blob) (left : List Blob) → Underway limit quota all old now (b ∷ left)
+pub gone_on : (limit quota : ℕ) (all : List TextChange) (old now next : List Blob) (b : Blob) (left : List Blob) →
+    Underway limit quota all old now (b ∷ left)
     → next ≡ visible_after_admission limit quota b.0 b.1 now → Underway limit quota all old next left
 gone_on limit quota all old now next b left u is =
     let p = u.part in

@@ -12,24 +12,29 @@ any_map : {X Y : Type 0} (test : Y → Bool) (f : X → Y) (xs : List X) → lis
 any_map test f [] = refl
 any_map test f (x ∷ xs) = ap (λ (b : Bool). test (f x) || b) (any_map test f xs)
 
-pub any_text : (texts : List (Vec ℕ)) (vs : List DirectoryValue) (text : Vec ℕ) (v : DirectoryValue) → HaveTexts texts vs → text.items ≡ directory_text v → list_any (λ (t : Vec ℕ). pointwise nat_eq text.items t.items) texts ≡ list_any (has_text_of v) vs
+pub any_text : (texts : List (Vec ℕ)) (vs : List DirectoryValue) (text : Vec ℕ) (v : DirectoryValue) → HaveTexts texts vs →
+    text.items ≡ directory_text v → list_any (λ (t : Vec ℕ). pointwise nat_eq text.items t.items) texts ≡ list_any (has_text_of v) vs
 any_text texts vs text v have is =
     sym (any_map (pointwise nat_eq text.items) (λ (t : Vec ℕ). t.items) texts)
     ∙ ap (λ (ts : List (List ℕ)). list_any (pointwise nat_eq text.items) ts) have
     ∙ any_map (pointwise nat_eq text.items) directory_text vs
     ∙ ap (λ (t : List ℕ). list_any (λ u. pointwise nat_eq t (directory_text u)) vs) is
 
-pub child_there : (texts : List (Vec ℕ)) (vs : List DirectoryValue) (text : Vec ℕ) (v : DirectoryValue) → HaveTexts texts vs → text.items ≡ directory_text v → list_any (λ (t : Vec ℕ). pointwise nat_eq text.items t.items) texts ≡ true → with_child vs v ≡ vs
+pub child_there : (texts : List (Vec ℕ)) (vs : List DirectoryValue) (text : Vec ℕ) (v : DirectoryValue) → HaveTexts texts vs →
+    text.items ≡ directory_text v → list_any (λ (t : Vec ℕ). pointwise nat_eq text.items t.items) texts ≡ true → with_child vs v ≡ vs
 child_there texts vs text v have is there =
     let found : list_any (has_text_of v) vs ≡ true = sym (any_text texts vs text v have is) ∙ there in
     rw found refl
 
-pub child_new : (texts : List (Vec ℕ)) (vs : List DirectoryValue) (text : Vec ℕ) (v : DirectoryValue) → HaveTexts texts vs → text.items ≡ directory_text v → list_any (λ (t : Vec ℕ). pointwise nat_eq text.items t.items) texts ≡ false → with_child vs v ≡ vs ++ v ∷ []
+pub child_new : (texts : List (Vec ℕ)) (vs : List DirectoryValue) (text : Vec ℕ) (v : DirectoryValue) → HaveTexts texts vs →
+    text.items ≡ directory_text v → list_any (λ (t : Vec ℕ). pointwise nat_eq text.items t.items) texts ≡ false →
+    with_child vs v ≡ vs ++ v ∷ []
 child_new texts vs text v have is absent =
     let none : list_any (has_text_of v) vs ≡ false = sym (any_text texts vs text v have is) ∙ absent in
     rw none refl
 
-pub texts_more : (texts : List (Vec ℕ)) (vs : List DirectoryValue) (text : Vec ℕ) (v : DirectoryValue) → HaveTexts texts vs → text.items ≡ directory_text v → HaveTexts (texts ++ text ∷ []) (vs ++ v ∷ [])
+pub texts_more : (texts : List (Vec ℕ)) (vs : List DirectoryValue) (text : Vec ℕ) (v : DirectoryValue) → HaveTexts texts vs →
+    text.items ≡ directory_text v → HaveTexts (texts ++ text ∷ []) (vs ++ v ∷ [])
 texts_more texts vs text v have is =
     map-append (λ (t : Vec ℕ). t.items) texts (text ∷ [])
     ∙ ap (λ (ts : List (List ℕ)). ts ++ text.items ∷ []) have

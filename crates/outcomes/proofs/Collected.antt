@@ -18,19 +18,23 @@ all_grown : {X Y : Type 0} (f : X → List Y) (ys : List Y) (xs : List X) → gr
 all_grown f ys [] = sym (append-nil ys)
 all_grown f ys (x ∷ xs) = all_grown f (ys ++ f x) xs ∙ append_assoc ys (f x) (flat_map f xs)
 
-files_grown : (like : Digest) (c : CollectionValue) (os : List OutputValue) → (with_outputs like c os).files ≡ grown (file_results like) c.files os
+files_grown : (like : Digest) (c : CollectionValue) (os : List OutputValue) →
+    (with_outputs like c os).files ≡ grown (file_results like) c.files os
 files_grown like c [] = refl
 files_grown like c (o ∷ os) = files_grown like (with_output like c o) os
 
-trees_grown : (like : Digest) (c : CollectionValue) (os : List OutputValue) → (with_outputs like c os).trees ≡ grown (tree_results like) c.trees os
+trees_grown : (like : Digest) (c : CollectionValue) (os : List OutputValue) →
+    (with_outputs like c os).trees ≡ grown (tree_results like) c.trees os
 trees_grown like c [] = refl
 trees_grown like c (o ∷ os) = trees_grown like (with_output like c o) os
 
-file_blobs_grown : (like : Digest) (c : CollectionValue) (os : List OutputValue) → (with_outputs like c os).file_blobs ≡ grown (file_blobs like) c.file_blobs os
+file_blobs_grown : (like : Digest) (c : CollectionValue) (os : List OutputValue) →
+    (with_outputs like c os).file_blobs ≡ grown (file_blobs like) c.file_blobs os
 file_blobs_grown like c [] = refl
 file_blobs_grown like c (o ∷ os) = file_blobs_grown like (with_output like c o) os
 
-tree_blobs_grown : (like : Digest) (c : CollectionValue) (os : List OutputValue) → (with_outputs like c os).tree_blobs ≡ grown (tree_blobs like) c.tree_blobs os
+tree_blobs_grown : (like : Digest) (c : CollectionValue) (os : List OutputValue) →
+    (with_outputs like c os).tree_blobs ≡ grown (tree_blobs like) c.tree_blobs os
 tree_blobs_grown like c [] = refl
 tree_blobs_grown like c (o ∷ os) = tree_blobs_grown like (with_output like c o) os
 

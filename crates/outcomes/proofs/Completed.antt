@@ -24,7 +24,10 @@ use Rattle.outcomes.proofs.Collected.{all_collected}
 
 -- ---- trees
 
-pub tree_found : (like : Digest) (nodes : List OutputNodeValue) (root : DirectoryValue) (children : List DirectoryValue) (text : List ℕ) → keeps_walk nodes ≡ true → root ≡ root_of like nodes → is_directory root ≡ true → list_all is_directory (below_root like nodes) ≡ true → children ≡ children_of like nodes → text ≡ text_for tree_records (record { root = Some root; children = children }) → Some text ≡ tree_of like nodes
+pub tree_found : (like : Digest) (nodes : List OutputNodeValue) (root : DirectoryValue) (children : List DirectoryValue) (text : List ℕ) →
+    keeps_walk nodes ≡ true → root ≡ root_of like nodes → is_directory root ≡ true → list_all is_directory (below_root like nodes) ≡ true →
+    children ≡ children_of like nodes → text ≡ text_for tree_records (record { root = Some root; children = children }) →
+    Some text ≡ tree_of like nodes
 tree_found like nodes root children text walk is taken below all written =
     let top : is_directory (root_of like nodes) ≡ true = ap is_directory (sym is) ∙ taken in
     ap (λ (t : List ℕ). Some t) (written
@@ -32,21 +35,25 @@ tree_found like nodes root children text walk is taken below all written =
     ∙ ap (λ (vs : List DirectoryValue). text_for tree_records (record { root = Some (root_of like nodes); children = vs })) all)
     ∙ rw (walk, top, below) refl
 
-pub no_root : (like : Digest) (nodes : List OutputNodeValue) (root : DirectoryValue) → keeps_walk nodes ≡ true → root ≡ root_of like nodes → is_directory root ≡ false → None ≡ tree_of like nodes
+pub no_root : (like : Digest) (nodes : List OutputNodeValue) (root : DirectoryValue) → keeps_walk nodes ≡ true → root ≡ root_of like nodes →
+    is_directory root ≡ false → None ≡ tree_of like nodes
 no_root like nodes root walk is not_taken =
     let denied : is_directory (root_of like nodes) ≡ false = ap is_directory (sym is) ∙ not_taken in
     rw (walk, denied) refl
 
-pub no_below : (like : Digest) (nodes : List OutputNodeValue) → keeps_walk nodes ≡ true → list_all is_directory (below_root like nodes) ≡ false → None ≡ tree_of like nodes
+pub no_below : (like : Digest) (nodes : List OutputNodeValue) → keeps_walk nodes ≡ true →
+    list_all is_directory (below_root like nodes) ≡ false → None ≡ tree_of like nodes
 no_below like nodes walk denied = go (is_directory (root_of like nodes)) refl where
   go : (b : Bool) → is_directory (root_of like nodes) ≡ b → None ≡ tree_of like nodes
   go true is = rw (walk, is, denied) refl
   go false is = rw (walk, is) refl
 
 walked : (nodes : List OutputNodeValue) → keeps_walk nodes ≡ true → are_walked 1 nodes ≡ true
-walked nodes h = (and_parts (list_all is_shallow nodes) (are_walked 1 nodes) (and_parts (nat_le (length nodes) MOST_NODES) (list_all is_shallow nodes && are_walked 1 nodes) h).1).1
+walked nodes h = (and_parts (list_all is_shallow nodes) (are_walked 1 nodes)
+    (and_parts (nat_le (length nodes) MOST_NODES) (list_all is_shallow nodes && are_walked 1 nodes) h).1).1
 
-pub root_is : (like : Digest) (nodes : List OutputNodeValue) (g : Gathering) (v u : DirectoryValue) (rest : List DirectoryValue) → keeps_walk nodes ≡ true → IsGathered like g nodes → u ≡ v → v ∷ rest ≡ down_to 1 (map open_shown g.going.items) → u ≡ root_of like nodes
+pub root_is : (like : Digest) (nodes : List OutputNodeValue) (g : Gathering) (v u : DirectoryValue) (rest : List DirectoryValue) →
+    keeps_walk nodes ≡ true → IsGathered like g nodes → u ≡ v → v ∷ rest ≡ down_to 1 (map open_shown g.going.items) → u ≡ root_of like nodes
 root_is like nodes g v u rest walk gathered same is =
     same ∙ root_found like nodes g v rest gathered (first_low 1 nodes (walked nodes walk)) is
 
@@ -55,23 +62,40 @@ no_walk like nodes denied = rw denied refl
 
 -- ---- runs
 
-pub completed : (like : Digest) (asked : List AskedOutput) (x : ExitedValue) (c : CollectionValue) (blobs : List Blob) (result : List ℕ) → are_asked asked x.outputs ≡ true → list_all (is_output like) x.outputs ≡ true → c ≡ with_outputs like no_outputs x.outputs → result ≡ text_for action_result_records (result_with x.code c.files c.trees (stream_digest like x.stdout) (stream_digest like x.stderr)) → blobs ≡ c.file_blobs ++ c.tree_blobs ++ stream_blobs like x.stdout ++ stream_blobs like x.stderr → Some (record { blobs = blobs; result = result }) ≡ completion_of like asked x
+pub completed : (like : Digest) (asked : List AskedOutput) (x : ExitedValue) (c : CollectionValue) (blobs : List Blob) (result : List ℕ) →
+    are_asked asked x.outputs ≡ true → list_all (is_output like) x.outputs ≡ true → c ≡ with_outputs like no_outputs x.outputs →
+    result ≡ text_for action_result_records (result_with x.code c.files c.trees (stream_digest like x.stdout)
+    (stream_digest like x.stderr)) → blobs ≡ c.file_blobs ++ c.tree_blobs ++ stream_blobs like x.stdout ++ stream_blobs like x.stderr →
+    Some (record { blobs = blobs; result = result }) ≡ completion_of like asked x
 completed like asked x c blobs result known taken is written joined =
     let all = all_collected like x.outputs c is in
-    let text : result ≡ text_for action_result_records (result_with x.code (flat_map (file_results like) x.outputs) (flat_map (tree_results like) x.outputs) (stream_digest like x.stdout) (stream_digest like x.stderr)) =
+    let text : result ≡ text_for action_result_records
+    (result_with x.code (flat_map (file_results like) x.outputs) (flat_map (tree_results like) x.outputs) (stream_digest like x.stdout)
+    (stream_digest like x.stderr)) =
     written
-    ∙ ap (λ (fs : List OutputFileValue). text_for action_result_records (result_with x.code fs c.trees (stream_digest like x.stdout) (stream_digest like x.stderr))) all.files
-    ∙ ap (λ (ts : List OutputDirectoryValue). text_for action_result_records (result_with x.code (flat_map (file_results like) x.outputs) ts (stream_digest like x.stdout) (stream_digest like x.stderr))) all.trees in
-    let bytes : blobs ≡ flat_map (file_blobs like) x.outputs ++ flat_map (tree_blobs like) x.outputs ++ stream_blobs like x.stdout ++ stream_blobs like x.stderr =
+    ∙ ap (λ (fs : List OutputFileValue). text_for action_result_records
+    (result_with x.code fs c.trees (stream_digest like x.stdout) (stream_digest like x.stderr))) all.files
+    ∙ ap (λ (ts : List OutputDirectoryValue). text_for action_result_records
+    (result_with x.code (flat_map (file_results like) x.outputs) ts (stream_digest like x.stdout) (stream_digest like x.stderr)))
+    all.trees in
+    let bytes : blobs ≡ flat_map (file_blobs like) x.outputs ++ flat_map (tree_blobs like) x.outputs ++ stream_blobs like x.stdout
+    ++ stream_blobs like x.stderr =
     joined
     ∙ ap (λ (bs : List Blob). bs ++ c.tree_blobs ++ stream_blobs like x.stdout ++ stream_blobs like x.stderr) all.blobs_of_files
-    ∙ ap (λ (bs : List Blob). flat_map (file_blobs like) x.outputs ++ bs ++ stream_blobs like x.stdout ++ stream_blobs like x.stderr) all.blobs_of_trees in
+    ∙ ap (λ (bs : List Blob). flat_map (file_blobs like) x.outputs ++ bs ++ stream_blobs like x.stdout ++ stream_blobs like x.stderr)
+    all.blobs_of_trees in
     ap (λ (bs : List Blob). Some (record { blobs = bs; result = result })) bytes
-    ∙ ap (λ (t : List ℕ). Some (record { blobs = flat_map (file_blobs like) x.outputs ++ flat_map (tree_blobs like) x.outputs ++ stream_blobs like x.stdout ++ stream_blobs like x.stderr; result = t })) text
+    ∙ ap (λ (t : List ℕ). Some (record {
+      blobs = flat_map (file_blobs like) x.outputs ++ flat_map (tree_blobs like) x.outputs
+          ++ stream_blobs like x.stdout ++ stream_blobs like x.stderr;
+      result = t;
+    })) text
     ∙ rw (known, taken) refl
 
-pub not_asked : (like : Digest) (asked : List AskedOutput) (x : ExitedValue) → are_asked asked x.outputs ≡ false → None ≡ completion_of like asked x
+pub not_asked : (like : Digest) (asked : List AskedOutput) (x : ExitedValue) → are_asked asked x.outputs ≡ false →
+    None ≡ completion_of like asked x
 not_asked like asked x denied = rw denied refl
 
-pub not_taken : (like : Digest) (asked : List AskedOutput) (x : ExitedValue) → are_asked asked x.outputs ≡ true → list_all (is_output like) x.outputs ≡ false → None ≡ completion_of like asked x
+pub not_taken : (like : Digest) (asked : List AskedOutput) (x : ExitedValue) → are_asked asked x.outputs ≡ true →
+    list_all (is_output like) x.outputs ≡ false → None ≡ completion_of like asked x
 not_taken like asked x known denied = rw (known, denied) refl

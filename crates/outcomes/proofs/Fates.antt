@@ -29,32 +29,42 @@ stored_is job code result text h = go (is_success code) job.is_stored refl refl 
   go true false s t h = absurd (cc)
   go false t' s t h = absurd (cc)
 
-of_success : (quota : ℕ) (visible : List Blob) (job : JobValue) (x : ExitedValue) (c : CompletionValue) (text : List ℕ) → (completed quota visible job x.code c).stored ≡ Some text
+of_success : (quota : ℕ) (visible : List Blob) (job : JobValue) (x : ExitedValue) (c : CompletionValue) (text : List ℕ) →
+    (completed quota visible job x.code c).stored ≡ Some text
     → IsOfSuccess job (exited x) (completed quota visible job x.code c) text
 of_success quota visible job x c text = go (nat_lt quota (fresh_bytes visible c.blobs)) refl where
-  go : (b : Bool) → nat_lt quota (fresh_bytes visible c.blobs) ≡ b → (completed quota visible job x.code c).stored ≡ Some text → IsOfSuccess job (exited x) (completed quota visible job x.code c) text
+  go : (b : Bool) → nat_lt quota (fresh_bytes visible c.blobs) ≡ b → (completed quota visible job x.code c).stored ≡ Some text →
+      IsOfSuccess job (exited x) (completed quota visible job x.code c) text
   go true is = rw is (λ h. absurd (cc))
-  go false is = rw is (λ h. let found = stored_is job x.code c.result text h in record { run = x; is_exited = refl; is_success = found.success; is_stored = found.stored; is_given = ap gives found.text_is })
+  go false is = rw is (λ h. let found = stored_is job x.code c.result text h in
+      record { run = x; is_exited = refl; is_success = found.success; is_stored = found.stored; is_given = ap gives found.text_is })
 
-pub stores_success : (quota : ℕ) (visible : List Blob) (job : JobValue) (outcome : OutcomeValue) (text : List ℕ) → (ending quota visible job outcome).stored ≡ Some text → IsOfSuccess job outcome (ending quota visible job outcome) text
+pub stores_success : (quota : ℕ) (visible : List Blob) (job : JobValue) (outcome : OutcomeValue) (text : List ℕ) →
+    (ending quota visible job outcome).stored ≡ Some text → IsOfSuccess job outcome (ending quota visible job outcome) text
 stores_success quota visible job failed text h = absurd (cc)
 stores_success quota visible job (exited x) text h = go (are_outputs job.action (outputs_asked job) x.outputs) refl h where
-  go : (b : Bool) → are_outputs job.action (outputs_asked job) x.outputs ≡ b → (ending quota visible job (exited x)).stored ≡ Some text → IsOfSuccess job (exited x) (ending quota visible job (exited x)) text
+  go : (b : Bool) → are_outputs job.action (outputs_asked job) x.outputs ≡ b → (ending quota visible job (exited x)).stored ≡ Some text →
+      IsOfSuccess job (exited x) (ending quota visible job (exited x)) text
   go true is = rw is (of_success quota visible job x (record { blobs = blobs_given job.action x; result = result_text job.action x }) text)
   go false is = rw is (λ h. absurd (cc))
 
 -- ---- what fails
 
-nothing : (quota : ℕ) (visible : List Blob) (job : JobValue) (code : ℤ) (c : CompletionValue) (fault : Fault) (missing : List Digest) → (completed quota visible job code c).end_is ≡ fails fault missing
+nothing : (quota : ℕ) (visible : List Blob) (job : JobValue) (code : ℤ) (c : CompletionValue) (fault : Fault) (missing : List Digest) →
+    (completed quota visible job code c).end_is ≡ fails fault missing
     → LeavesNothing (completed quota visible job code c)
 nothing quota visible job code c fault missing = go (nat_lt quota (fresh_bytes visible c.blobs)) refl where
-  go : (b : Bool) → nat_lt quota (fresh_bytes visible c.blobs) ≡ b → (completed quota visible job code c).end_is ≡ fails fault missing → LeavesNothing (completed quota visible job code c)
+  go : (b : Bool) → nat_lt quota (fresh_bytes visible c.blobs) ≡ b → (completed quota visible job code c).end_is ≡ fails fault missing →
+      LeavesNothing (completed quota visible job code c)
   go true is = rw is (λ h. record { no_blob = refl; no_result = refl })
   go false is = rw is (λ h. absurd (cc))
 
-pub leaves_nothing : (quota : ℕ) (visible : List Blob) (job : JobValue) (outcome : OutcomeValue) (fault : Fault) (missing : List Digest) → (ending quota visible job outcome).end_is ≡ fails fault missing → LeavesNothing (ending quota visible job outcome)
+pub leaves_nothing : (quota : ℕ) (visible : List Blob) (job : JobValue) (outcome : OutcomeValue) (fault : Fault) (missing : List Digest) →
+    (ending quota visible job outcome).end_is ≡ fails fault missing → LeavesNothing (ending quota visible job outcome)
 leaves_nothing quota visible job failed fault missing h = record { no_blob = refl; no_result = refl }
 leaves_nothing quota visible job (exited x) fault missing h = go (are_outputs job.action (outputs_asked job) x.outputs) refl h where
-  go : (b : Bool) → are_outputs job.action (outputs_asked job) x.outputs ≡ b → (ending quota visible job (exited x)).end_is ≡ fails fault missing → LeavesNothing (ending quota visible job (exited x))
-  go true is = rw is (nothing quota visible job x.code (record { blobs = blobs_given job.action x; result = result_text job.action x }) fault missing)
+  go : (b : Bool) → are_outputs job.action (outputs_asked job) x.outputs ≡ b →
+      (ending quota visible job (exited x)).end_is ≡ fails fault missing → LeavesNothing (ending quota visible job (exited x))
+  go true is = rw is (nothing quota visible job x.code
+      (record { blobs = blobs_given job.action x; result = result_text job.action x }) fault missing)
   go false is = rw is (λ h. record { no_blob = refl; no_result = refl })

@@ -8,10 +8,13 @@ use Rattle.outcomes.specs.Completing.{blob_shown}
 use Rattle.outcomes.specs.Fresh.{fresh_size, fresh_sum}
 use Rattle.outcomes.specs.Results.{sizes_of}
 
-pub fresh_sizes : (visible : List Blob) (ds : List Digest) → fresh_sum visible ds ≡ sizes_of (filter (λ d. not (is_some (visible_text d visible))) ds)
+pub fresh_sizes : (visible : List Blob) (ds : List Digest) →
+    fresh_sum visible ds ≡ sizes_of (filter (λ d. not (is_some (visible_text d visible))) ds)
 fresh_sizes visible [] = refl
 fresh_sizes visible (d ∷ ds) = go (is_some (visible_text d visible)) refl (fresh_sizes visible ds) where
-  go : (b : Bool) → is_some (visible_text d visible) ≡ b → fresh_sum visible ds ≡ sizes_of (filter (λ d. not (is_some (visible_text d visible))) ds) → fresh_sum visible (d ∷ ds) ≡ sizes_of (filter (λ d. not (is_some (visible_text d visible))) (d ∷ ds))
+  go : (b : Bool) → is_some (visible_text d visible) ≡ b →
+      fresh_sum visible ds ≡ sizes_of (filter (λ d. not (is_some (visible_text d visible))) ds) →
+      fresh_sum visible (d ∷ ds) ≡ sizes_of (filter (λ d. not (is_some (visible_text d visible))) (d ∷ ds))
   go true is later = rw is (omega (arith, later))
   go false is later = rw is (ap (λ (n : ℕ). d.size + n) later)
 

@@ -43,7 +43,8 @@ nodes_named like nodes = mapped (λ (n : OutputNodeValue). node_blob like n.kind
 
 tree_named : (like : Digest) (o : OutputValue) → AllNamed (tree_blobs like o)
 tree_named like (output_file path text is_executable) = tt
-tree_named like (output_tree path nodes) = joined (node_blobs like nodes) _ (nodes_named like nodes) (named_like like (tree_text like nodes), tt)
+tree_named like (output_tree path nodes) = joined (node_blobs like nodes) _ (nodes_named like nodes)
+    (named_like like (tree_text like nodes), tt)
 
 stream_named : (like : Digest) (text : List ℕ) → AllNamed (stream_blobs like text)
 stream_named like text = go (length text == 0) refl where
@@ -55,25 +56,31 @@ given_named : (like : Digest) (x : ExitedValue) → AllNamed (blobs_given like x
 given_named like x =
     let files = mapped (file_blobs like) x.outputs (file_named like) in
     let trees = mapped (tree_blobs like) x.outputs (tree_named like) in
-    joined (flat_map (file_blobs like) x.outputs ++ flat_map (tree_blobs like) x.outputs ++ stream_blobs like x.stdout) (stream_blobs like x.stderr)
+    joined (flat_map (file_blobs like) x.outputs ++ flat_map (tree_blobs like) x.outputs ++ stream_blobs like x.stdout)
+    (stream_blobs like x.stderr)
     (joined (flat_map (file_blobs like) x.outputs ++ flat_map (tree_blobs like) x.outputs) (stream_blobs like x.stdout)
     (joined (flat_map (file_blobs like) x.outputs) (flat_map (tree_blobs like) x.outputs) files trees)
     (stream_named like x.stdout))
     (stream_named like x.stderr)
 
-completed_named : (quota : ℕ) (visible : List Blob) (job : JobValue) (x : ExitedValue) (c : CompletionValue) → AllNamed c.blobs → AllNamed (completed quota visible job x.code c).blobs
+completed_named : (quota : ℕ) (visible : List Blob) (job : JobValue) (x : ExitedValue) (c : CompletionValue) → AllNamed c.blobs →
+    AllNamed (completed quota visible job x.code c).blobs
 completed_named quota visible job x c named = go (nat_lt quota (fresh_bytes visible c.blobs)) refl where
   go : (b : Bool) → nat_lt quota (fresh_bytes visible c.blobs) ≡ b → AllNamed (completed quota visible job x.code c).blobs
   go true is = rw is tt
   go false is = rw is named
 
-pub ending_named : (quota : ℕ) (visible : List Blob) (job : JobValue) (outcome : OutcomeValue) → AllNamed (ending quota visible job outcome).blobs
+pub ending_named : (quota : ℕ) (visible : List Blob) (job : JobValue) (outcome : OutcomeValue) →
+    AllNamed (ending quota visible job outcome).blobs
 ending_named quota visible job failed = tt
 ending_named quota visible job (exited x) = go (are_outputs job.action (outputs_asked job) x.outputs) refl where
   go : (b : Bool) → are_outputs job.action (outputs_asked job) x.outputs ≡ b → AllNamed (ending quota visible job (exited x)).blobs
-  go true is = rw is (completed_named quota visible job x (record { blobs = blobs_given job.action x; result = result_text job.action x }) (given_named job.action x))
+  go true is = rw is (completed_named quota visible job x (record { blobs = blobs_given job.action x; result = result_text job.action x })
+      (given_named job.action x))
   go false is = rw is tt
 
-pub run_named : {E : Type 0} (quota : ℕ) (visible : List Blob) (job : JobValue) (outcome : OutcomeValue) (r : Result Ending E) → IfOk r (λ e. ending_shown e ≡ ending quota visible job outcome) → IfOk r (λ e. AllNamed (map blob_shown e.blobs.items))
-run_named quota visible job outcome (Ok e) is = subst (λ (v : EndingValue). AllNamed v.blobs) (sym is) (ending_named quota visible job outcome)
+pub run_named : {E : Type 0} (quota : ℕ) (visible : List Blob) (job : JobValue) (outcome : OutcomeValue) (r : Result Ending E) →
+    IfOk r (λ e. ending_shown e ≡ ending quota visible job outcome) → IfOk r (λ e. AllNamed (map blob_shown e.blobs.items))
+run_named quota visible job outcome (Ok e) is =
+    subst (λ (v : EndingValue). AllNamed v.blobs) (sym is) (ending_named quota visible job outcome)
 run_named quota visible job outcome (Err e) is = tt

@@ -11,9 +11,11 @@ use Rattle.outcomes.specs.Trees.{directory_text, has_text_of, with_child, with_c
 abbrev Differ : DirectoryValue → DirectoryValue → Type 0
 Differ u v = directory_text u ≢ directory_text v
 
-differs : (before : List DirectoryValue) (v : DirectoryValue) → list_any (has_text_of v) before ≡ false → (k : ℕ) (d : DirectoryValue) → k < length before → Differ (get_or before k d) v
+differs : (before : List DirectoryValue) (v : DirectoryValue) → list_any (has_text_of v) before ≡ false → (k : ℕ) (d : DirectoryValue) →
+    k < length before → Differ (get_or before k d) v
 differs before v none k d less = λ same.
-    (let test : has_text_of v (get_or before k d) ≡ true = (bytes_decides (directory_text v) (directory_text (get_or before k d))).1 (sym same) in
+    (let test : has_text_of v (get_or before k d) ≡ true =
+    (bytes_decides (directory_text v) (directory_text (get_or before k d))).1 (sym same) in
     let some = list_any_at (has_text_of v) before k d less test in cc)
 
 once_more : (before : List DirectoryValue) (v : DirectoryValue) → AllPairs Differ before → AllPairs Differ (with_child before v)
@@ -53,7 +55,8 @@ HasText us v = (u : DirectoryValue) × Contains us u × (directory_text u ≡ di
 there : (before : List DirectoryValue) (v : DirectoryValue) → HasText (with_child before v) v
 there before v = go (list_any (has_text_of v) before) refl where
   go : (b : Bool) → list_any (has_text_of v) before ≡ b → HasText (if b then before else before ++ v ∷ []) v
-  go true e = let found = Any-from_list_any (has_text_of v) before e in (found.1, (found.0, found.2, found.3), sym ((bytes_decides (directory_text v) (directory_text found.1)).0 found.4))
+  go true e = let found = Any-from_list_any (has_text_of v) before e in
+      (found.1, (found.0, found.2, found.3), sym ((bytes_decides (directory_text v) (directory_text found.1)).0 found.4))
   go false e = (v, Contains-push before v, refl)
 
 kept : (before : List DirectoryValue) (w v : DirectoryValue) → HasText before v → HasText (with_child before w) v
@@ -69,7 +72,8 @@ kept_all before (w ∷ ws) v h = kept_all (with_child before w) ws v (kept befor
 each_there : (before vs : List DirectoryValue) (v : DirectoryValue) → Contains vs v → HasText (with_children before vs) v
 each_there before [] v c = absurd (in_none v c)
 each_there before (w ∷ ws) v c = go (in_cases w ws v c) (each_there (with_child before w) ws v) where
-  go : (w ≡ v) ⊎ Contains ws v → (Contains ws v → HasText (with_children (with_child before w) ws) v) → HasText (with_children (with_child before w) ws) v
+  go : (w ≡ v) ⊎ Contains ws v → (Contains ws v → HasText (with_children (with_child before w) ws) v) →
+      HasText (with_children (with_child before w) ws) v
   go (inl is) later = rw (← is) (kept_all (with_child before w) ws w (there before w))
   go (inr h) later = later h
 

@@ -28,7 +28,8 @@ down_length level vs = let long = length_nothing (level - length vs) vs in omega
 
 -- ---- of folders
 
-pub opened_next : (level : ℕ) (fs : List OpenFolder) (f : OpenFolder) → length fs < level → open_shown f ≡ nothing → down_to level (map open_shown (f ∷ fs)) ≡ down_to level (map open_shown fs)
+pub opened_next : (level : ℕ) (fs : List OpenFolder) (f : OpenFolder) → length fs < level → open_shown f ≡ nothing →
+    down_to level (map open_shown (f ∷ fs)) ≡ down_to level (map open_shown fs)
 opened_next level fs f less is =
     let long : length (map open_shown fs) ≡ length fs = length-map fs open_shown in
     rw is (down_next level (map open_shown fs) (omega (arith, long, less)))

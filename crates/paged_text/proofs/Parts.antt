@@ -12,7 +12,8 @@ pub part_before : (t page : List ℕ) (from count : ℕ) → page ≡ take count
 part_before t page from count cut =
     let left = drop from t in
     let whole : page ++ drop count left ≡ left = ap (λ (p : List ℕ). p ++ drop count left) cut ∙ take-append-drop count left in
-    let later : drop (length page) left ≡ drop count left = ap (drop (length page)) (sym whole) ∙ drop_at page (drop count left) (length page) refl in
+    let later : drop (length page) left ≡ drop count left =
+    ap (drop (length page)) (sym whole) ∙ drop_at page (drop count left) (length page) refl in
     ap (λ (r : List ℕ). page ++ r) (sym (drop-drop (length page) from t) ∙ later) ∙ whole
 
 pub record IsNextPart (t page : List ℕ) (from : ℕ) : Type 0 where
@@ -20,7 +21,8 @@ pub record IsNextPart (t page : List ℕ) (from : ℕ) : Type 0 where
   pub within : from + length page ≤ length t
 
 -- a page has a byte at least where some are left
-pub next_part : (t page : List ℕ) (size from most : ℕ) → 0 < size → 0 < most → from < length t → page ≡ take (min most (size - from % size)) (drop from t) → IsNextPart t page from
+pub next_part : (t page : List ℕ) (size from most : ℕ) → 0 < size → 0 < most → from < length t →
+    page ≡ take (min most (size - from % size)) (drop from t) → IsNextPart t page from
 next_part t page size from most positive some left cut =
     let room = mod_below from size positive in
     let count = ap (length {A = ℕ}) cut ∙ length-take (min most (size - from % size)) (drop from t) in
@@ -36,19 +38,22 @@ read_before size text from [] = let none : from + 0 ≡ from = omega arith in ap
 read_before size text from (most ∷ mosts) =
     let page = part_of size text from most in
     let rest = concat (parts_from size text (from + length page) mosts) in
-    let place : from + length (page ++ rest) ≡ (from + length page) + length rest = let both = length-append page rest in omega (arith, both) in
+    let place : from + length (page ++ rest) ≡ (from + length page) + length rest = let both = length-append page rest in
+    omega (arith, both) in
     ap (λ (n : ℕ). (page ++ rest) ++ drop n text) place
     ∙ append_assoc page rest (drop ((from + length page) + length rest) text)
     ∙ ap (λ (t : List ℕ). page ++ t) (read_before size text (from + length page) mosts)
     ∙ part_before text page from (min most (size - from % size)) refl
 
-pub front_read : (size : ℕ) (text mosts : List ℕ) → take (length (concat (parts_from size text 0 mosts))) text ≡ concat (parts_from size text 0 mosts)
+pub front_read : (size : ℕ) (text mosts : List ℕ) →
+    take (length (concat (parts_from size text 0 mosts))) text ≡ concat (parts_from size text 0 mosts)
 front_read size text mosts =
     let read = concat (parts_from size text 0 mosts) in
     let whole : read ++ drop (0 + length read) text ≡ text = read_before size text 0 mosts in
     ap (take (length read)) (sym whole) ∙ take_at read (drop (0 + length read) text) (length read) refl
 
-pub whole_read : (size : ℕ) (text mosts : List ℕ) → length (concat (parts_from size text 0 mosts)) ≡ length text → concat (parts_from size text 0 mosts) ≡ text
+pub whole_read : (size : ℕ) (text mosts : List ℕ) → length (concat (parts_from size text 0 mosts)) ≡ length text →
+    concat (parts_from size text 0 mosts) ≡ text
 whole_read size text mosts same =
     let read = concat (parts_from size text 0 mosts) in
     let whole : read ++ drop (0 + length read) text ≡ text = read_before size text 0 mosts in
@@ -60,7 +65,8 @@ record GoesOn (text page : List ℕ) (from : ℕ) : Type 0 where
   on : from < length text → 0 < length page
   within : from + length page ≤ length text
 
-goes_on : (size : ℕ) (text : List ℕ) (from most : ℕ) → 0 < size → 0 < most → from ≤ length text → GoesOn text (part_of size text from most) from
+goes_on : (size : ℕ) (text : List ℕ) (from most : ℕ) → 0 < size → 0 < most → from ≤ length text →
+    GoesOn text (part_of size text from most) from
 goes_on size text from most positive some there =
     let page = part_of size text from most in
     let count = length-take (min most (size - from % size)) (drop from text) in
@@ -70,14 +76,16 @@ goes_on size text from most positive some there =
       within = omega (arith, count, rest);
     }
 
-ends : (size : ℕ) (text : List ℕ) (from : ℕ) (mosts : List ℕ) → 0 < size → AllByRecursion (λ (most : ℕ). 0 < most) mosts → from ≤ length text → length text ≤ from + length mosts
+ends : (size : ℕ) (text : List ℕ) (from : ℕ) (mosts : List ℕ) → 0 < size → AllByRecursion (λ (most : ℕ). 0 < most) mosts →
+    from ≤ length text → length text ≤ from + length mosts
     → from + length (concat (parts_from size text from mosts)) ≡ length text
 ends size text from [] positive some there enough = omega arith
 ends size text from (most ∷ mosts) positive some there enough =
     let page = part_of size text from most in
     let step = goes_on size text from most positive some.0 there in
     let rest = concat (parts_from size text (from + length page) mosts) in
-    let near : length text ≤ (from + length page) + length mosts = reach (length text) from (length page) (length mosts) (omega (arith, enough)) there step.on in
+    let near : length text ≤ (from + length page) + length mosts =
+    reach (length text) from (length page) (length mosts) (omega (arith, enough)) there step.on in
     let later = ends size text (from + length page) mosts positive some.1 step.within near in
     let both : length (page ++ rest) ≡ length page + length rest = length-append page rest in
     omega (arith, later, both)
@@ -89,7 +97,8 @@ ends size text from (most ∷ mosts) positive some there enough =
       go false is = let all : t ≤ from = grind (arith, nat_tests) in omega (arith, all)
     reach t from (suc n) m enough there on = omega arith
 
-pub all_read : (size : ℕ) (text mosts : List ℕ) → 0 < size → AllByRecursion (λ (most : ℕ). 0 < most) mosts → length text ≤ length mosts → concat (parts_from size text 0 mosts) ≡ text
+pub all_read : (size : ℕ) (text mosts : List ℕ) → 0 < size → AllByRecursion (λ (most : ℕ). 0 < most) mosts → length text ≤ length mosts →
+    concat (parts_from size text 0 mosts) ≡ text
 all_read size text mosts positive some enough =
     let end = ends size text 0 mosts positive some (omega arith) (omega (arith, enough)) in
     whole_read size text mosts (omega (arith, end))

@@ -8,23 +8,27 @@ appends_none : (o : Option (List ℕ)) → Appends o o []
 appends_none None = tt
 appends_none (Some xs) = sym (append-nil xs)
 
-appends_more : (first second third : Option (List ℕ)) (xs ys : List ℕ) → Appends first second xs → Appends second third ys → Appends first third (xs ++ ys)
+appends_more : (first second third : Option (List ℕ)) (xs ys : List ℕ) → Appends first second xs → Appends second third ys →
+    Appends first third (xs ++ ys)
 appends_more None second third xs ys a b = tt
 appends_more (Some u) None third xs ys a b = absurd a
 appends_more (Some u) (Some v) None xs ys a b = absurd b
 appends_more (Some u) (Some v) (Some w) xs ys a b = b ∙ ap (λ (t : List ℕ). t ++ ys) a ∙ append_assoc u xs ys
 
-pub sent_more : (all between rest : List ℕ) (first second third : Option (List ℕ)) → IsSent all between first second → IsSent between rest second third → IsSent all rest first third
+pub sent_more : (all between rest : List ℕ) (first second third : Option (List ℕ)) → IsSent all between first second →
+    IsSent between rest second third → IsSent all rest first third
 sent_more all between rest first second third a b =
     (a.0 ++ b.0, a.1 ∙ ap (λ (t : List ℕ). a.0 ++ t) b.1 ∙ sym (append_assoc a.0 b.0 rest), appends_more first second third a.0 b.0 a.2 b.2)
 
-consumes_more : (first second third : Option (List ℕ)) (xs ys : List ℕ) → Consumes first second xs → Consumes second third ys → Consumes first third (xs ++ ys)
+consumes_more : (first second third : Option (List ℕ)) (xs ys : List ℕ) → Consumes first second xs → Consumes second third ys →
+    Consumes first third (xs ++ ys)
 consumes_more None second third xs ys a b = tt
 consumes_more (Some u) None third xs ys a b = absurd a
 consumes_more (Some u) (Some v) None xs ys a b = absurd b
 consumes_more (Some u) (Some v) (Some w) xs ys a b = a ∙ ap (λ (t : List ℕ). xs ++ t) b ∙ sym (append_assoc xs ys w)
 
-received_more : (old new : List ℕ) (first second third : Option (List ℕ)) → Consumes first second old → IsReceived old new second third → Consumes first third new
+received_more : (old new : List ℕ) (first second third : Option (List ℕ)) → Consumes first second old → IsReceived old new second third →
+    Consumes first third new
 received_more old new first second third a b =
     rw b.1 (consumes_more first second third old b.0 a b.2)
 

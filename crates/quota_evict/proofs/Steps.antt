@@ -54,7 +54,8 @@ take_fits zero (x ∷ xs) h = absurd (omega arith)
 take_fits (suc n) (x ∷ xs) h = ap (λ (ys : List Blob). x ∷ ys) (take_fits n xs (omega arith))
 
 -- one text too many
-pub trimmed_one : (n : ℕ) (b : Blob) (visible bs cs : List Blob) → bs ≡ b ∷ visible → length bs ≡ suc (suc n) → cs ≡ without_oldest bs → cs ≡ b ∷ take n visible
+pub trimmed_one : (n : ℕ) (b : Blob) (visible bs cs : List Blob) → bs ≡ b ∷ visible → length bs ≡ suc (suc n) → cs ≡ without_oldest bs →
+    cs ≡ b ∷ take n visible
 trimmed_one n b visible bs cs is many dropped =
     let len : length (b ∷ visible) ≡ suc (suc n) = subst (λ (xs : List Blob). length xs ≡ suc (suc n)) is many in
     let less : length (b ∷ visible) - 1 ≡ suc n = omega (arith, len) in
@@ -66,11 +67,13 @@ trimmed_none n b visible bs is few =
     let len : length (b ∷ visible) ≤ suc n = subst (λ (xs : List Blob). length xs ≤ suc n) is few in
     is ∙ ap (λ (xs : List Blob). b ∷ xs) (sym (take_fits n visible (omega (arith, len))))
 
-pub added_named : (n : ℕ) (d : Digest) (text : List ℕ) (old bs : List Blob) → bs ≡ (d, text) ∷ take n old → Names d text → AllByRecursion IsNamed old → AllByRecursion IsNamed bs
+pub added_named : (n : ℕ) (d : Digest) (text : List ℕ) (old bs : List Blob) → bs ≡ (d, text) ∷ take n old → Names d text →
+    AllByRecursion IsNamed old → AllByRecursion IsNamed bs
 added_named n d text old bs is names h = subst (λ (xs : List Blob). AllByRecursion IsNamed xs) (sym is) (names, take-all IsNamed n old h)
 
 -- there is room for a text within the quota
-pub sizes_fit : (quota n : ℕ) (p : Slots) (v : ViewValue) → IsViewInPool quota p v → quota ≤ 2 ^ 40 → n ≤ quota → sizes v.entries + n < 2 ^ 64
+pub sizes_fit : (quota n : ℕ) (p : Slots) (v : ViewValue) → IsViewInPool quota p v → quota ≤ 2 ^ 40 → n ≤ quota →
+    sizes v.entries + n < 2 ^ 64
 sizes_fit quota n p v kept small fits =
     let same = sizes_named p v kept.within.named in
     omega (arith, same, kept.within.bytes)
@@ -93,24 +96,33 @@ kept_none quota p v empty none =
     }
 
 -- what was added, cut to the limit and then to the quota, is an admission
-pub new_text : (quota : ℕ) (d : Digest) (text : List ℕ) (p : Slots) (v : ViewValue) (between new : List Blob) → visible_text d (visible_in p v) ≡ None → length text ≤ quota
-    → (limit : ℕ) → limit ≡ v.limit → between ≡ visible_after_insertion limit d text (visible_in p v) → new ≡ longest_front quota between → new ≡ visible_after_admission v.limit quota d text (visible_in p v)
+pub new_text : (quota : ℕ) (d : Digest) (text : List ℕ) (p : Slots) (v : ViewValue) (between new : List Blob) →
+    visible_text d (visible_in p v) ≡ None → length text ≤ quota
+    → (limit : ℕ) → limit ≡ v.limit → between ≡ visible_after_insertion limit d text (visible_in p v) → new ≡ longest_front quota between →
+    new ≡ visible_after_admission v.limit quota d text (visible_in p v)
 new_text quota d text p v between new absent fits limit same put kept =
-    let cut : between ≡ visible_after_insertion v.limit d text (visible_in p v) = put ∙ ap (λ (n : ℕ). visible_after_insertion n d text (visible_in p v)) same in
+    let cut : between ≡ visible_after_insertion v.limit d text (visible_in p v) =
+    put ∙ ap (λ (n : ℕ). visible_after_insertion n d text (visible_in p v)) same in
     admitted_new v.limit quota d text (visible_in p v) between new (none_seen d (visible_in p v) absent) fits cut kept
 
-pub kept_admitted : (quota : ℕ) (d : Digest) (text : List ℕ) (p q : Slots) (v w : ViewValue) → IsViewInPool quota p v → 0 < v.limit → Names d text → w.limit ≡ v.limit
-    → visible_in q w ≡ visible_after_admission v.limit quota d text (visible_in p v) → Moves p q (holders v) (holders w) → IsViewInPool quota q w
+pub kept_admitted : (quota : ℕ) (d : Digest) (text : List ℕ) (p q : Slots) (v w : ViewValue) → IsViewInPool quota p v → 0 < v.limit →
+    Names d text → w.limit ≡ v.limit
+    → visible_in q w ≡ visible_after_admission v.limit quota d text (visible_in p v) → Moves p q (holders v) (holders w) →
+    IsViewInPool quota q w
 kept_admitted quota d text p q v w kept some names same is m = record {
   held = held_after p q (holders v) (holders w) m kept.held;
-  within = subst (λ (n : ℕ). AreBlobsWithin n quota (visible_in q w)) (sym same) (subst (AreBlobsWithin v.limit quota) (sym is) (admitted_within v.limit quota d text (visible_in p v) some names kept.within));
+  within = subst (λ (n : ℕ). AreBlobsWithin n quota (visible_in q w)) (sym same)
+      (subst (AreBlobsWithin v.limit quota) (sym is) (admitted_within v.limit quota d text (visible_in p v) some names kept.within));
 }
 
-pub kept_used : (quota : ℕ) (d : Digest) (p : Slots) (v w : ViewValue) → IsViewInPool quota p v → w.limit ≡ v.limit → visible_in p w ≡ visible_after_use d (visible_in p v) → ((k : ℕ) → holders w k ≡ holders v k) → IsViewInPool quota p w
+pub kept_used : (quota : ℕ) (d : Digest) (p : Slots) (v w : ViewValue) → IsViewInPool quota p v → w.limit ≡ v.limit →
+    visible_in p w ≡ visible_after_use d (visible_in p v) → ((k : ℕ) → holders w k ≡ holders v k) → IsViewInPool quota p w
 kept_used quota d p v w kept limit is same = record {
   held = record { counted = λ k. omega (arith, same k, kept.held.counted k); others = λ k. omega (arith, same k, kept.held.others k) };
-  within = subst (λ (n : ℕ). AreBlobsWithin n quota (visible_in p w)) (sym limit) (subst (AreBlobsWithin v.limit quota) (sym is) (used_within v.limit quota d (visible_in p v) kept.within));
+  within = subst (λ (n : ℕ). AreBlobsWithin n quota (visible_in p w)) (sym limit)
+      (subst (AreBlobsWithin v.limit quota) (sym is) (used_within v.limit quota d (visible_in p v) kept.within));
 }
 
 pub kept_same : (quota : ℕ) (p q : Slots) (v w : ViewValue) → IsViewInPool quota p v → w ≡ v → q ≡ p → IsViewInPool quota q w
-kept_same quota p q v w kept same pool = subst (λ (x : Slots). IsViewInPool quota x w) (sym pool) (subst (λ (x : ViewValue). IsViewInPool quota p x) (sym same) kept)
+kept_same quota p q v w kept same pool = subst (λ (x : Slots). IsViewInPool quota x w) (sym pool)
+    (subst (λ (x : ViewValue). IsViewInPool quota p x) (sym same) kept)

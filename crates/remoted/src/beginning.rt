@@ -1,8 +1,7 @@
 //! What has to be there before instances are served, and what an operator is told of it.
 
 use crate::process::is_ignored;
-use host_folders::{Complaint, HostFolder, Work, WorkFault, begin_work};
-use host_system::{HostSystem, has_leases, sees_ends};
+use host_system::{HostDirectory, HostShells, HostSystem, has_leases, sees_ends};
 use operator_lines::{
     Instances, are_enough_files, can_see_ends, folder_of, is_memory, tell_file_limit, tell_leases,
     tell_no_folder, tell_no_sessions, told,
@@ -11,6 +10,13 @@ use run_programs::has_sessions;
 use std::alloc::{AllocError, Global};
 use std::fs;
 use std::io::{self, ErrorKind, Write};
+use work_folders::{Complaint, Work, WorkFault, WorkFolder, begin_work};
+
+/// Where the runs of a start have their folders on this host.
+pub type HostWork<'a> = Work<HostDirectory<'a>, HostShells<'a>>;
+
+/// The folders of runs on this host.
+pub type HostFolder<'a> = WorkFolder<'a, HostDirectory<'a>, HostShells<'a>>;
 
 /// The limit of the size of a file, as getrlimit(2) numbers it.
 const RLIMIT_FSIZE: i32 = 1;
@@ -118,13 +124,15 @@ pub fn guard_against_leases<E: Write>(
 }
 
 /// A place for the runs of this start; where there is none, that is told, and there is no answer.
+#[tactic(auto, using(work_folders::proofs::Nowhere::may_work))]
 pub fn begin<'a, E: Write>(
     rt: &'a HostRuntime,
     path: &str,
     errors: &mut E,
-) -> io::Result<Option<Work<'a>>> {
+) -> io::Result<Option<HostWork<'a>>> {
     let mut complaints = Vec::new(rt.alloc());
-    let begun = begin_work(rt, path, &mut complaints);
+    let (host, mut shells) = (HostSystem::new(rt), HostShells::new(rt));
+    let begun = begin_work(&host, &mut shells, path, &mut complaints);
     for complaint in complaints.iter() {
         told(tell(path, complaint, errors))?;
     }

@@ -11,6 +11,7 @@ mod operator;
 mod process;
 mod reading;
 mod serve_ports;
+mod sessions;
 mod standard_error;
 mod telling;
 mod watching;

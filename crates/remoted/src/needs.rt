@@ -1,6 +1,6 @@
-//! What a launcher says that it needs.
+//! What a launcher says of itself: what it needs, and what it leaves.
 
-use operator_lines::{folder_of, need_of};
+use operator_lines::{folder_of, need_of, says_no_process};
 use std::fs::{self, File};
 use std::io::{self, ErrorKind, Read, Write};
 
@@ -45,4 +45,12 @@ pub fn tell_lacking<E: Write>(rt: &HostRuntime, path: &str, errors: &mut E) -> i
         }
     }
     Ok(())
+}
+
+/// Whether a launcher says that it leaves no process. One that cannot be read says nothing.
+pub fn leaves_no_process(rt: &HostRuntime, path: &str) -> bool {
+    match beginning_of(rt, path) {
+        Ok(text) => text.split(|byte| *byte == b'\n').any(says_no_process),
+        Err(_) => false,
+    }
 }

@@ -7,7 +7,6 @@ use crate::standard_error::StandardError;
 use crate::watching::{MetricsFile, StopFile};
 use command_line::Service;
 use figures::{Figures, FolderFigures, HostCounts, ProcessFigures};
-use host_folders::FolderCounts;
 use host_sockets::{HostSockets, SocketCounts};
 use host_wires::{ThisHost, TurnClock};
 use job_runs::{Oversight, RunTally};
@@ -17,6 +16,7 @@ use server_events::Configs;
 use std::alloc::AllocError;
 use std::io;
 use std::time::Instant;
+use work_folders::FolderCounts;
 
 /// How often there may be lines of one kind about one instance, in milliseconds.
 const NOTICES: u64 = 1_000;

@@ -8,20 +8,20 @@ ghost use Rattle.host_sockets.specs.Ports.{ListensAt, addresses};
 ghost use Rattle.remoted.specs.Launching.{KnowsInstances};
 
 use crate::beginning::{
-    begin, can_open, can_run, can_write, guard_against_leases, has_folder, keep_freed_memory,
+    HostFolder, HostWork, begin, can_open, can_run, can_write, guard_against_leases, has_folder,
+    keep_freed_memory,
 };
 use crate::clock::milliseconds_since;
 use crate::ending::EndFile;
 use crate::exit::{DONE, Exit, FAILED};
-use crate::needs::tell_lacking;
+use crate::needs::{leaves_no_process, tell_lacking};
 use crate::operator::{Counters, Operator};
+use crate::sessions::HostSessions;
 use crate::standard_error::StandardError;
 use crate::watching::{MetricsFile, StopFile};
 use command_line::Service;
-use host_folders::{FolderCounts, HostFolder, Links, Work};
-use host_shells::Sessions;
 use host_sockets::{HostSockets, ListenError, SocketCounts};
-use host_system::{HostSpawner, HostSystem};
+use host_system::{HostShells, HostSpawner, HostSystem};
 use host_wires::{ThisHost, TurnClock};
 use job_runs::{JobRunner, OperatedRuns, Oversight};
 use keyed_maps::MapKey;
@@ -39,6 +39,7 @@ use std::random::RandomSource;
 use std::rc::Rc;
 use std::time::{Duration, Instant};
 use std::{fs, thread};
+use work_folders::{FolderCounts, Links, Work, WorkFolder};
 
 /// For how many milliseconds it is tried, once each, to end what runs, before the program ends. A
 /// launcher that is told to end may take ten seconds.
@@ -48,7 +49,7 @@ const MOST_ENDING: u64 = 15_000;
 type Runner<'a> = OperatedRuns<'a, HostFolder<'a>, HostPrograms<'a>>;
 
 /// The programs of this host.
-type HostPrograms<'a> = RunPrograms<'a, HostSystem<'a>, HostSpawner<'a>, Sessions<'a>>;
+type HostPrograms<'a> = RunPrograms<'a, HostSystem<'a>, HostSpawner<'a>, HostSessions<'a>>;
 
 /// Sockets that listen on these ports of an address, for the instances in order. Where there is no
 /// listening on one, that is told, and there are none.
@@ -134,9 +135,9 @@ fn place_of<'a, E: Write>(
     service: &Service<'_>,
     instances: &Instances,
     errors: &mut E,
-) -> io::Result<Option<Work<'a>>> {
+) -> io::Result<Option<HostWork<'a>>> {
     if slots_of(instances) == 0 {
-        return Ok(Some(Work::nowhere(rt)));
+        return Ok(Some(Work::nowhere(rt.alloc())));
     }
     if !can_run(rt, errors)? {
         return Ok(None);
@@ -153,10 +154,19 @@ fn links_of(options: Options) -> Links {
     }
 }
 
+/// Whether nothing runs any more of what a launcher started, once it has ended.
+fn leaves_nothing(rt: &HostRuntime, launcher: &Option<Launcher>) -> bool {
+    match launcher {
+        Some(launcher) => leaves_no_process(rt, launcher.path()),
+        None => false,
+    }
+}
+
 /// Runs in this place, of the jobs of these instances.
+#[tactic(auto, using(work_folders::proofs::Nowhere::may_runs))]
 fn job_runner<'a, E: Write>(
     rt: &'a HostRuntime,
-    work: Work<'a>,
+    work: HostWork<'a>,
     links: Links,
     shared: (&'a FolderCounts, &'a Oversight),
     launcher: Option<Launcher>,
@@ -169,11 +179,13 @@ fn job_runner<'a, E: Write>(
     let (folders, oversight) = shared;
     let failure = &oversight.failure;
     let failed_at = &oversight.failed_at;
-    let mut folder = HostFolder::new(rt, work, links, folders, failure, failed_at);
-    if slots_of(instances) > 0 {
+    let shells = HostShells::new(rt);
+    let mut folder = WorkFolder::new(shells, work, links, folders, failure, failed_at);
+    if slots_of(instances) > 0 && !leaves_nothing(rt, &launcher) {
         guard_against_leases(rt, &mut folder, errors)?;
     }
-    let (host, sessions, spawner) = (HostSystem::new(rt), Sessions::new(rt), HostSpawner::new(rt));
+    let (host, spawner) = (HostSystem::new(rt), HostSpawner::new(rt));
+    let sessions = HostSessions::new(rt);
     let programs = RunPrograms::new(host, sessions, spawner, path, launcher, failure);
     let runs = JobRunner::new(rt.alloc(), folder, programs, slots_of(instances))?;
     Ok(OperatedRuns::new(rt.alloc(), runs, oversight))

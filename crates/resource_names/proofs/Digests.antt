@@ -59,12 +59,14 @@ leading (byte ∷ next ∷ text) h z =
 
 size_found : (text : List ℕ) (size : ℕ) → size_in text ≡ Some size → IsSizeText text size
 size_found text size h = go (is_numeral text) (nat_lt (digits_value 10 text) (2 ^ 63)) refl refl h where
-  go : (a b : Bool) → is_numeral text ≡ a → nat_lt (digits_value 10 text) (2 ^ 63) ≡ b → cond (a && b) (Some (digits_value 10 text)) None ≡ Some size → IsSizeText text size
+  go : (a b : Bool) → is_numeral text ≡ a → nat_lt (digits_value 10 text) (2 ^ 63) ≡ b →
+      cond (a && b) (Some (digits_value 10 text)) None ≡ Some size → IsSizeText text size
   go true true numeral fits e =
       let same : digits_value 10 text ≡ size = cc in
       let below : digits_value 10 text < 2 ^ 63 = grind (arith, nat_tests) in
       let digits = numeral_digits text numeral in
-      let written : decimal (digits_value 10 text) ≡ text = decimal-digits_value own text (AllDigits-from_list_all text digits.1) digits.0 (leading text numeral) (omega arith) in
+      let written : decimal (digits_value 10 text) ≡ text =
+      decimal-digits_value own text (AllDigits-from_list_all text digits.1) digits.0 (leading text numeral) (omega arith) in
       record { text_is = sym written ∙ ap decimal same; most = rw (← same) below; clean = clean_of is_decimal_digit refl text digits.1 }
   go true false numeral fits e = cc
   go false b numeral fits e = cc
@@ -115,7 +117,8 @@ same_digest hash size d w = rw (w.hash_is, w.size_is) refl
 pub digest_found : (hash size : List ℕ) (d : Digest) → digest_of_segments hash size ≡ Ok d → IsDigestText hash size d
 digest_found hash size d e = go (hash_in hash) (size_in size) refl refl e where
   go : (h : Option Hash) (n : Option ℕ) → hash_in hash ≡ h → size_in size ≡ n
-      → (or_fault Fault.Hash h >>= λ bytes. or_fault Fault.Size n >>= λ count. Ok (record { hash = bytes; size = count })) ≡ Ok d → IsDigestText hash size d
+      → (or_fault Fault.Hash h >>= λ bytes. or_fault Fault.Size n >>= λ count. Ok (record { hash = bytes; size = count })) ≡ Ok d →
+      IsDigestText hash size d
   go (Some bytes) (Some count) h n same' =
       let same : d ≡ record { hash = bytes; size = count } = cc in
       let a = hash_found hash bytes h in

@@ -24,7 +24,8 @@ pub instance_found : (before : Option (List ℕ)) (name : List ℕ) → instance
 instance_found None name h = let same : [] ≡ name = cc in subst (λ (n : List ℕ). None ≡ instance_before n) same refl
 instance_found (Some []) name h = cc
 instance_found (Some (byte ∷ text)) name h = go (length (byte ∷ text) == 0) refl h where
-  go : (b : Bool) → (length (byte ∷ text) == 0) ≡ b → cond b (Err Form) (Ok (byte ∷ text)) ≡ Ok name → Some (byte ∷ text) ≡ instance_before name
+  go : (b : Bool) → (length (byte ∷ text) == 0) ≡ b → cond b (Err Form) (Ok (byte ∷ text)) ≡ Ok name →
+      Some (byte ∷ text) ≡ instance_before name
   go true e h = cc
   go false e h = let same : byte ∷ text ≡ name = cc in subst (λ (n : List ℕ). Some (byte ∷ text) ≡ instance_before n) same refl
 
@@ -32,11 +33,13 @@ pub instance_read : (name : List ℕ) → instance_of (instance_before name) ≡
 instance_read [] = refl
 instance_read (byte ∷ name) = let filled : (length (byte ∷ name) == 0) ≡ false = grind (arith, nat_tests) in rw filled refl
 
-pub same_segments : (passed : List (List ℕ)) (s t : List ℕ) (after others : List (List ℕ)) → s ≡ t → after ≡ others → passed ++ s ∷ after ≡ passed ++ t ∷ others
+pub same_segments : (passed : List (List ℕ)) (s t : List ℕ) (after others : List (List ℕ)) → s ≡ t → after ≡ others →
+    passed ++ s ∷ after ≡ passed ++ t ∷ others
 same_segments passed s t after others e f = rw (e, f) refl
 
 -- a text is its instance with a slash, and its other segments
-pub text_divided : (text name : List ℕ) (passed : List (List ℕ)) (segment next : List ℕ) (after : List (List ℕ)) → segments_of text ≡ passed ++ segment ∷ next ∷ after
+pub text_divided : (text name : List ℕ) (passed : List (List ℕ)) (segment next : List ℕ) (after : List (List ℕ)) →
+    segments_of text ≡ passed ++ segment ∷ next ∷ after
     → instance_before name ≡ joined_segments passed → text ≡ instance_text name ++ (segment ++ 47 ∷ join_with_byte 47 (next ∷ after))
 text_divided text [] [] segment next after h i = sym (join_with_byte-slice_split 47 text) ∙ ap (join_with_byte 47) h
 text_divided text (byte ∷ name) [] segment next after h i = cc
@@ -50,10 +53,12 @@ text_divided text (byte ∷ name) (first ∷ passed) segment next after h i =
     ∙ sym (append_assoc (byte ∷ name) (47 ∷ []) rest)
 
 -- the segments of an instance are those that were passed
-pub none_found : (divides : List ℕ → Bool) (name : List ℕ) (passed : List (List ℕ)) → divides [] ≡ false → AllByRecursion HasNoSlash passed → NoneDivides divides passed
+pub none_found : (divides : List ℕ → Bool) (name : List ℕ) (passed : List (List ℕ)) → divides [] ≡ false →
+    AllByRecursion HasNoSlash passed → NoneDivides divides passed
     → instance_before name ≡ joined_segments passed → NoneDivides divides (segments_of name)
 none_found divides [] passed empty clean none i = (empty, tt)
 none_found divides (byte ∷ name) [] empty clean none i = cc
 none_found divides (byte ∷ name) (first ∷ passed) empty clean none i =
     let same : join_with_byte 47 (first ∷ passed) ≡ byte ∷ name = cc in
-    subst (λ (n : List ℕ). NoneDivides divides (segments_of n)) same (subst (NoneDivides divides) (sym (segments-joined_segments first passed clean)) none)
+    subst (λ (n : List ℕ). NoneDivides divides (segments_of n)) same
+    (subst (NoneDivides divides) (sym (segments-joined_segments first passed clean)) none)

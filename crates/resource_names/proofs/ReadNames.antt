@@ -17,7 +17,8 @@ use Rattle.resource_names.proofs.Names.{was_some, is_blobs-found, instance_found
 -- a segment that may divide, and is not `compressed-blobs`
 blobs_segment : (segment : List ℕ) (u : Unit {0}) → divides_read segment ≡ true → compression_check segment ≡ Ok u → segment ≡ codes "blobs"
 blobs_segment segment u test ok = go (is_blobs segment) (is_compressed segment) refl refl test ok where
-  go : (a b : Bool) → is_blobs segment ≡ a → is_compressed segment ≡ b → (a || b) ≡ true → cond b (Err Compressed) (Ok tt) ≡ Ok u → segment ≡ codes "blobs"
+  go : (a b : Bool) → is_blobs segment ≡ a → is_compressed segment ≡ b → (a || b) ≡ true → cond b (Err Compressed) (Ok tt) ≡ Ok u →
+      segment ≡ codes "blobs"
   go true b blobs other test ok = is_blobs-found segment blobs
   go false true blobs other test ok = cc
   go false false blobs other test ok = cc
@@ -45,9 +46,11 @@ read_found text name h =
     let blobs = blobs_segment d.0.segment u.0 at.test u.1 in
     let alone = alone_found d.0.after g.0 g.1 in
     let before : instance_before i.0 ≡ joined_segments at.passed = sym (instance_found d.0.before i.0 i.1) ∙ at.before_is in
-    let are : segments_of text ≡ at.passed ++ codes "blobs" ∷ alone.hash ∷ alone.size ∷ [] = at.segments_are ∙ same_segments at.passed _ _ _ _ blobs alone.are in
+    let are : segments_of text ≡ at.passed ++ codes "blobs" ∷ alone.hash ∷ alone.size ∷ [] =
+    at.segments_are ∙ same_segments at.passed _ _ _ _ blobs alone.are in
     let clean = clean-front at.passed (d.0.segment ∷ d.0.after) (subst (AllByRecursion HasNoSlash) at.segments_are (segments-clean text)) in
-    let whole : text ≡ instance_text i.0 ++ (codes "blobs" ++ 47 ∷ (alone.hash ++ 47 ∷ alone.size)) = text_divided text i.0 at.passed (codes "blobs") alone.hash (alone.size ∷ []) are before in
+    let whole : text ≡ instance_text i.0 ++ (codes "blobs" ++ 47 ∷ (alone.hash ++ 47 ∷ alone.size)) =
+    text_divided text i.0 at.passed (codes "blobs") alone.hash (alone.size ∷ []) are before in
     let digest = same_digest alone.hash alone.size g.0 alone.written in
     subst (WritesRead text) same (record {
       text_is = whole ∙ ap (λ (rest : List ℕ). instance_text i.0 ++ (codes "blobs/" ++ rest)) digest;
@@ -62,9 +65,11 @@ read_only text name w =
     let written = written_digest name.digest w.nameable in
     let words : segments_of (codes "blobs" ++ 47 ∷ (hash ++ 47 ∷ size)) ≡ codes "blobs" ∷ hash ∷ size ∷ [] =
     segments-append (codes "blobs") (hash ++ 47 ∷ size)
-    ∙ ap (λ (segments : List (List ℕ)). codes "blobs" ∷ segments) (segments-append hash size ∙ rw (segments-word hash written.hash_clean, segments-word size written.size_clean) refl) in
+    ∙ ap (λ (segments : List (List ℕ)). codes "blobs" ∷ segments)
+    (segments-append hash size ∙ rw (segments-word hash written.hash_clean, segments-word size written.size_clean) refl) in
     let segments : segments_of text ≡ instance_segments name.instance ++ codes "blobs" ∷ hash ∷ size ∷ [] =
     ap segments_of w.text_is ∙ segments-instance name.instance (codes "blobs" ++ 47 ∷ (hash ++ 47 ∷ size))
     ∙ ap (λ (rest : List (List ℕ)). instance_segments name.instance ++ rest) words in
-    let at = divided-at divides_read [] (instance_segments name.instance) (codes "blobs") (hash ∷ size ∷ []) (none-instance divides_read name.instance w.apart) refl in
+    let at = divided-at divides_read [] (instance_segments name.instance) (codes "blobs") (hash ∷ size ∷ [])
+    (none-instance divides_read name.instance w.apart) refl in
     rw (segments, at, joined_segments-instance name.instance, instance_read name.instance, digest_read name.digest w.nameable) refl

@@ -16,7 +16,8 @@ pub segments_of-last : (text : List ℕ) → position_or_len is_slash text ≡ l
 segments_of-last text none = slice_split_none is_slash text (λ k d lt. fails_before_first is_slash text k d (omega arith))
 
 -- there is a first segment
-first_of : (segments : List (List ℕ)) (n : ℕ) → length segments ≡ n + 1 → (first : List ℕ) × (more : List (List ℕ)) × (segments ≡ first ∷ more)
+first_of : (segments : List (List ℕ)) (n : ℕ) → length segments ≡ n + 1 →
+    (first : List ℕ) × (more : List (List ℕ)) × (segments ≡ first ∷ more)
 first_of [] n h = absurd (omega arith)
 first_of (first ∷ more) n h = (first, more, refl)
 
@@ -80,7 +81,8 @@ has_front text rest first firsts start h is =
     let n = length-append front (47 ∷ rest) in
     record { whole = whole; place = omega arith; within = omega arith }
 
-some_passed : (text rest : List ℕ) (start : ℕ) → segments_of text ≡ segments_of rest → start ≡ length text - length rest → (start ≡ 0 → ⊥) → ⊥
+some_passed : (text rest : List ℕ) (start : ℕ) → segments_of text ≡ segments_of rest → start ≡ length text - length rest → (start ≡ 0 → ⊥) →
+    ⊥
 some_passed text rest start h is some = let e = ap length (rest-alone text rest h) in some (omega arith)
 
 -- otherwise the segments passed, joined, are what stands before the last slash before it

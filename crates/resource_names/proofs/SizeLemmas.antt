@@ -22,7 +22,8 @@ some_digits text false false first all z s a h = cc
 -- a numeral has a digit at least, and nothing else
 pub numeral_digits : (text : List ℕ) → is_numeral text ≡ true → (0 < length text) × (list_all is_decimal_digit text ≡ true)
 numeral_digits text h =
-    some_digits text (bytes_eq text (codes "0")) (not (length text == 0)) (not (starts_with nat_eq text (codes "0"))) (list_all is_decimal_digit text)
+    some_digits text (bytes_eq text (codes "0")) (not (length text == 0)) (not (starts_with nat_eq text (codes "0")))
+    (list_all is_decimal_digit text)
     (λ e. (bytes_eq-Decides text (codes "0")).0 e) refl refl h
 
 -- a numeral that does not parse is no size

@@ -34,7 +34,8 @@ record IsUuid (segment uuid : List ℕ) : Type 0 where
 
 uuid_found : (segment uuid : List ℕ) → uuid_of segment ≡ Ok uuid → IsUuid segment uuid
 uuid_found segment uuid h = go (nat_le 1 (length segment)) (nat_le (length segment) 128) refl refl h where
-  go : (a b : Bool) → nat_le 1 (length segment) ≡ a → nat_le (length segment) 128 ≡ b → cond (a && b) (Ok segment) (Err Form) ≡ Ok uuid → IsUuid segment uuid
+  go : (a b : Bool) → nat_le 1 (length segment) ≡ a → nat_le (length segment) 128 ≡ b → cond (a && b) (Ok segment) (Err Form) ≡ Ok uuid →
+      IsUuid segment uuid
   go true true a b h = record { is = cc; some = grind (arith, nat_tests); most = grind (arith, nat_tests) }
   go true false a b h = cc
   go false b' a b h = cc
@@ -45,7 +46,8 @@ place_found segment u h = go (is_blobs segment) refl h where
   go true e h = is_blobs-found segment e
   go false e h = cc
 
-upload_found : (instance : List ℕ) (segments : List (List ℕ)) (name : WriteNameValue) → upload_named instance segments ≡ Ok name → IsUpload instance segments name
+upload_found : (instance : List ℕ) (segments : List (List ℕ)) (name : WriteNameValue) → upload_named instance segments ≡ Ok name →
+    IsUpload instance segments name
 upload_found instance [] name h = cc
 upload_found instance (a ∷ []) name h = cc
 upload_found instance (a ∷ b ∷ []) name h = cc
@@ -92,9 +94,11 @@ write_found text name h =
     let up = upload_found i.0 d.0.after name i.2 in
     let at = divided-found divides_write [] (segments_of text) d.0 (was_some Form _ d.0 d.1) in
     let uploads = uploads_segment d.0.segment at.test in
-    let before : instance_before name.instance ≡ joined_segments at.passed = ap instance_before up.instance_is ∙ sym (instance_found d.0.before i.0 i.1) ∙ at.before_is in
+    let before : instance_before name.instance ≡ joined_segments at.passed =
+    ap instance_before up.instance_is ∙ sym (instance_found d.0.before i.0 i.1) ∙ at.before_is in
     let after = codes "blobs" ∷ up.hash ∷ up.size ∷ up.more in
-    let are : segments_of text ≡ at.passed ++ codes "uploads" ∷ name.uuid ∷ after = at.segments_are ∙ same_segments at.passed _ _ _ _ uploads up.are in
+    let are : segments_of text ≡ at.passed ++ codes "uploads" ∷ name.uuid ∷ after =
+    at.segments_are ∙ same_segments at.passed _ _ _ _ uploads up.are in
     let clean = clean-front at.passed (codes "uploads" ∷ name.uuid ∷ after) (subst (AllByRecursion HasNoSlash) are (segments-clean text)) in
     let whole = text_divided text name.instance at.passed (codes "uploads") name.uuid after are before in
     let more = further_text up.more in
@@ -104,7 +108,8 @@ write_found text name h =
     ∙ ap (λ (front : List ℕ). front ++ more) (same_digest up.hash up.size name.digest up.written) in
     record {
       more = more;
-      text_is = whole ∙ ap (λ (rest : List ℕ). instance_text name.instance ++ (codes "uploads/" ++ (name.uuid ++ (codes "/blobs/" ++ rest)))) digest;
+      text_is = whole ∙ ap (λ (rest : List ℕ). instance_text name.instance
+          ++ (codes "uploads/" ++ (name.uuid ++ (codes "/blobs/" ++ rest)))) digest;
       further = are_further up.more;
       apart = none_found divides_write name.instance at.passed refl clean.0 at.none before;
       uuid_some = up.some;
@@ -129,10 +134,12 @@ behind size [] clean f = record { segments = []; are = ap segments_of (append-ni
 behind size (byte ∷ more) clean f =
     record {
       segments = segments_of more;
-      are = ap (λ (b : ℕ). segments_of (size ++ b ∷ more)) f ∙ segments-append size more ∙ ap (λ (front : List (List ℕ)). front ++ segments_of more) (segments-word size clean);
+      are = ap (λ (b : ℕ). segments_of (size ++ b ∷ more)) f ∙ segments-append size more
+          ∙ ap (λ (front : List (List ℕ)). front ++ segments_of more) (segments-word size clean);
     }
 
-word-append : (word rest : List ℕ) (segments : List (List ℕ)) → HasNoSlash word → segments_of rest ≡ segments → segments_of (word ++ 47 ∷ rest) ≡ word ∷ segments
+word-append : (word rest : List ℕ) (segments : List (List ℕ)) → HasNoSlash word → segments_of rest ≡ segments →
+    segments_of (word ++ 47 ∷ rest) ≡ word ∷ segments
 word-append word rest segments clean h = segments-append word rest ∙ rw (segments-word word clean, h) refl
 
 pub write_only : (text : List ℕ) (name : WriteNameValue) → WritesWrite text name → write_name text ≡ Ok name
@@ -143,15 +150,26 @@ write_only text name w =
     let b = behind size w.more written.size_clean w.further in
     let ends : digest_text name.digest ++ w.more ≡ hash ++ 47 ∷ (size ++ w.more) = append_assoc hash (47 ∷ size) w.more in
     let digest = word-append hash (size ++ w.more) (size ∷ b.segments) written.hash_clean b.are in
-    let blobs = word-append (codes "blobs") (hash ++ 47 ∷ (size ++ w.more)) (hash ∷ size ∷ b.segments) (refl, (refl, (refl, (refl, (refl, tt))))) digest in
-    let uuid = word-append name.uuid (codes "blobs" ++ 47 ∷ (hash ++ 47 ∷ (size ++ w.more))) (codes "blobs" ∷ hash ∷ size ∷ b.segments) w.uuid_one blobs in
+    let blobs = word-append (codes "blobs") (hash ++ 47 ∷ (size ++ w.more)) (hash ∷ size ∷ b.segments)
+    (refl, (refl, (refl, (refl, (refl, tt))))) digest in
+    let uuid = word-append name.uuid (codes "blobs" ++ 47 ∷ (hash ++ 47 ∷ (size ++ w.more)))
+    (codes "blobs" ∷ hash ∷ size ∷ b.segments) w.uuid_one blobs in
     let after = name.uuid ∷ codes "blobs" ∷ hash ∷ size ∷ b.segments in
     let rest = name.uuid ++ 47 ∷ (codes "blobs" ++ 47 ∷ (hash ++ 47 ∷ (size ++ w.more))) in
-    let uploads : segments_of (codes "uploads" ++ 47 ∷ rest) ≡ codes "uploads" ∷ after = word-append (codes "uploads") rest after (refl, (refl, (refl, (refl, (refl, (refl, (refl, tt))))))) uuid in
+    let uploads : segments_of (codes "uploads" ++ 47 ∷ rest) ≡ codes "uploads" ∷ after =
+    word-append (codes "uploads") rest after (refl, (refl, (refl, (refl, (refl, (refl, (refl, tt))))))) uuid in
     let whole : text ≡ instance_text name.instance ++ (codes "uploads" ++ 47 ∷ rest) =
     w.text_is ∙ ap (λ (end : List ℕ). instance_text name.instance ++ (codes "uploads/" ++ (name.uuid ++ (codes "/blobs/" ++ end)))) ends in
     let segments : segments_of text ≡ instance_segments name.instance ++ codes "uploads" ∷ after =
     ap segments_of whole ∙ segments-instance name.instance (codes "uploads" ++ 47 ∷ rest)
     ∙ ap (λ (found : List (List ℕ)). instance_segments name.instance ++ found) uploads in
-    let at = divided-at divides_write [] (instance_segments name.instance) (codes "uploads") after (none-instance divides_write name.instance w.apart) refl in
-    rw (segments, at, joined_segments-instance name.instance, instance_read name.instance, uuid_read name.uuid w.uuid_some w.uuid_most, digest_read name.digest w.nameable) refl
+    let at = divided-at divides_write [] (instance_segments name.instance) (codes "uploads") after
+    (none-instance divides_write name.instance w.apart) refl in
+    rw (
+      segments,
+      at,
+      joined_segments-instance name.instance,
+      instance_read name.instance,
+      uuid_read name.uuid w.uuid_some w.uuid_most,
+      digest_read name.digest w.nameable,
+    ) refl

@@ -1,3 +1,5 @@
+pub mod RunNames
+pub mod Parting
 pub mod Nowhere
 mod PlaceLemmas
 mod SegmentLemmas

@@ -1,3 +1,4 @@
+pub mod Folders
 pub mod Entering
 pub mod Listing
 pub mod Segments

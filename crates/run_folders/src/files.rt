@@ -1,6 +1,6 @@
 //! Looking at what stands in a directory, making it, and opening files there.
 
-ghost use Rattle.std.specs.Prelude.{◌≡◌, ◌≤◌, IfOk, IfSome, IsTrue, codes, length, string_bytes};
+ghost use Rattle.std.specs.Prelude.{◌≡◌, ◌≤◌, IfOk, IfSome, IsSomeAnd, IsTrue, codes, length, string_bytes};
 ghost use Rattle.std.specs.Str.{bytes_eq};
 ghost use Rattle.system.specs.Names.{is_name};
 ghost use Rattle.system.specs.Places.{MayTake, WasFileAt, WasFileSeen, entry};
@@ -202,7 +202,8 @@ fn open_aside<D: Directory>(directory: &D, name: &[u8], aside: &D) -> io::Result
 
 /// Bytes of a file from a place on, at most so many; none at its end alone.
 pub fn read_part<F: OpenFile>(alloc: Global, file: &F, from: u64, most: u32) -> io::Result<Vec<u8>>
-    ensures { IfOk result (λ bytes. length bytes.items ≤ most) }
+    ensures within { IfOk result (λ bytes. length bytes.items ≤ most) }
+    ensures gave { IfOk result (λ bytes. F.gave file.now from bytes.items) }
 {
     let mut bytes = vec![in alloc; 0; most as usize]?;
     let count = file.read_at(&mut bytes, from)?;
@@ -219,7 +220,10 @@ pub struct Kept<F: OpenFile> {
 
 impl<F: OpenFile> Kept<F> {
     /// The file at this path, which is open.
-    pub fn new(path: String, file: F) -> Kept<F> {
+    pub fn new(path: String, file: F) -> Kept<F>
+        ensures path { result.path ≡ path }
+        ensures file { result.file ≡ file }
+    {
         Kept { path, file }
     }
 
@@ -233,7 +237,7 @@ impl<F: OpenFile> Kept<F> {
 
 /// The kept file, where it is that of a path.
 pub fn kept_file<F: OpenFile>(kept: Option<Kept<F>>, path: &str) -> Option<F>
-    ensures { IfSome result (λ file. IfSome kept (λ k. (k.file ≡ file)
+    ensures { IfSome result (λ file. IsSomeAnd kept (λ k. (k.file ≡ file)
         × IsTrue (bytes_eq (string_bytes k.path) path.now))) }
 {
     let kept = kept?;

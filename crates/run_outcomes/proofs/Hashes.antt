@@ -8,7 +8,8 @@ use Rattle.digest.specs.declared.HashFunction.TheVariants as By
 use Rattle.digest.specs.Naming.{digest_by, function_of, hash_by}
 use Rattle.digest.proofs.Same.{function_again}
 
-pub own_hash : (function : HashFunction) (text : List ℕ) (d : Digest) → d ≡ digest_by function text → d.hash ≡ hash_by (function_of d.hash) text
+pub own_hash : (function : HashFunction) (text : List ℕ) (d : Digest) → d ≡ digest_by function text →
+    d.hash ≡ hash_by (function_of d.hash) text
 own_hash function text d is =
     let hash : d.hash ≡ hash_by function text = ap (λ (x : Digest). x.hash) is in
     let own : function_of d.hash ≡ function = ap function_of hash ∙ function_again function text in

@@ -4,7 +4,7 @@ use Rattle.std.proofs.Math.Seq.{take-length}
 use Rattle.std.proofs.lemmas.Slice.Eq.{bytes_eq-Decides}
 use Rattle.run_calls.specs.declared.task.Variable.{Variable}
 use Rattle.run_calls.specs.Values.{CommandValue, PlaceValue, variable_shown}
-use Rattle.host_files.specs.Folders.{root_path}
+use Rattle.run_folders.specs.Folders.{root_path}
 use Rattle.system.specs.Starting.{Is, Start, StartsBy, StartsNone, StartsOne}
 use Rattle.run_programs.specs.declared.launching.Launcher.{Launcher}
 use Rattle.run_programs.specs.Launching.{StartsBare, StartsLauncher, Text, session_words}

@@ -2,7 +2,7 @@
 use Rattle.std.specs.Prelude.{◌≡◌, ◌⊎◌, ◌==◌, ◌&&◌, Bool, List, [], ◌∷◌, map, Option, None, Some, IsSomeAnd, Result, string_bytes}
 use Rattle.run_calls.specs.declared.task.RunKey.{RunKey}
 use Rattle.run_calls.specs.Values.{CommandValue, PlaceValue, command_shown}
-use Rattle.host_files.specs.Folders.{root_path, working_path}
+use Rattle.run_folders.specs.Folders.{root_path, working_path}
 use Rattle.system.specs.Starting.{Start}
 use Rattle.run_programs.specs.declared.launching.Launcher.{Launcher}
 use Rattle.run_programs.specs.declared.programs.Table.{Table}

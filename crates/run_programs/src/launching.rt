@@ -32,6 +32,13 @@ impl Launcher {
         Launcher { program, instances }
     }
 
+    /// Where it stands.
+    pub fn path(&self) -> &str
+        ensures { result.now ≡ string_bytes self.now.program }
+    {
+        self.program.as_str()
+    }
+
     /// Whether it is still there. Otherwise its absence would show as the code of what is started
     /// first.
     pub(crate) fn check<H: Host>(&self, host: &H) -> io::Result<()> {

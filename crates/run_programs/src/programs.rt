@@ -4,7 +4,7 @@ ghost use Rattle.std.specs.Prelude.{◌≡◌, ◌<◌, ◌≤◌, ◌+◌, [], 
 ghost use Rattle.run_calls.specs.Calls.{Adds, bytes_of, called, end_asked, forget_asked, kill_asked, killed_of, length_asked, length_of, program_done, read_asked, start_asked, started_of, state_of};
 ghost use Rattle.run_calls.specs.Failures.{Counts};
 ghost use Rattle.run_calls.specs.Values.{IsInRange, command_shown, place_shown};
-ghost use Rattle.host_files.specs.Folders.{root_path};
+ghost use Rattle.run_folders.specs.Folders.{root_path};
 ghost use Rattle.system.specs.Starting.{Is, StartsBy};
 ghost use Rattle.run_programs.specs.Launching.{StartsLauncher};
 ghost use Rattle.run_programs.specs.Known.{HasEndedWith, IsOfAt, KnowsOneMore, OthersStay, is_known, is_known_or_sought, started_as};
@@ -21,8 +21,8 @@ use crate::sought::Sought;
 use crate::started::{self, Started, StartedAs};
 use crate::starting::{add_variables, bare_command};
 use crate::way::Way;
-use host_files::{root_path, working_path};
 use run_calls::{Command as Ordered, Place, Programs, RunKey, Stream};
+use run_folders::{root_path, working_path};
 use std::cell::Cell;
 use std::io::{self, ErrorKind};
 use system::{Child, Host, OpenFile, Sessions, Spawner};

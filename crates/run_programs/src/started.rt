@@ -12,9 +12,8 @@ ghost use Rattle.run_programs.specs.declared.started.Next.TheVariants.{Tell};
 ghost use Rattle.run_programs.specs.declared.started.StartedAs.TheVariants.{Launcher};
 
 use crate::watched::Watched;
-use host_files::beside_path;
 use run_calls::{RunKey, Stream};
-use run_folders::read_part;
+use run_folders::{beside_path, read_part};
 use std::alloc::Global;
 use std::io::{self, ErrorKind};
 use std::time::{Duration, Instant};

@@ -48,14 +48,17 @@ front_nothing all = record { rest = all; whole = refl }
 
 -- ---- of a stop
 
-look_makes_nothing : (place : PlaceValue) (paths : List (List ℕ)) (q : FolderQuestion) (rest : List FolderQuestion) → map (look_asked place) paths ≡ q ∷ rest → made_by q ≡ []
+look_makes_nothing : (place : PlaceValue) (paths : List (List ℕ)) (q : FolderQuestion) (rest : List FolderQuestion) →
+    map (look_asked place) paths ≡ q ∷ rest → made_by q ≡ []
 look_makes_nothing place [] q rest is = absurd (cc)
 look_makes_nothing place (p ∷ ps) q rest is = let same : look_asked place p ≡ q = cc in ap made_by (sym same)
 
-one_makes_nothing : (place : PlaceValue) (path : List ℕ) (most : ℕ) (q : FolderQuestion) (rest : List FolderQuestion) → list_asked place path [] most ∷ [] ≡ q ∷ rest → made_by q ≡ []
+one_makes_nothing : (place : PlaceValue) (path : List ℕ) (most : ℕ) (q : FolderQuestion) (rest : List FolderQuestion) →
+    list_asked place path [] most ∷ [] ≡ q ∷ rest → made_by q ≡ []
 one_makes_nothing place path most q rest is = let same : list_asked place path [] most ≡ q = cc in ap made_by (sym same)
 
-entry_makes_nothing : (place : PlaceValue) (path : List ℕ) (above files : List (List ℕ)) (stack : List InnerValue) (q : FolderQuestion) (rest : List FolderQuestion)
+entry_makes_nothing : (place : PlaceValue) (path : List ℕ) (above files : List (List ℕ)) (stack : List InnerValue) (q : FolderQuestion)
+    (rest : List FolderQuestion)
     → to_meet place path above files stack ≡ q ∷ rest → made_by q ≡ []
 entry_makes_nothing place path above [] [] q rest is = absurd (cc)
 entry_makes_nothing place path above [] (i ∷ stack) q rest is =
@@ -73,11 +76,14 @@ none_made q left is = record { rest = left; whole = ap (λ zs. zs ++ left) (sym 
 folder_front : (text : ℕ → List ℕ) (place : PlaceValue) (from : Stage) (q : FolderQuestion)
     → AsksFolder (walk_at place from) text place from q → IsFront (made_by q) (to_make text place from)
 folder_front text place (stages.Making m) q asks = next_made (to_make text place (stages.Making m)) (made_by q) asks
-folder_front text place (stages.Outputs g) q asks = none_made q [] (look_makes_nothing place (map string_bytes g.left.items) q asks.0 asks.1)
+folder_front text place (stages.Outputs g) q asks =
+    none_made q [] (look_makes_nothing place (map string_bytes g.left.items) q asks.0 asks.1)
 folder_front text place (stages.File g f) q asks = none_made q [] (ap made_by asks.2)
-folder_front text place (stages.Listing g path) q asks = none_made q [] (one_makes_nothing place (string_bytes path) most_nodes q asks.1 asks.2)
+folder_front text place (stages.Listing g path) q asks =
+    none_made q [] (one_makes_nothing place (string_bytes path) most_nodes q asks.1 asks.2)
 folder_front text place (stages.Tree g t) q asks =
-    none_made q [] (entry_makes_nothing place (string_bytes t.path) t.nodes.above (map string_bytes t.files.items) (stack_of t.todo.items) q asks.1 asks.2)
+    none_made q [] (entry_makes_nothing place (string_bytes t.path) t.nodes.above (map string_bytes t.files.items)
+    (stack_of t.todo.items) q asks.1 asks.2)
 folder_front text place (stages.TreeFile g t f) q asks = none_made q [] (ap made_by asks.2)
 folder_front text place (stages.Running outputs) q asks = absurd asks
 folder_front text place (stages.Stopping e) q asks = absurd asks
@@ -88,7 +94,8 @@ folder_front text place (stages.Error e out err) q asks = absurd asks
 none_started : (q : ProgramQuestion) (left : List ProgramQuestion) → start_of q ≡ [] → IsFront (start_of q) left
 none_started q left is = record { rest = left; whole = ap (λ zs. zs ++ left) (sym is) }
 
-making_front : (place : PlaceValue) (m : Making) (q : ProgramQuestion) → AsksPrograms place (stages.Making m) q → IsFront (start_of q) (to_start place (stages.Making m))
+making_front : (place : PlaceValue) (m : Making) (q : ProgramQuestion) → AsksPrograms place (stages.Making m) q →
+    IsFront (start_of q) (to_start place (stages.Making m))
 making_front place (makings.Root n) q asks = absurd asks
 making_front place (makings.Nodes n) q asks = absurd asks
 making_front place (makings.Writing w) q asks = absurd asks
@@ -96,7 +103,8 @@ making_front place (makings.Directory p) q asks = absurd asks
 making_front place (makings.Parents p) q asks = absurd asks
 making_front place (makings.Starting p) q asks = record { rest = []; whole = sym (append-nil (start_of q) ∙ ap start_of asks) }
 
-program_front : (place : PlaceValue) (from : Stage) (q : ProgramQuestion) → AsksPrograms place from q → IsFront (start_of q) (to_start place from)
+program_front : (place : PlaceValue) (from : Stage) (q : ProgramQuestion) → AsksPrograms place from q →
+    IsFront (start_of q) (to_start place from)
 program_front place (stages.Making m) q asks = making_front place m q asks
 program_front place (stages.Running outputs) q asks = none_started q [] (ap start_of asks)
 program_front place (stages.Measuring e) q asks = none_started q [] (ap start_of asks)
@@ -112,13 +120,20 @@ program_front place (stages.TreeFile g t f) q asks = absurd asks
 one_front : {A : Type 0} (front all : List A) → IsFront front all → IsFront (front ++ []) all
 one_front front all is = record { rest = is.rest; whole = is.whole ∙ ap (λ zs. zs ++ is.rest) (sym (append-nil front)) }
 
-asked_front : (text : ℕ → List ℕ) (place : PlaceValue) (from : Stage) (calls : List RunCall) → AsksNext (walk_at place from) text place from calls
+asked_front : (text : ℕ → List ℕ) (place : PlaceValue) (from : Stage) (calls : List RunCall) →
+    AsksNext (walk_at place from) text place from calls
     → IsFront (made (folder_calls calls)) (to_make text place from) × IsFront (starts (program_calls calls)) (to_start place from)
 asked_front text place from [] asks = (front_nothing (to_make text place from), front_nothing (to_start place from))
-asked_front text place from (of_folder c ∷ []) asks =
-    (one_front (made_by c.question) (to_make text place from) (folder_front text place from c.question asks), front_nothing (to_start place from))
-asked_front text place from (of_programs c ∷ []) asks =
-    (front_nothing (to_make text place from), one_front (start_of c.question) (to_start place from) (program_front place from c.question asks))
+asked_front text place from (of_folder c ∷ []) asks = (
+  one_front (made_by c.question) (to_make text place from) (folder_front text place from c.question asks),
+  front_nothing
+      (to_start place from),
+)
+asked_front text place from (of_programs c ∷ []) asks = (
+  front_nothing (to_make text place from),
+  one_front (start_of c.question) (to_start place from)
+      (program_front place from c.question asks),
+)
 asked_front text place from (c ∷ d ∷ cs) asks = absurd asks
 
 -- its fault is not that a folder is left
@@ -159,14 +174,19 @@ stop_not_left fault (c ∷ d ∷ cs) is = absurd is
 
 -- ---- from the start on
 
-root_made : (text : ℕ → List ℕ) (place : PlaceValue) (task : Task) (from : Stage) → IsStageOf from task → to_make text place from ≡ all_made text place task
+root_made : (text : ℕ → List ℕ) (place : PlaceValue) (task : Task) (from : Stage) → IsStageOf from task →
+    to_make text place from ≡ all_made text place task
 root_made text place task (stages.Making (makings.Root n)) h =
-    ap (λ above. root_item place.run ∷ (nodes_made text place.run (map rc_str_bytes above) n.left.items ++ directory_item place ∷ map (λ o. parents_item place (string_bytes o)) n.next.outputs.items)) h.0
-    ∙ ap (λ left. root_item place.run ∷ (nodes_made text place.run [] left.items ++ directory_item place ∷ map (λ o. parents_item place (string_bytes o)) n.next.outputs.items)) h.1
-    ∙ ap (λ outputs. root_item place.run ∷ (nodes_made text place.run [] task.nodes.items ++ directory_item place ∷ map (λ o. parents_item place (string_bytes o)) outputs.items)) h.3
+    ap (λ above. root_item place.run ∷ (nodes_made text place.run (map rc_str_bytes above) n.left.items
+    ++ directory_item place ∷ map (λ o. parents_item place (string_bytes o)) n.next.outputs.items)) h.0
+    ∙ ap (λ left. root_item place.run ∷ (nodes_made text place.run [] left.items
+    ++ directory_item place ∷ map (λ o. parents_item place (string_bytes o)) n.next.outputs.items)) h.1
+    ∙ ap (λ outputs. root_item place.run ∷ (nodes_made text place.run [] task.nodes.items
+    ++ directory_item place ∷ map (λ o. parents_item place (string_bytes o)) outputs.items)) h.3
 root_made text place task from h = absurd h
 
-root_started : (place : PlaceValue) (task : Task) (from : Stage) → IsStageOf from task → to_start place from ≡ start_asked place (command_shown task.command) ∷ []
+root_started : (place : PlaceValue) (task : Task) (from : Stage) → IsStageOf from task →
+    to_start place from ≡ start_asked place (command_shown task.command) ∷ []
 root_started place task (stages.Making (makings.Root n)) h = ap (λ command. start_asked place (command_shown command) ∷ []) h.2
 root_started place task from h = absurd h
 
@@ -176,33 +196,43 @@ record HasCome (text : ℕ → List ℕ) (place : PlaceValue) (task : Task) (to 
   of_task : IsStageOf from task
   by : GoesBy text place from to calls
 
-pub has_begun : (text : ℕ → List ℕ) (place : PlaceValue) (task : Task) (stage : Stage) → IsStageOf stage task → HasReached text place task stage []
-has_begun text place task stage of_task = record { from = stage; of_task = of_task; cost = 0; by = goes_nowhere text place stage 0 (Some []) (Some []) }
+pub has_begun : (text : ℕ → List ℕ) (place : PlaceValue) (task : Task) (stage : Stage) → IsStageOf stage task →
+    HasReached text place task stage []
+has_begun text place task stage of_task = record
+    { from = stage; of_task = of_task; cost = 0; by = goes_nowhere text place stage 0 (Some []) (Some []) }
 
-reached_so : (text : ℕ → List ℕ) (place : PlaceValue) (task : Task) (stage : Stage) (calls : List RunCall) → (r : HasReached text place task stage calls) → HasCome text place task (steps.Goes stage r.cost) calls
+reached_so : (text : ℕ → List ℕ) (place : PlaceValue) (task : Task) (stage : Stage) (calls : List RunCall) →
+    (r : HasReached text place task stage calls) → HasCome text place task (steps.Goes stage r.cost) calls
 reached_so text place task stage calls r = record { from = r.from; of_task = r.of_task; by = r.by }
 
-has_gone_on : (text : ℕ → List ℕ) (place : PlaceValue) (task : Task) (stage : Stage) (cost : ℕ) (to : Step) (f g : Option (List FolderCall)) (p q : Option (List ProgramCall)) (calls : List RunCall)
-    → HasCome text place task (steps.Goes stage cost) calls → (goes : Goes text place stage to f g p q) → HasCome text place task to (calls ++ goes.calls)
+has_gone_on : (text : ℕ → List ℕ) (place : PlaceValue) (task : Task) (stage : Stage) (cost : ℕ) (to : Step) (f g : Option (List FolderCall))
+    (p q : Option (List ProgramCall)) (calls : List RunCall)
+    → HasCome text place task (steps.Goes stage cost) calls → (goes : Goes text place stage to f g p q) →
+    HasCome text place task to (calls ++ goes.calls)
 has_gone_on text place task stage cost to f g p q calls come goes = record {
   from = come.from;
   of_task = come.of_task;
   by = joined text place come.from stage cost to calls goes.calls come.by (by_itself text place stage to f g p q goes);
 }
 
-come_made : (text : ℕ → List ℕ) (place : PlaceValue) (task : Task) (to : Step) (calls : List RunCall) (come : HasCome text place task to calls)
+come_made : (text : ℕ → List ℕ) (place : PlaceValue) (task : Task) (to : Step) (calls : List RunCall)
+    (come : HasCome text place task to calls)
     → all_made text place task ≡ made (folder_calls calls) ++ then_to_make text place to
 come_made text place task to calls come =
     sym (root_made text place task come.from come.of_task) ∙ come.by.makes
-    ∙ ap (λ cs. made cs ++ then_to_make text place to) (sym (added [] (folder_calls calls) (folder_calls come.by.calls) come.by.folder_asked))
+    ∙ ap (λ cs. made cs ++ then_to_make text place to)
+    (sym (added [] (folder_calls calls) (folder_calls come.by.calls) come.by.folder_asked))
 
-come_started : (text : ℕ → List ℕ) (place : PlaceValue) (task : Task) (to : Step) (calls : List RunCall) (come : HasCome text place task to calls)
+come_started : (text : ℕ → List ℕ) (place : PlaceValue) (task : Task) (to : Step) (calls : List RunCall)
+    (come : HasCome text place task to calls)
     → start_asked place (command_shown task.command) ∷ [] ≡ starts (program_calls calls) ++ then_to_start place to
 come_started text place task to calls come =
     sym (root_started place task come.from come.of_task) ∙ come.by.starts_it
-    ∙ ap (λ cs. starts cs ++ then_to_start place to) (sym (added [] (program_calls calls) (program_calls come.by.calls) come.by.programs_asked))
+    ∙ ap (λ cs. starts cs ++ then_to_start place to)
+    (sym (added [] (program_calls calls) (program_calls come.by.calls) come.by.programs_asked))
 
-come_so_far : (text : ℕ → List ℕ) (place : PlaceValue) (task : Task) (to : Step) (calls : List RunCall) → HasCome text place task to calls → IsBegun text place task calls
+come_so_far : (text : ℕ → List ℕ) (place : PlaceValue) (task : Task) (to : Step) (calls : List RunCall) → HasCome text place task to calls →
+    IsBegun text place task calls
 come_so_far text place task to calls come = record {
   to_make = then_to_make text place to;
   to_start = then_to_start place to;
@@ -210,25 +240,32 @@ come_so_far text place task to calls come = record {
   starts_it = come_started text place task to calls come;
 }
 
-pub begun_so_far : (text : ℕ → List ℕ) (place : PlaceValue) (task : Task) (from : Stage) (to : Step) (calls : List RunCall) → IsStageOf from task → GoesBy text place from to calls → IsBegun text place task calls
-begun_so_far text place task from to calls of_task by = come_so_far text place task to calls (record { from = from; of_task = of_task; by = by })
+pub begun_so_far : (text : ℕ → List ℕ) (place : PlaceValue) (task : Task) (from : Stage) (to : Step) (calls : List RunCall) →
+    IsStageOf from task → GoesBy text place from to calls → IsBegun text place task calls
+begun_so_far text place task from to calls of_task by =
+    come_so_far text place task to calls (record { from = from; of_task = of_task; by = by })
 
 -- .. and then it stopped
-come_and_stopped : (text : ℕ → List ℕ) (place : PlaceValue) (task : Task) (stage : Stage) (cost : ℕ) (fault : RunFault) (f g : Option (List FolderCall)) (p q : Option (List ProgramCall)) (calls : List RunCall)
-    → HasCome text place task (steps.Goes stage cost) calls → (stops : Stops text place stage fault f g p q) → IsBegun text place task (calls ++ stops.calls)
+come_and_stopped : (text : ℕ → List ℕ) (place : PlaceValue) (task : Task) (stage : Stage) (cost : ℕ) (fault : RunFault)
+    (f g : Option (List FolderCall)) (p q : Option (List ProgramCall)) (calls : List RunCall)
+    → HasCome text place task (steps.Goes stage cost) calls → (stops : Stops text place stage fault f g p q) →
+    IsBegun text place task (calls ++ stops.calls)
 come_and_stopped text place task stage cost fault f g p q calls come stops =
     let fronts_so = asked_front text place stage stops.calls stops.asks in
     record {
       to_make = fronts_so.0.rest;
       to_start = fronts_so.1.rest;
-      makes = fronts (λ c. made_by c.question) (folder_calls calls) (folder_calls stops.calls) _ _ _ (come_made text place task (steps.Goes stage cost) calls come) fronts_so.0.whole
+      makes = fronts (λ c. made_by c.question) (folder_calls calls) (folder_calls stops.calls) _ _ _
+          (come_made text place task (steps.Goes stage cost) calls come) fronts_so.0.whole
           ∙ ap (λ cs. made cs ++ fronts_so.0.rest) (sym (collect_append folder_call calls stops.calls));
-      starts_it = fronts (λ c. start_of c.question) (program_calls calls) (program_calls stops.calls) _ _ _ (come_started text place task (steps.Goes stage cost) calls come) fronts_so.1.whole
+      starts_it = fronts (λ c. start_of c.question) (program_calls calls) (program_calls stops.calls) _ _ _
+          (come_started text place task (steps.Goes stage cost) calls come) fronts_so.1.whole
           ∙ ap (λ cs. starts cs ++ fronts_so.1.rest) (sym (collect_append program_call calls stops.calls));
     }
 
 -- a front of what a run has come by
-pub begun_front : (text : ℕ → List ℕ) (place : PlaceValue) (task : Task) (xs ys : List RunCall) → IsBegun text place task (xs ++ ys) → IsBegun text place task xs
+pub begun_front : (text : ℕ → List ℕ) (place : PlaceValue) (task : Task) (xs ys : List RunCall) → IsBegun text place task (xs ++ ys) →
+    IsBegun text place task xs
 begun_front text place task xs ys is = record {
   to_make = made (folder_calls ys) ++ is.to_make;
   to_start = starts (program_calls ys) ++ is.to_start;
@@ -240,11 +277,13 @@ begun_front text place task xs ys is = record {
       ∙ append_assoc (starts (program_calls xs)) (starts (program_calls ys)) is.to_start;
 }
 
-come_whole : (text : ℕ → List ℕ) (place : PlaceValue) (task : Task) (e : Exited) (calls : List RunCall) → HasCome text place task (steps.Exits e) calls → IsWhole text place task e calls
+come_whole : (text : ℕ → List ℕ) (place : PlaceValue) (task : Task) (e : Exited) (calls : List RunCall) →
+    HasCome text place task (steps.Exits e) calls → IsWhole text place task e calls
 come_whole text place task e calls come = whole text place task come.from calls e come.of_task come.by
 
 -- .. and more that makes nothing and starts nothing
-pub begun_more : (text : ℕ → List ℕ) (place : PlaceValue) (task : Task) (xs ys : List RunCall) → made (folder_calls ys) ≡ [] → starts (program_calls ys) ≡ [] → IsBegun text place task xs → IsBegun text place task (xs ++ ys)
+pub begun_more : (text : ℕ → List ℕ) (place : PlaceValue) (task : Task) (xs ys : List RunCall) → made (folder_calls ys) ≡ [] →
+    starts (program_calls ys) ≡ [] → IsBegun text place task xs → IsBegun text place task (xs ++ ys)
 begun_more text place task xs ys no_made no_start is = record {
   to_make = is.to_make;
   to_start = is.to_start;
@@ -253,10 +292,13 @@ begun_more text place task xs ys no_made no_start is = record {
 }
   where
     more_made : made (folder_calls (xs ++ ys)) ≡ made (folder_calls xs) ++ []
-    more_made = ap made (collect_append folder_call xs ys) ∙ collect_append (λ c. made_by c.question) (folder_calls xs) (folder_calls ys) ∙ ap (λ zs. made (folder_calls xs) ++ zs) no_made
+    more_made = ap made (collect_append folder_call xs ys) ∙ collect_append (λ c. made_by c.question) (folder_calls xs) (folder_calls ys)
+        ∙ ap (λ zs. made (folder_calls xs) ++ zs) no_made
 
     more_started : starts (program_calls (xs ++ ys)) ≡ starts (program_calls xs) ++ []
-    more_started = ap starts (collect_append program_call xs ys) ∙ collect_append (λ c. start_of c.question) (program_calls xs) (program_calls ys) ∙ ap (λ zs. starts (program_calls xs) ++ zs) no_start
+    more_started = ap starts (collect_append program_call xs ys)
+        ∙ collect_append (λ c. start_of c.question) (program_calls xs) (program_calls ys)
+        ∙ ap (λ zs. starts (program_calls xs) ++ zs) no_start
 
 -- ---- what becomes of a run that is not over
 
@@ -266,11 +308,13 @@ BecameSo text place task calls (Ok None) kept = (next : Stage) × (kept ≡ Some
 BecameSo text place task calls (Ok (Some outcomes.Failed)) kept = ⊥
 BecameSo text place task calls (Ok (Some (outcomes.Exited e))) kept =
     (before : List RunCall) × (kept ≡ Some (Over Removing))
-    × (calls ≡ before ++ of_programs record { question = forget_asked place.run; answer = Ok program_done } ∷ []) × IsWhole text place task e before
+    × (calls ≡ before ++ of_programs record { question = forget_asked place.run; answer = Ok program_done } ∷ [])
+    × IsWhole text place task e before
 BecameSo text place task calls (Err fault) kept = (left : Option Ending) × (kept ≡ option_map Over left) × IsNotLeft fault
 
 -- where it had come so far before
-pub record Became (text : ℕ → List ℕ) (place : PlaceValue) (task : Task) (before : List RunCall) (r : Result (Option Outcome) RunFault) (kept : Option State)
+pub record Became (text : ℕ → List ℕ) (place : PlaceValue) (task : Task) (before : List RunCall) (r : Result (Option Outcome) RunFault)
+    (kept : Option State)
     (f g : Option (List FolderCall)) (p q : Option (List ProgramCall)) : Type 0 where
   pub calls : List RunCall
   pub folders : Adds f g (folder_calls calls)
@@ -279,12 +323,15 @@ pub record Became (text : ℕ → List ℕ) (place : PlaceValue) (task : Task) (
   pub begun : IsBegun text place task (before ++ calls)
   pub so : BecameSo text place task (before ++ calls) r kept
 
-pub became : (text : ℕ → List ℕ) (place : Place) (task : Task) (before : List RunCall) (stage : Stage) (r : Result (Option Outcome) RunFault) (kept : Option State) (f g : Option (List FolderCall)) (p q : Option (List ProgramCall))
-    → HasReached text (place_shown place) task stage before → Becomes text place stage r kept f g p q → Became text (place_shown place) task before r kept f g p q
+pub became : (text : ℕ → List ℕ) (place : Place) (task : Task) (before : List RunCall) (stage : Stage)
+    (r : Result (Option Outcome) RunFault) (kept : Option State) (f g : Option (List FolderCall)) (p q : Option (List ProgramCall))
+    → HasReached text (place_shown place) task stage before → Becomes text place stage r kept f g p q →
+    Became text (place_shown place) task before r kept f g p q
 became text place task before stage (Ok None) kept f g p q was becomes =
     let here : PlaceValue = place_shown place in
     let goes = becomes.3 in
-    let come = has_gone_on text here task stage was.cost (steps.Goes becomes.0 becomes.1) f g p q before (reached_so text here task stage before was) goes in
+    let come = has_gone_on text here task stage was.cost (steps.Goes becomes.0 becomes.1) f g p q before
+    (reached_so text here task stage before was) goes in
     record {
       calls = goes.calls;
       folders = goes.folder_asked;
@@ -297,15 +344,19 @@ became text place task before stage (Ok (Some outcomes.Failed)) kept f g p q was
 became text place task before stage (Ok (Some (outcomes.Exited e))) kept f g p q was becomes =
     let here : PlaceValue = place_shown place in
     let goes = becomes.2 in
-    let come = has_gone_on text here task stage was.cost (steps.Exits e) f g p becomes.0 before (reached_so text here task stage before was) goes in
+    let come = has_gone_on text here task stage was.cost (steps.Exits e) f g p becomes.0 before
+    (reached_so text here task stage before was) goes in
     let end : List RunCall = of_programs record { question = forget_asked place.run; answer = Ok program_done } ∷ [] in
     let all : (before ++ goes.calls) ++ end ≡ before ++ (goes.calls ++ end) = append_assoc before goes.calls end in
     record {
       calls = goes.calls ++ end;
-      folders = adds_same f g _ _ (sym (append-nil (folder_calls goes.calls)) ∙ sym (collect_append folder_call goes.calls end)) goes.folder_asked;
-      programs = adds_same p q _ _ (sym (collect_append program_call goes.calls end)) (adds_more p becomes.0 q (program_calls goes.calls) (program_calls end) goes.programs_asked becomes.3);
+      folders = adds_same f g _ _ (sym (append-nil (folder_calls goes.calls)) ∙ sym (collect_append folder_call goes.calls end))
+          goes.folder_asked;
+      programs = adds_same p q _ _ (sym (collect_append program_call goes.calls end))
+          (adds_more p becomes.0 q (program_calls goes.calls) (program_calls end) goes.programs_asked becomes.3);
       own = own_append place.run goes.calls end goes.own (refl, tt);
-      begun = subst (IsBegun text here task) all (begun_more text here task (before ++ goes.calls) end refl refl (come_so_far text here task (steps.Exits e) (before ++ goes.calls) come));
+      begun = subst (IsBegun text here task) all (begun_more text here task (before ++ goes.calls) end refl refl
+          (come_so_far text here task (steps.Exits e) (before ++ goes.calls) come));
       so = (before ++ goes.calls, becomes.1, sym all, come_whole text here task e (before ++ goes.calls) come);
     }
 became text place task before stage (Err fault) kept f g p q was becomes =
@@ -313,11 +364,14 @@ became text place task before stage (Err fault) kept f g p q was becomes =
     let fails = becomes.2 in
     let goes = fails.5 in
     let stops = fails.6 in
-    let come = has_gone_on text here task stage was.cost (steps.Goes fails.0 fails.1) f fails.2 p fails.3 before (reached_so text here task stage before was) goes in
+    let come = has_gone_on text here task stage was.cost (steps.Goes fails.0 fails.1) f fails.2 p fails.3 before
+    (reached_so text here task stage before was) goes in
     record {
       calls = goes.calls ++ stops.calls;
-      folders = adds_same f g _ _ (sym (collect_append folder_call goes.calls stops.calls)) (adds_more f fails.2 g (folder_calls goes.calls) (folder_calls stops.calls) goes.folder_asked stops.folder_asked);
-      programs = adds_same p q _ _ (sym (collect_append program_call goes.calls stops.calls)) (adds_more p fails.3 q (program_calls goes.calls) (program_calls stops.calls) goes.programs_asked stops.programs_asked);
+      folders = adds_same f g _ _ (sym (collect_append folder_call goes.calls stops.calls))
+          (adds_more f fails.2 g (folder_calls goes.calls) (folder_calls stops.calls) goes.folder_asked stops.folder_asked);
+      programs = adds_same p q _ _ (sym (collect_append program_call goes.calls stops.calls))
+          (adds_more p fails.3 q (program_calls goes.calls) (program_calls stops.calls) goes.programs_asked stops.programs_asked);
       own = own_append place.run goes.calls stops.calls goes.own stops.own;
       begun = subst (IsBegun text here task) (append_assoc before goes.calls stops.calls)
           (come_and_stopped text here task fails.0 fails.1 fault fails.2 g fails.3 q (before ++ goes.calls) come stops);

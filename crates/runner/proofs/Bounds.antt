@@ -28,7 +28,8 @@ asks_none most f p = record {
   pieces = tt;
 }
 
-pub at_most : (m n : ℕ) (f g : Option (List FolderCall)) (p q : Option (List ProgramCall)) → AddsAtMost m f g p q → m ≤ n → AddsAtMost n f g p q
+pub at_most : (m n : ℕ) (f g : Option (List FolderCall)) (p q : Option (List ProgramCall)) → AddsAtMost m f g p q → m ≤ n →
+    AddsAtMost n f g p q
 at_most m n f g p q adds more = record {
   calls = adds.calls;
   folder_asked = adds.folder_asked;
@@ -60,23 +61,27 @@ programs_once f p s (inr (q, a, piece, adds)) = record {
 }
 
 -- one after which the run goes on
-pub folder_step : (r : Result Step RunFault) (f g : Option (List FolderCall)) (p : Option (List ProgramCall)) → IfOk r GoesCounted → FolderAsks f g → AddsAtMost (most_of_step r) f g p p
+pub folder_step : (r : Result Step RunFault) (f g : Option (List FolderCall)) (p : Option (List ProgramCall)) → IfOk r GoesCounted →
+    FolderAsks f g → AddsAtMost (most_of_step r) f g p p
 folder_step (Ok (steps.Goes s cost)) f g p goes asks = folder_once f g p asks
 folder_step (Ok (steps.Exits e)) f g p goes asks = absurd goes
 folder_step (Err fault) f g p goes asks = folder_once f g p asks
 
-pub programs_step : (r : Result Step RunFault) (f : Option (List FolderCall)) (p s : Option (List ProgramCall)) → IfOk r GoesCounted → ProgramAsks p s → AddsAtMost (most_of_step r) f f p s
+pub programs_step : (r : Result Step RunFault) (f : Option (List FolderCall)) (p s : Option (List ProgramCall)) → IfOk r GoesCounted →
+    ProgramAsks p s → AddsAtMost (most_of_step r) f f p s
 programs_step (Ok (steps.Goes s cost)) f p q goes asks = programs_once f p q asks
 programs_step (Ok (steps.Exits e)) f p q goes asks = absurd goes
 programs_step (Err fault) f p q goes asks = programs_once f p q asks
 
-pub making_step : (r : Result Step RunFault) (f g : Option (List FolderCall)) (p s : Option (List ProgramCall)) → IfOk r GoesCounted → AddsAtMost 1 f g p s → AddsAtMost (most_of_step r) f g p s
+pub making_step : (r : Result Step RunFault) (f g : Option (List FolderCall)) (p s : Option (List ProgramCall)) → IfOk r GoesCounted →
+    AddsAtMost 1 f g p s → AddsAtMost (most_of_step r) f g p s
 making_step (Ok (steps.Goes s cost)) f g p q goes adds = adds
 making_step (Ok (steps.Exits e)) f g p q goes adds = absurd goes
 making_step (Err fault) f g p q goes adds = adds
 
 -- one that may be the last
-pub last_step : (r : Result Step RunFault) (f g : Option (List FolderCall)) (p : Option (List ProgramCall)) → IfOk r (λ step. ExitsUnasked step f g) → FolderAsks f g → AddsAtMost (most_of_step r) f g p p
+pub last_step : (r : Result Step RunFault) (f g : Option (List FolderCall)) (p : Option (List ProgramCall)) →
+    IfOk r (λ step. ExitsUnasked step f g) → FolderAsks f g → AddsAtMost (most_of_step r) f g p p
 last_step (Ok (steps.Goes s cost)) f g p exits asks = folder_once f g p asks
 last_step (Ok (steps.Exits e)) f g p exits asks = subst (λ x. AddsAtMost 0 f x p p) (sym exits) (asks_none 0 f p)
 last_step (Err fault) f g p exits asks = folder_once f g p asks
@@ -100,7 +105,8 @@ asks_more m n most f g h p s t first next within = record {
       (adds_more f g h (folder_calls first.calls) (folder_calls next.calls) first.folder_asked next.folder_asked);
   programs_asked = adds_same p t _ _ (sym (collect_append program_call first.calls next.calls))
       (adds_more p s t (program_calls first.calls) (program_calls next.calls) first.programs_asked next.programs_asked);
-  few = let one = first.few in let other = next.few in let both = length-append first.calls next.calls in omega (arith, one, other, both, within);
+  few = let one = first.few in let other = next.few in let both = length-append first.calls next.calls in
+      omega (arith, one, other, both, within);
   pieces = pieces_append first.calls next.calls first.pieces next.pieces;
 }
 
@@ -116,21 +122,27 @@ pub next_most : (n : ℕ) (r : Result Step RunFault) (f g h : Option (List Folde
 next_most n r f g h p s t first next less = at_most (n + 1) most_calls f h p t (next_few n r f g h p s t first next) (omega (arith, less))
 
 -- one that exits
-pub exit_few : (n : ℕ) (r : Result Step RunFault) (step : Step) (e : Exited) (f g h : Option (List FolderCall)) (p s t : Option (List ProgramCall))
-    → r ≡ Ok step → step ≡ steps.Exits e → AddsAtMost n f g p s → AddsAtMost (most_of_step r) g h s t → n < most_calls → AddsAtMost 7 f h p t
+pub exit_few : (n : ℕ) (r : Result Step RunFault) (step : Step) (e : Exited) (f g h : Option (List FolderCall))
+    (p s t : Option (List ProgramCall))
+    → r ≡ Ok step → step ≡ steps.Exits e → AddsAtMost n f g p s → AddsAtMost (most_of_step r) g h s t → n < most_calls →
+    AddsAtMost 7 f h p t
 exit_few n r step e f g h p s t was is first next less =
-    asks_more n 0 7 f g h p s t first (subst (λ x. AddsAtMost (most_of_step x) g h s t) (was ∙ ap (λ (x : Step). Ok x) is) next) (omega (arith, less))
+    asks_more n 0 7 f g h p s t first (subst (λ x. AddsAtMost (most_of_step x) g h s t) (was ∙ ap (λ (x : Step). Ok x) is) next)
+    (omega (arith, less))
 
 -- ---- a turn
 
-pub turn_few : (r : Result Step Stopped) (f g : Option (List FolderCall)) (p s : Option (List ProgramCall)) → AddsAtMost (most_of_steps r) f g p s → AddsAtMost most_calls f g p s
+pub turn_few : (r : Result Step Stopped) (f g : Option (List FolderCall)) (p s : Option (List ProgramCall)) →
+    AddsAtMost (most_of_steps r) f g p s → AddsAtMost most_calls f g p s
 turn_few (Ok (steps.Goes x cost)) f g p s adds = adds
 turn_few (Ok (steps.Exits e)) f g p s adds = at_most 7 most_calls f g p s adds (omega arith)
 turn_few (Err stopped) f g p s adds = adds
 
 -- a program is let go of at the exit
-pub exited_few : (r : Result Step Stopped) (step : Step) (e : Exited) (run : RunKey) (f g : Option (List FolderCall)) (p s t : Option (List ProgramCall))
-    → r ≡ Ok step → step ≡ steps.Exits e → AddsAtMost (most_of_steps r) f g p s → Adds s t (called (forget_asked run) (Ok program_done)) → AddsAtMost most_calls f g p t
+pub exited_few : (r : Result Step Stopped) (step : Step) (e : Exited) (run : RunKey) (f g : Option (List FolderCall))
+    (p s t : Option (List ProgramCall))
+    → r ≡ Ok step → step ≡ steps.Exits e → AddsAtMost (most_of_steps r) f g p s → Adds s t (called (forget_asked run) (Ok program_done)) →
+    AddsAtMost most_calls f g p t
 exited_few r step e run f g p s t was is adds forgets =
     asks_more 7 1 most_calls f g g p s t (subst (λ x. AddsAtMost (most_of_steps x) f g p s) (was ∙ ap (λ (x : Step). Ok x) is) adds)
     (programs_once g s t (inr (forget_asked run, Ok program_done, tt, forgets))) (omega arith)
@@ -138,10 +150,12 @@ exited_few r step e run f g p s t was is adds forgets =
 -- ---- a run that is over
 
 -- what is asked to end a program, which is let go of where it is ended
-killed_twice : (key : RunKey) (a : Result ProgramAnswer ErrorKind) (left : Ending) (f : Option (List FolderCall)) (p s : Option (List ProgramCall))
+killed_twice : (key : RunKey) (a : Result ProgramAnswer ErrorKind) (left : Ending) (f : Option (List FolderCall))
+    (p s : Option (List ProgramCall))
     → Adds p s (called (kill_asked key) a ++ forgotten key left) → AddsAtMost 2 f f p s
 killed_twice key a Removing f p s adds = record {
-  calls = of_programs record { question = kill_asked key; answer = a } ∷ of_programs record { question = forget_asked key; answer = Ok program_done } ∷ [];
+  calls = of_programs record { question = kill_asked key; answer = a } ∷ of_programs record
+      { question = forget_asked key; answer = Ok program_done } ∷ [];
   folder_asked = adds_none f;
   programs_asked = adds;
   few = omega arith;
@@ -149,15 +163,18 @@ killed_twice key a Removing f p s adds = record {
 }
 killed_twice key a Killing f p s adds = at_most 1 2 f f p s (programs_once f p s (inr (kill_asked key, a, tt, adds))) (omega arith)
 
-pub ends_twice : (key : RunKey) (ending : Option Ending) (left : Result (Option Ending) RunFault) (f g : Option (List FolderCall)) (p s : Option (List ProgramCall))
+pub ends_twice : (key : RunKey) (ending : Option Ending) (left : Result (Option Ending) RunFault) (f g : Option (List FolderCall))
+    (p s : Option (List ProgramCall))
     → EndsBy key ending left f g p s → AddsAtMost 2 f g p s
 ends_twice key None left f g p s by =
     subst (λ x. AddsAtMost 2 f x p s) (sym by.1) (subst (λ y. AddsAtMost 2 f f p y) (sym by.2) (asks_none 2 f p))
 ends_twice key (Some Killing) left f g p s (then, is, same, (a, left_is, adds)) =
     subst (λ x. AddsAtMost 2 f x p s) (sym same) (killed_twice key a (left_of_kill a) f p s adds)
 ends_twice key (Some Removing) left f g p s (a, is, adds, same) =
-    subst (λ y. AddsAtMost 2 f g p y) (sym same) (at_most 1 2 f g p p (folder_once f g p (inr (removal_asked key, a, tt, adds))) (omega arith))
+    subst (λ y. AddsAtMost 2 f g p y) (sym same) (at_most 1 2 f g p p (folder_once f g p (inr (removal_asked key, a, tt, adds)))
+    (omega arith))
 
-pub ends_few : (key : RunKey) (ending : Option Ending) (left : Result (Option Ending) RunFault) (f g : Option (List FolderCall)) (p s : Option (List ProgramCall))
+pub ends_few : (key : RunKey) (ending : Option Ending) (left : Result (Option Ending) RunFault) (f g : Option (List FolderCall))
+    (p s : Option (List ProgramCall))
     → EndsBy key ending left f g p s → AddsAtMost most_calls f g p s
 ends_few key ending left f g p s by = at_most 2 most_calls f g p s (ends_twice key ending left f g p s by) (omega arith)

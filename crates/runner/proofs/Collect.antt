@@ -24,13 +24,15 @@ collect_append f [] ys = refl
 collect_append f (x ∷ xs) ys = ap (λ zs. f x ++ zs) (collect_append f xs ys) ∙ sym (append_assoc (f x) (collect f xs) (collect f ys))
 
 -- a front, and then a front of what is left
-pub fronts : {C A : Type 0} (f : C → List A) (xs ys : List C) (a b c : List A) → a ≡ collect f xs ++ b → b ≡ collect f ys ++ c → a ≡ collect f (xs ++ ys) ++ c
+pub fronts : {C A : Type 0} (f : C → List A) (xs ys : List C) (a b c : List A) → a ≡ collect f xs ++ b → b ≡ collect f ys ++ c →
+    a ≡ collect f (xs ++ ys) ++ c
 fronts f xs ys a b c first next =
     first ∙ ap (λ zs. collect f xs ++ zs) next ∙ sym (append_assoc (collect f xs) (collect f ys) c)
     ∙ ap (λ zs. zs ++ c) (sym (collect_append f xs ys))
 
 -- more behind, and then more
-pub behinds : {C A : Type 0} (f : C → List A) (xs ys : List C) (a b c : List A) → b ≡ a ++ collect f xs → c ≡ b ++ collect f ys → c ≡ a ++ collect f (xs ++ ys)
+pub behinds : {C A : Type 0} (f : C → List A) (xs ys : List C) (a b c : List A) → b ≡ a ++ collect f xs → c ≡ b ++ collect f ys →
+    c ≡ a ++ collect f (xs ++ ys)
 behinds f xs ys a b c first next =
     next ∙ ap (λ zs. zs ++ collect f ys) first ∙ append_assoc a (collect f xs) (collect f ys)
     ∙ ap (λ zs. a ++ zs) (sym (collect_append f xs ys))
@@ -43,8 +45,10 @@ own_append run (x ∷ xs) ys first next = (first.0, own_append run xs ys first.1
 -- ---- steps
 
 -- nothing was asked
-pub goes_drops : (text : ℕ → List ℕ) (place : PlaceValue) (from : Stage) (to : Step) (f : Option (List FolderCall)) (p : Option (List ProgramCall))
-    → to_make text place from ≡ then_to_make text place to → to_start place from ≡ then_to_start place to → to_look place from ≡ then_to_look place to
+pub goes_drops : (text : ℕ → List ℕ) (place : PlaceValue) (from : Stage) (to : Step) (f : Option (List FolderCall))
+    (p : Option (List ProgramCall))
+    → to_make text place from ≡ then_to_make text place to → to_start place from ≡ then_to_start place to →
+    to_look place from ≡ then_to_look place to
     → then_gathered place to ≡ has_gathered place from → then_told place to ≡ has_told place from
     → Closes (walk_at place from) (walk_then place to)
     → Goes text place from to f f p p
@@ -64,17 +68,21 @@ goes_drops text place from to f p makes starts_it looks_at gathers told closes =
   succeeds = refl;
 }
 
-pub goes_alone : (text : ℕ → List ℕ) (place : PlaceValue) (from : Stage) (to : Step) (f : Option (List FolderCall)) (p : Option (List ProgramCall))
-    → to_make text place from ≡ then_to_make text place to → to_start place from ≡ then_to_start place to → to_look place from ≡ then_to_look place to
+pub goes_alone : (text : ℕ → List ℕ) (place : PlaceValue) (from : Stage) (to : Step) (f : Option (List FolderCall))
+    (p : Option (List ProgramCall))
+    → to_make text place from ≡ then_to_make text place to → to_start place from ≡ then_to_start place to →
+    to_look place from ≡ then_to_look place to
     → then_gathered place to ≡ has_gathered place from → then_told place to ≡ has_told place from → walk_at place from ≡ walk_then place to
     → Goes text place from to f f p p
 goes_alone text place from to f p makes starts_it looks_at gathers told same =
     goes_drops text place from to f p makes starts_it looks_at gathers told (inl (sym same))
 
 -- one thing was asked of folders
-pub goes_folder_with : (before : Walk) (text : ℕ → List ℕ) (place : PlaceValue) (from : Stage) (to : Step) (f g : Option (List FolderCall)) (p : Option (List ProgramCall)) (q : FolderQuestion) (a : Result FolderAnswer ErrorKind)
+pub goes_folder_with : (before : Walk) (text : ℕ → List ℕ) (place : PlaceValue) (from : Stage) (to : Step) (f g : Option (List FolderCall))
+    (p : Option (List ProgramCall)) (q : FolderQuestion) (a : Result FolderAnswer ErrorKind)
     → folder_run q ≡ place.run → Adds f g (call q a)
-    → to_make text place from ≡ made_by q ++ then_to_make text place to → to_start place from ≡ then_to_start place to → to_look place from ≡ look_of q ++ then_to_look place to
+    → to_make text place from ≡ made_by q ++ then_to_make text place to → to_start place from ≡ then_to_start place to →
+    to_look place from ≡ look_of q ++ then_to_look place to
     → then_gathered place to ≡ has_gathered place from ++ call_items q a → then_told place to ≡ has_told place from
     → held from + folder_told q a ≤ most_bytes → Moves before q a (walk_then place to)
     → GoesWith before text place from to f g p p
@@ -94,9 +102,11 @@ goes_folder_with before text place from to f g p q a own adds makes starts_it lo
   succeeds = refl;
 }
 
-pub goes_folder : (text : ℕ → List ℕ) (place : PlaceValue) (from : Stage) (to : Step) (f g : Option (List FolderCall)) (p : Option (List ProgramCall)) (q : FolderQuestion) (a : Result FolderAnswer ErrorKind)
+pub goes_folder : (text : ℕ → List ℕ) (place : PlaceValue) (from : Stage) (to : Step) (f g : Option (List FolderCall))
+    (p : Option (List ProgramCall)) (q : FolderQuestion) (a : Result FolderAnswer ErrorKind)
     → folder_run q ≡ place.run → Adds f g (call q a)
-    → to_make text place from ≡ made_by q ++ then_to_make text place to → to_start place from ≡ then_to_start place to → to_look place from ≡ look_of q ++ then_to_look place to
+    → to_make text place from ≡ made_by q ++ then_to_make text place to → to_start place from ≡ then_to_start place to →
+    to_look place from ≡ look_of q ++ then_to_look place to
     → then_gathered place to ≡ has_gathered place from ++ call_items q a → then_told place to ≡ has_told place from
     → held from + folder_told q a ≤ most_bytes → Moves (walk_at place from) q a (walk_then place to)
     → Goes text place from to f g p p
@@ -104,9 +114,11 @@ goes_folder text place from to f g p q a own adds makes starts_it looks_at gathe
     goes_folder_with (walk_at place from) text place from to f g p q a own adds makes starts_it looks_at gathers told fits moves
 
 -- one thing was asked of programs
-pub goes_program : (text : ℕ → List ℕ) (place : PlaceValue) (from : Stage) (to : Step) (f : Option (List FolderCall)) (p s : Option (List ProgramCall)) (q : ProgramQuestion) (a : Result ProgramAnswer ErrorKind)
+pub goes_program : (text : ℕ → List ℕ) (place : PlaceValue) (from : Stage) (to : Step) (f : Option (List FolderCall))
+    (p s : Option (List ProgramCall)) (q : ProgramQuestion) (a : Result ProgramAnswer ErrorKind)
     → program_run q ≡ place.run → Adds p s (called q a)
-    → to_make text place from ≡ then_to_make text place to → to_start place from ≡ start_of q ++ then_to_start place to → to_look place from ≡ then_to_look place to
+    → to_make text place from ≡ then_to_make text place to → to_start place from ≡ start_of q ++ then_to_start place to →
+    to_look place from ≡ then_to_look place to
     → then_gathered place to ≡ has_gathered place from → then_told place to ≡ has_told place from ++ call_told q a
     → held from + program_told q a ≤ most_bytes → walk_at place from ≡ walk_then place to → forget_of q ≡ [] → failure_of q a ≡ []
     → Goes text place from to f f p s
@@ -127,32 +139,46 @@ goes_program text place from to f p s q a own adds makes starts_it looks_at gath
 }
 
 -- then more was asked
-pub goes_on : (text : ℕ → List ℕ) (place : PlaceValue) (from mid : Stage) (cost : ℕ) (to : Step) (f g h : Option (List FolderCall)) (p s t : Option (List ProgramCall))
+pub goes_on : (text : ℕ → List ℕ) (place : PlaceValue) (from mid : Stage) (cost : ℕ) (to : Step) (f g h : Option (List FolderCall))
+    (p s t : Option (List ProgramCall))
     → Goes text place from (steps.Goes mid cost) f g p s → Goes text place mid to g h s t → Goes text place from to f h p t
 goes_on text place from mid cost to f g h p s t first next =
-    let folders : folder_calls (first.calls ++ next.calls) ≡ folder_calls first.calls ++ folder_calls next.calls = collect_append folder_call first.calls next.calls in
-    let programs : program_calls (first.calls ++ next.calls) ≡ program_calls first.calls ++ program_calls next.calls = collect_append program_call first.calls next.calls in
+    let folders : folder_calls (first.calls ++ next.calls) ≡ folder_calls first.calls ++ folder_calls next.calls =
+    collect_append folder_call first.calls next.calls in
+    let programs : program_calls (first.calls ++ next.calls) ≡ program_calls first.calls ++ program_calls next.calls =
+    collect_append program_call first.calls next.calls in
     record {
       calls = first.calls ++ next.calls;
       own = own_append place.run first.calls next.calls first.own next.own;
-      folder_asked = adds_same f h _ _ (sym folders) (adds_more f g h (folder_calls first.calls) (folder_calls next.calls) first.folder_asked next.folder_asked);
-      programs_asked = adds_same p t _ _ (sym programs) (adds_more p s t (program_calls first.calls) (program_calls next.calls) first.programs_asked next.programs_asked);
-      makes = fronts (λ c. made_by c.question) (folder_calls first.calls) (folder_calls next.calls) _ _ _ first.makes next.makes ∙ ap (λ cs. made cs ++ then_to_make text place to) (sym folders);
-      starts_it = fronts (λ c. start_of c.question) (program_calls first.calls) (program_calls next.calls) _ _ _ first.starts_it next.starts_it ∙ ap (λ cs. starts cs ++ then_to_start place to) (sym programs);
-      looks_at = fronts (λ c. look_of c.question) (folder_calls first.calls) (folder_calls next.calls) _ _ _ first.looks_at next.looks_at ∙ ap (λ cs. looks cs ++ then_to_look place to) (sym folders);
-      gathers = behinds (λ c. call_items c.question c.answer) (folder_calls first.calls) (folder_calls next.calls) _ _ _ first.gathers next.gathers ∙ ap (λ cs. has_gathered place from ++ items_answered cs) (sym folders);
-      is_told = behinds (λ c. call_told c.question c.answer) (program_calls first.calls) (program_calls next.calls) _ _ _ first.is_told next.is_told ∙ ap (λ cs. has_told place from ++ items_told cs) (sym programs);
+      folder_asked = adds_same f h _ _ (sym folders)
+          (adds_more f g h (folder_calls first.calls) (folder_calls next.calls) first.folder_asked next.folder_asked);
+      programs_asked = adds_same p t _ _ (sym programs)
+          (adds_more p s t (program_calls first.calls) (program_calls next.calls) first.programs_asked next.programs_asked);
+      makes = fronts (λ c. made_by c.question) (folder_calls first.calls) (folder_calls next.calls) _ _ _ first.makes next.makes
+          ∙ ap (λ cs. made cs ++ then_to_make text place to) (sym folders);
+      starts_it = fronts (λ c. start_of c.question) (program_calls first.calls)
+          (program_calls next.calls) _ _ _ first.starts_it next.starts_it ∙ ap (λ cs. starts cs ++ then_to_start place to) (sym programs);
+      looks_at = fronts (λ c. look_of c.question) (folder_calls first.calls) (folder_calls next.calls) _ _ _ first.looks_at next.looks_at
+          ∙ ap (λ cs. looks cs ++ then_to_look place to) (sym folders);
+      gathers = behinds (λ c. call_items c.question c.answer) (folder_calls first.calls)
+          (folder_calls next.calls) _ _ _ first.gathers next.gathers
+          ∙ ap (λ cs. has_gathered place from ++ items_answered cs) (sym folders);
+      is_told = behinds (λ c. call_told c.question c.answer) (program_calls first.calls)
+          (program_calls next.calls) _ _ _ first.is_told next.is_told ∙ ap (λ cs. has_told place from ++ items_told cs) (sym programs);
       fits = fits_append (held from) first.calls next.calls first.fits
           (subst (λ n. Fits n next.calls) (held_then place from (steps.Goes mid cost) first.calls first.gathers first.is_told) next.fits);
       meets = subst (λ cs. Meets (walk_at place from) cs (walk_then place to)) (sym folders)
-          (meets_append (walk_at place from) (walk_at place mid) (walk_then place to) (folder_calls first.calls) (folder_calls next.calls) first.meets next.meets);
+          (meets_append (walk_at place from) (walk_at place mid) (walk_then place to) (folder_calls first.calls)
+          (folder_calls next.calls) first.meets next.meets);
       keeps = ap forgets programs ∙ collect_append (λ c. forget_of c.question) (program_calls first.calls) (program_calls next.calls)
           ∙ ap (λ zs. zs ++ forgets (program_calls next.calls)) first.keeps ∙ next.keeps;
-      succeeds = ap failures programs ∙ collect_append (λ c. failure_of c.question c.answer) (program_calls first.calls) (program_calls next.calls)
+      succeeds = ap failures programs ∙ collect_append (λ c. failure_of c.question c.answer) (program_calls first.calls)
+          (program_calls next.calls)
           ∙ ap (λ zs. zs ++ failures (program_calls next.calls)) first.succeeds ∙ next.succeeds;
     }
 
-pub goes_nowhere : (text : ℕ → List ℕ) (place : PlaceValue) (stage : Stage) (cost : ℕ) (f : Option (List FolderCall)) (p : Option (List ProgramCall)) → Goes text place stage (steps.Goes stage cost) f f p p
+pub goes_nowhere : (text : ℕ → List ℕ) (place : PlaceValue) (stage : Stage) (cost : ℕ) (f : Option (List FolderCall))
+    (p : Option (List ProgramCall)) → Goes text place stage (steps.Goes stage cost) f f p p
 goes_nowhere text place stage cost f p = goes_alone text place stage (steps.Goes stage cost) f p refl refl refl refl refl refl
 
 -- what gives nothing whatever is answered
@@ -161,8 +187,10 @@ quiet q (Err e) h = refl
 quiet q (Ok x) h = h x
 
 -- a stage of which the same is to be done, and which has gathered the same
-pub goes_from : (before : Walk) (text : ℕ → List ℕ) (place : PlaceValue) (from same : Stage) (to : Step) (f g : Option (List FolderCall)) (p s : Option (List ProgramCall))
-    → to_make text place from ≡ to_make text place same → to_start place from ≡ to_start place same → to_look place from ≡ to_look place same
+pub goes_from : (before : Walk) (text : ℕ → List ℕ) (place : PlaceValue) (from same : Stage) (to : Step) (f g : Option (List FolderCall))
+    (p s : Option (List ProgramCall))
+    → to_make text place from ≡ to_make text place same → to_start place from ≡ to_start place same →
+    to_look place from ≡ to_look place same
     → has_gathered place from ≡ has_gathered place same → has_told place from ≡ has_told place same → held from ≡ held same
     → GoesWith before text place same to f g p s → GoesWith before text place from to f g p s
 goes_from before text place from same to f g p s makes starts_it looks_at gathers told holds goes = record {
@@ -182,7 +210,8 @@ goes_from before text place from same to f g p s makes starts_it looks_at gather
 }
 
 -- what a step cost is of no matter
-pub recost : (text : ℕ → List ℕ) (place : PlaceValue) (from s : Stage) (a b : ℕ) (f g : Option (List FolderCall)) (p q : Option (List ProgramCall)) → Goes text place from (steps.Goes s a) f g p q → Goes text place from (steps.Goes s b) f g p q
+pub recost : (text : ℕ → List ℕ) (place : PlaceValue) (from s : Stage) (a b : ℕ) (f g : Option (List FolderCall))
+    (p q : Option (List ProgramCall)) → Goes text place from (steps.Goes s a) f g p q → Goes text place from (steps.Goes s b) f g p q
 recost text place from s a b f g p q goes = record {
   calls = goes.calls;
   own = goes.own;
@@ -199,12 +228,15 @@ recost text place from s a b f g p q goes = record {
   succeeds = goes.succeeds;
 }
 
-pub goes_exits : (text : ℕ → List ℕ) (place : PlaceValue) (from mid : Stage) (cost : ℕ) (step to : Step) (f g h : Option (List FolderCall)) (p s t : Option (List ProgramCall))
+pub goes_exits : (text : ℕ → List ℕ) (place : PlaceValue) (from mid : Stage) (cost : ℕ) (step to : Step) (f g h : Option (List FolderCall))
+    (p s t : Option (List ProgramCall))
     → Goes text place from (steps.Goes mid cost) f g p s → Goes text place mid step g h s t → step ≡ to → Goes text place from to f h p t
 goes_exits text place from mid cost step to f g h p s t first next is =
     goes_on text place from mid cost to f g h p s t first (subst (λ (x : Step). Goes text place mid x g h s t) is next)
 
-pub goes_next : (text : ℕ → List ℕ) (place : PlaceValue) (from mid : Stage) (cost : ℕ) (step : Step) (n : Stage) (a b : ℕ) (f g h : Option (List FolderCall)) (p s t : Option (List ProgramCall))
-    → Goes text place from (steps.Goes mid cost) f g p s → Goes text place mid step g h s t → step ≡ steps.Goes n a → Goes text place from (steps.Goes n b) f h p t
+pub goes_next : (text : ℕ → List ℕ) (place : PlaceValue) (from mid : Stage) (cost : ℕ) (step : Step) (n : Stage) (a b : ℕ)
+    (f g h : Option (List FolderCall)) (p s t : Option (List ProgramCall))
+    → Goes text place from (steps.Goes mid cost) f g p s → Goes text place mid step g h s t → step ≡ steps.Goes n a →
+    Goes text place from (steps.Goes n b) f h p t
 goes_next text place from mid cost step n a b f g h p s t first next is =
     recost text place from n a b f h p t (goes_exits text place from mid cost step (steps.Goes n a) f g h p s t first next is)

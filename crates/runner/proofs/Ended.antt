@@ -20,16 +20,23 @@ use Rattle.runner.proofs.Popped.{no_failure}
 use Rattle.runner.proofs.Sizes.{fits_none, fits_still}
 
 -- a code is what it is, written in 32 bits and read back
-pub same_code : (r : Result (Option ℤ) Error) (code : ℤ) → r ≡ Ok (Some code) → IfOk r (λ s. IfSome s IsInRange) → to_z w32 (of_z w32 code) ≡ code
+pub same_code : (r : Result (Option ℤ) Error) (code : ℤ) → r ≡ Ok (Some code) → IfOk r (λ s. IfSome s IsInRange) →
+    to_z w32 (of_z w32 code) ≡ code
 same_code r code is range = to_z-of_z w32 code (subst (λ x. IfOk x (λ s. IfSome s IsInRange)) is range)
 
-pub ended_goes : (text : ℕ → List ℕ) (place : PlaceValue) (from : Stage) (e : Ended) (step : Step) (code : ℤ) (r : Result (Option ℤ) Error) (f : Option (List FolderCall)) (p q : Option (List ProgramCall))
-    → Adds p q (called (end_asked place.run) (state_of r)) → r ≡ Ok (Some code) → IfOk r (λ s. IfSome s IsInRange) → step ≡ steps.Goes (stages.Stopping e) 1 → e.code ≡ to_z w32 (of_z w32 code)
-    → to_make text place from ≡ [] → to_start place from ≡ [] → to_look place from ≡ map (look_asked place) (map string_bytes e.outputs.items) → has_gathered place from ≡ [] → has_told place from ≡ [] → held from ≡ 0 → walk_at place from ≡ no_walk
+pub ended_goes : (text : ℕ → List ℕ) (place : PlaceValue) (from : Stage) (e : Ended) (step : Step) (code : ℤ) (r : Result (Option ℤ) Error)
+    (f : Option (List FolderCall)) (p q : Option (List ProgramCall))
+    → Adds p q (called (end_asked place.run) (state_of r)) → r ≡ Ok (Some code) → IfOk r (λ s. IfSome s IsInRange) →
+    step ≡ steps.Goes (stages.Stopping e) 1 → e.code ≡ to_z w32 (of_z w32 code)
+    → to_make text place from ≡ [] → to_start place from ≡ [] →
+    to_look place from ≡ map (look_asked place) (map string_bytes e.outputs.items) → has_gathered place from ≡ [] →
+    has_told place from ≡ [] → held from ≡ 0 → walk_at place from ≡ no_walk
     → Goes text place from step f f p q
 ended_goes text place from e step code r f p q adds is range step_is code_is make start look gathered told nothing left =
     subst (λ (s : Step). Goes text place from s f f p q) (sym step_is)
-    (goes_program text place from (steps.Goes (stages.Stopping e) 1) f p q (end_asked place.run) (state_of r) refl adds make start look (sym gathered)
+    (goes_program text place from (steps.Goes (stages.Stopping e) 1) f p q (end_asked place.run) (state_of r) refl adds make start look
+    (sym gathered)
     (ap (λ z. code_item place.run z ∷ []) (code_is ∙ same_code r code is range)
     ∙ sym (ap (λ zs. zs ++ call_told (end_asked place.run) (state_of r)) told ∙ ap (λ x. call_told (end_asked place.run) (state_of x)) is))
-    (fits_still (held from) 0 (subst (λ n. n ≤ most_bytes) (sym nothing) (fits_none 0 refl)) refl) left refl (no_failure (end_asked place.run) state_of r _ is (λ y. refl)))
+    (fits_still (held from) 0 (subst (λ n. n ≤ most_bytes) (sym nothing) (fits_none 0 refl)) refl) left refl
+    (no_failure (end_asked place.run) state_of r _ is (λ y. refl)))

@@ -56,7 +56,8 @@ tolds_append : (xs ys : List ToldItem) → tolds_count (xs ++ ys) ≡ tolds_coun
 tolds_append [] ys = omega arith
 tolds_append (x ∷ xs) ys = let e = tolds_append xs ys in omega (arith, e)
 
-numbered_count : (place : PlaceValue) (path : List ℕ) (names : List (List ℕ)) (from : ℕ) (bs : List ℕ) → items_count (numbered place path names from bs) ≡ length bs
+numbered_count : (place : PlaceValue) (path : List ℕ) (names : List (List ℕ)) (from : ℕ) (bs : List ℕ) →
+    items_count (numbered place path names from bs) ≡ length bs
 numbered_count place path names from [] = refl
 numbered_count place path names from (b ∷ bs) = let e = numbered_count place path names (from + 1) bs in omega (arith, e)
 
@@ -64,7 +65,8 @@ stream_count : (run : RunKey) (s : Stream) (from : ℕ) (bs : List ℕ) → told
 stream_count run s from [] = refl
 stream_count run s from (b ∷ bs) = let e = stream_count run s (from + 1) bs in omega (arith, e)
 
-whole_count : (place : PlaceValue) (path : List ℕ) (names : List (List ℕ)) (bs : List ℕ) → items_count (whole_file place path names bs) ≡ length bs
+whole_count : (place : PlaceValue) (path : List ℕ) (names : List (List ℕ)) (bs : List ℕ) →
+    items_count (whole_file place path names bs) ≡ length bs
 whole_count place path names bs =
     let split = items_append (numbered place path names 0 bs) (end_item place path names (length bs) ∷ []) in
     let one = numbered_count place path names 0 bs in
@@ -76,11 +78,13 @@ whole_stream_count run s bs =
     let one = stream_count run s 0 bs in
     omega (arith, split, one)
 
-node_count : (place : PlaceValue) (path : List ℕ) (names : List (List ℕ)) (k : NodeKind) → items_count (node_items place path names k) ≡ node_length k
+node_count : (place : PlaceValue) (path : List ℕ) (names : List (List ℕ)) (k : NodeKind) →
+    items_count (node_items place path names k) ≡ node_length k
 node_count place path names (node_kinds.File content is_executable) = let e = whole_count place path names content in omega (arith, e)
 node_count place path names node_kinds.Directory = omega arith
 
-nodes_count : (place : PlaceValue) (path : List ℕ) (above : List (List ℕ)) (ns : List OutputNode) → items_count (nodes_items place path above ns) ≡ nodes_length ns
+nodes_count : (place : PlaceValue) (path : List ℕ) (above : List (List ℕ)) (ns : List OutputNode) →
+    items_count (nodes_items place path above ns) ≡ nodes_length ns
 nodes_count place path above [] = refl
 nodes_count place path above (n ∷ ns) =
     let first = node_items place path (names_at above n.level (string_bytes n.name)) n.kind in
@@ -105,7 +109,8 @@ outputs_count place (o ∷ os) =
 
 -- ---- what is held
 
-streams_count : (place : PlaceValue) (e : Exited) → tolds_count (exited_told place e) ≡ length e.streams.value.stdout + length e.streams.value.stderr
+streams_count : (place : PlaceValue) (e : Exited) →
+    tolds_count (exited_told place e) ≡ length e.streams.value.stdout + length e.streams.value.stderr
 streams_count place e =
     let out = whole_stream place.run streams.Output e.streams.value.stdout in
     let err = whole_stream place.run streams.Error e.streams.value.stderr in
@@ -114,7 +119,8 @@ streams_count place e =
     let other = whole_stream_count place.run streams.Error e.streams.value.stderr in
     omega (arith, split, one, other)
 
-exited_count : (place : PlaceValue) (e : Exited) → tolds_count (exited_told place e) + items_count (output_items place e.outputs.items) ≡ exited_length e
+exited_count : (place : PlaceValue) (e : Exited) →
+    tolds_count (exited_told place e) + items_count (output_items place e.outputs.items) ≡ exited_length e
 exited_count place e =
     let streams = streams_count place e in
     let files = outputs_count place e.outputs.items in
@@ -174,7 +180,8 @@ part_count place path names from (suc most) (Ok (file_bytes [])) = omega arith
 part_count place path names from most (Ok (file_bytes (b ∷ bs))) = numbered_count place path names from (b ∷ bs)
 part_count place path names from most (Ok (gone b)) = refl
 
-look_count : (place : PlaceValue) (path : List ℕ) (a : Result FolderAnswer ErrorKind) → items_count (call_items (look_asked place path) a) ≡ 0
+look_count : (place : PlaceValue) (path : List ℕ) (a : Result FolderAnswer ErrorKind) →
+    items_count (call_items (look_asked place path) a) ≡ 0
 look_count place path (Err e) = refl
 look_count place path (Ok done) = refl
 look_count place path (Ok (found (founds.File f))) = omega arith
@@ -186,7 +193,8 @@ look_count place path (Ok (entries es)) = refl
 look_count place path (Ok (file_bytes bs)) = refl
 look_count place path (Ok (gone b)) = refl
 
-facts_count : (place : PlaceValue) (path : List ℕ) (names : List (List ℕ)) (a : Result FolderAnswer ErrorKind) → items_count (call_items (file_asked place path names) a) ≡ 0
+facts_count : (place : PlaceValue) (path : List ℕ) (names : List (List ℕ)) (a : Result FolderAnswer ErrorKind) →
+    items_count (call_items (file_asked place path names) a) ≡ 0
 facts_count place path names (Err e) = refl
 facts_count place path names (Ok done) = refl
 facts_count place path names (Ok (found f)) = refl
@@ -196,7 +204,8 @@ facts_count place path names (Ok (entries es)) = refl
 facts_count place path names (Ok (file_bytes bs)) = refl
 facts_count place path names (Ok (gone b)) = refl
 
-list_count : (place : PlaceValue) (path : List ℕ) (names : List (List ℕ)) (most : ℕ) (a : Result FolderAnswer ErrorKind) → items_count (call_items (list_asked place path names most) a) ≡ 0
+list_count : (place : PlaceValue) (path : List ℕ) (names : List (List ℕ)) (most : ℕ) (a : Result FolderAnswer ErrorKind) →
+    items_count (call_items (list_asked place path names most) a) ≡ 0
 list_count place path names most (Err e) = refl
 list_count place path names most (Ok done) = refl
 list_count place path names most (Ok (found f)) = refl
@@ -265,7 +274,8 @@ program_count (read_asked run s from most) a = read_count run s from most a
 program_count (forget_asked run) (Err e) = refl
 program_count (forget_asked run) (Ok a) = refl
 
-calls_count : (calls : List RunCall) → tolds_count (items_told (program_calls calls)) + items_count (items_answered (folder_calls calls)) ≡ all_read calls
+calls_count : (calls : List RunCall) → tolds_count (items_told (program_calls calls)) + items_count (items_answered (folder_calls calls))
+    ≡ all_read calls
 calls_count [] = refl
 calls_count (of_folder c ∷ cs) =
     let split = items_append (call_items c.question c.answer) (items_answered (folder_calls cs)) in

@@ -46,14 +46,16 @@ IsOfFolder fault a = IsSizeless fault × IsFolderFault fault a
 abbrev pub IsOfPrograms : RunFault → Result ProgramAnswer ErrorKind → Type 0
 IsOfPrograms fault a = IsSizeless fault × IsProgramsFault fault a
 
-folder_gives : {A : Type 0} (answer : Result A Error) (result : Result A RunFault) (fault : RunFault) (of : Result A Error → Result FolderAnswer ErrorKind)
+folder_gives : {A : Type 0} (answer : Result A Error) (result : Result A RunFault) (fault : RunFault)
+    (of : Result A Error → Result FolderAnswer ErrorKind)
     → ((e : Error) → of (Err e) ≡ Err (error_kind e)) → FolderAnswered answer result → result ≡ Err fault → IsOfFolder fault (of answer)
 folder_gives (Ok x) result fault of fails same is = let e = sym same ∙ is in cc
 folder_gives (Err e) result fault of fails same is =
     let own : folder_fault (error_kind e) ≡ fault = let both = sym same ∙ is in cc in
     (subst IsSizeless own (folder_kind (error_kind e)), subst (IsFolderFault fault) (sym (fails e)) (sym own))
 
-programs_gives : {A : Type 0} (answer : Result A Error) (result : Result A RunFault) (fault : RunFault) (of : Result A Error → Result ProgramAnswer ErrorKind)
+programs_gives : {A : Type 0} (answer : Result A Error) (result : Result A RunFault) (fault : RunFault)
+    (of : Result A Error → Result ProgramAnswer ErrorKind)
     → ((e : Error) → of (Err e) ≡ Err (error_kind e)) → ProgramsAnswered answer result → result ≡ Err fault → IsOfPrograms fault (of answer)
 programs_gives (Ok x) result fault of fails same is = let e = sym same ∙ is in cc
 programs_gives (Err e) result fault of fails same is =
@@ -67,7 +69,8 @@ memory_own fault is = subst IsOwnFault (sym is) tt
 folder_memory : (fault : RunFault) (a : Result FolderAnswer ErrorKind) (x : FolderAnswer) → a ≡ Ok x → fault ≡ NoMemory → IsOfFolder fault a
 folder_memory fault a x was is = (no_memory fault is, subst (IsFolderFault fault) (sym was) (memory_own fault is))
 
-programs_memory : (fault : RunFault) (a : Result ProgramAnswer ErrorKind) (x : ProgramAnswer) → a ≡ Ok x → fault ≡ NoMemory → IsOfPrograms fault a
+programs_memory : (fault : RunFault) (a : Result ProgramAnswer ErrorKind) (x : ProgramAnswer) → a ≡ Ok x → fault ≡ NoMemory →
+    IsOfPrograms fault a
 programs_memory fault a x was is = (no_memory fault is, subst (IsProgramsFault fault) (sym was) (memory_own fault is))
 
 is_true : (fault : RunFault) (n : ℕ) (calls : List RunCall) → IsSizeless fault → IsTrueOf fault n calls
@@ -79,8 +82,10 @@ is_true NoMemory n calls small = tt
 is_true Left n calls small = tt
 
 -- one thing was asked of folders
-pub folder_stops_with : (before : Walk) (text : ℕ → List ℕ) (place : PlaceValue) (from : Stage) (fault : RunFault) (f g : Option (List FolderCall)) (p : Option (List ProgramCall)) (q : FolderQuestion) (a : Result FolderAnswer ErrorKind)
-    → folder_run q ≡ place.run → IsOfFolder fault a → Adds f g (call q a) → AsksFolder before text place from q → StopsWith before text place from fault f g p p
+pub folder_stops_with : (before : Walk) (text : ℕ → List ℕ) (place : PlaceValue) (from : Stage) (fault : RunFault)
+    (f g : Option (List FolderCall)) (p : Option (List ProgramCall)) (q : FolderQuestion) (a : Result FolderAnswer ErrorKind)
+    → folder_run q ≡ place.run → IsOfFolder fault a → Adds f g (call q a) → AsksFolder before text place from q →
+    StopsWith before text place from fault f g p p
 folder_stops_with before text place from fault f g p q a own small adds asks = record {
   calls = of_folder record { question = q; answer = a } ∷ [];
   own = (own, tt);
@@ -91,13 +96,18 @@ folder_stops_with before text place from fault f g p q a own small adds asks = r
   is_of = small.1;
 }
 
-pub folder_stops : (text : ℕ → List ℕ) (place : PlaceValue) (from : Stage) (fault : RunFault) (f g : Option (List FolderCall)) (p : Option (List ProgramCall)) (q : FolderQuestion) (a : Result FolderAnswer ErrorKind)
-    → folder_run q ≡ place.run → IsOfFolder fault a → Adds f g (call q a) → AsksFolder (walk_at place from) text place from q → Stops text place from fault f g p p
-folder_stops text place from fault f g p q a own small adds asks = folder_stops_with (walk_at place from) text place from fault f g p q a own small adds asks
+pub folder_stops : (text : ℕ → List ℕ) (place : PlaceValue) (from : Stage) (fault : RunFault) (f g : Option (List FolderCall))
+    (p : Option (List ProgramCall)) (q : FolderQuestion) (a : Result FolderAnswer ErrorKind)
+    → folder_run q ≡ place.run → IsOfFolder fault a → Adds f g (call q a) → AsksFolder (walk_at place from) text place from q →
+    Stops text place from fault f g p p
+folder_stops text place from fault f g p q a own small adds asks =
+    folder_stops_with (walk_at place from) text place from fault f g p q a own small adds asks
 
 -- one thing was asked of programs
-pub program_stops : (text : ℕ → List ℕ) (place : PlaceValue) (from : Stage) (fault : RunFault) (f : Option (List FolderCall)) (p s : Option (List ProgramCall)) (q : ProgramQuestion) (a : Result ProgramAnswer ErrorKind)
-    → program_run q ≡ place.run → IsOfPrograms fault a → Adds p s (called q a) → AsksPrograms place from q → Stops text place from fault f f p s
+pub program_stops : (text : ℕ → List ℕ) (place : PlaceValue) (from : Stage) (fault : RunFault) (f : Option (List FolderCall))
+    (p s : Option (List ProgramCall)) (q : ProgramQuestion) (a : Result ProgramAnswer ErrorKind)
+    → program_run q ≡ place.run → IsOfPrograms fault a → Adds p s (called q a) → AsksPrograms place from q →
+    Stops text place from fault f f p s
 program_stops text place from fault f p s q a own small adds asks = record {
   calls = of_programs record { question = q; answer = a } ∷ [];
   own = (own, tt);
@@ -109,8 +119,10 @@ program_stops text place from fault f p s q a own small adds asks = record {
 }
 
 -- what it tells of is too large
-pub folder_surpasses_with : (before : Walk) (text : ℕ → List ℕ) (place : PlaceValue) (from : Stage) (f g : Option (List FolderCall)) (p : Option (List ProgramCall)) (q : FolderQuestion) (a : Result FolderAnswer ErrorKind) (k : ℕ) (x : FolderAnswer)
-    → folder_run q ≡ place.run → a ≡ Ok x → Adds f g (call q a) → folder_told q a ≡ k → most_bytes < held from + k → AsksFolder before text place from q → StopsWith before text place from TooLarge f g p p
+pub folder_surpasses_with : (before : Walk) (text : ℕ → List ℕ) (place : PlaceValue) (from : Stage) (f g : Option (List FolderCall))
+    (p : Option (List ProgramCall)) (q : FolderQuestion) (a : Result FolderAnswer ErrorKind) (k : ℕ) (x : FolderAnswer)
+    → folder_run q ≡ place.run → a ≡ Ok x → Adds f g (call q a) → folder_told q a ≡ k → most_bytes < held from + k →
+    AsksFolder before text place from q → StopsWith before text place from TooLarge f g p p
 folder_surpasses_with before text place from f g p q a k x own was adds is more asks = record {
   calls = of_folder record { question = q; answer = a } ∷ [];
   own = (own, tt);
@@ -121,12 +133,17 @@ folder_surpasses_with before text place from f g p q a k x own was adds is more 
   is_of = subst (IsFolderFault TooLarge) (sym was) tt;
 }
 
-pub folder_surpasses : (text : ℕ → List ℕ) (place : PlaceValue) (from : Stage) (f g : Option (List FolderCall)) (p : Option (List ProgramCall)) (q : FolderQuestion) (a : Result FolderAnswer ErrorKind) (k : ℕ) (x : FolderAnswer)
-    → folder_run q ≡ place.run → a ≡ Ok x → Adds f g (call q a) → folder_told q a ≡ k → most_bytes < held from + k → AsksFolder (walk_at place from) text place from q → Stops text place from TooLarge f g p p
-folder_surpasses text place from f g p q a k x own was adds is more asks = folder_surpasses_with (walk_at place from) text place from f g p q a k x own was adds is more asks
+pub folder_surpasses : (text : ℕ → List ℕ) (place : PlaceValue) (from : Stage) (f g : Option (List FolderCall))
+    (p : Option (List ProgramCall)) (q : FolderQuestion) (a : Result FolderAnswer ErrorKind) (k : ℕ) (x : FolderAnswer)
+    → folder_run q ≡ place.run → a ≡ Ok x → Adds f g (call q a) → folder_told q a ≡ k → most_bytes < held from + k →
+    AsksFolder (walk_at place from) text place from q → Stops text place from TooLarge f g p p
+folder_surpasses text place from f g p q a k x own was adds is more asks =
+    folder_surpasses_with (walk_at place from) text place from f g p q a k x own was adds is more asks
 
-pub program_surpasses : (text : ℕ → List ℕ) (place : PlaceValue) (from : Stage) (f : Option (List FolderCall)) (p s : Option (List ProgramCall)) (q : ProgramQuestion) (a : Result ProgramAnswer ErrorKind) (k : ℕ) (x : ProgramAnswer)
-    → program_run q ≡ place.run → a ≡ Ok x → Adds p s (called q a) → program_told q a ≡ k → most_bytes < held from + k → AsksPrograms place from q → Stops text place from TooLarge f f p s
+pub program_surpasses : (text : ℕ → List ℕ) (place : PlaceValue) (from : Stage) (f : Option (List FolderCall))
+    (p s : Option (List ProgramCall)) (q : ProgramQuestion) (a : Result ProgramAnswer ErrorKind) (k : ℕ) (x : ProgramAnswer)
+    → program_run q ≡ place.run → a ≡ Ok x → Adds p s (called q a) → program_told q a ≡ k → most_bytes < held from + k →
+    AsksPrograms place from q → Stops text place from TooLarge f f p s
 program_surpasses text place from f p s q a k x own was adds is more asks = record {
   calls = of_programs record { question = q; answer = a } ∷ [];
   own = (own, tt);
@@ -139,18 +156,21 @@ program_surpasses text place from f p s q a k x own was adds is more asks = reco
 
 -- ---- where a call failed, or a request for memory was refused
 
-stops_with : {X : Type 0} {Q : RunFault → Type 0} (r : Result X RunFault) (S : RunFault → Type 0) → IsErrAnd r Q → ((y : RunFault) → Q y → S y) → IfErr r S
+stops_with : {X : Type 0} {Q : RunFault → Type 0} (r : Result X RunFault) (S : RunFault → Type 0) → IsErrAnd r Q →
+    ((y : RunFault) → Q y → S y) → IfErr r S
 stops_with (Ok x) S h all = absurd h
 stops_with (Err y) S h all = all y h
 
-pub folder_failed : {X A : Type 0} (r : Result X RunFault) (answer : Result A Error) (result : Result A RunFault) (given : RunFault) (S : RunFault → Type 0)
+pub folder_failed : {X A : Type 0} (r : Result X RunFault) (answer : Result A Error) (result : Result A RunFault) (given : RunFault)
+    (S : RunFault → Type 0)
     → IsErrAnd r (λ y. y ≡ given) → FolderAnswered answer result → result ≡ Err given
     → (of : Result A Error → Result FolderAnswer ErrorKind) → ((e : Error) → of (Err e) ≡ Err (error_kind e))
     → ((fault : RunFault) → IsOfFolder fault (of answer) → S fault) → IfErr r S
 folder_failed r answer result given S gives answered is of fails stops =
     stops_with r S gives (λ y same. stops y (folder_gives answer result y of fails answered (is ∙ ap Err (sym same))))
 
-pub programs_failed : {X A : Type 0} (r : Result X RunFault) (answer : Result A Error) (result : Result A RunFault) (given : RunFault) (S : RunFault → Type 0)
+pub programs_failed : {X A : Type 0} (r : Result X RunFault) (answer : Result A Error) (result : Result A RunFault) (given : RunFault)
+    (S : RunFault → Type 0)
     → IsErrAnd r (λ y. y ≡ given) → ProgramsAnswered answer result → result ≡ Err given
     → (of : Result A Error → Result ProgramAnswer ErrorKind) → ((e : Error) → of (Err e) ≡ Err (error_kind e))
     → ((fault : RunFault) → IsOfPrograms fault (of answer) → S fault) → IfErr r S
@@ -175,7 +195,8 @@ pub memory_failed : {X : Type 0} (r : Result X RunFault) (S : RunFault → Type 
     → a ≡ Ok x → IsErrAnd r (λ y. y ≡ NoMemory) → ((fault : RunFault) → IsOfFolder fault a → S fault) → IfErr r S
 memory_failed r S a x was gives stops = stops_with r S gives (λ y same. stops y (folder_memory y a x was same))
 
-pub programs_memory_failed : {X : Type 0} (r : Result X RunFault) (S : RunFault → Type 0) (a : Result ProgramAnswer ErrorKind) (x : ProgramAnswer)
+pub programs_memory_failed : {X : Type 0} (r : Result X RunFault) (S : RunFault → Type 0) (a : Result ProgramAnswer ErrorKind)
+    (x : ProgramAnswer)
     → a ≡ Ok x → IsErrAnd r (λ y. y ≡ NoMemory) → ((fault : RunFault) → IsOfPrograms fault a → S fault) → IfErr r S
 programs_memory_failed r S a x was gives stops = stops_with r S gives (λ y same. stops y (programs_memory y a x was same))
 
@@ -196,9 +217,11 @@ tree_asks before text place g t t' (of_folder c ∷ []) asks = asks
 tree_asks before text place g t t' (of_programs c ∷ []) asks = absurd asks
 tree_asks before text place g t t' (c ∷ d ∷ cs) asks = absurd asks
 
-pub tree_stops : {X : Type 0} (before : Walk) (r : Result X RunFault) (place : PlaceValue) (g : Gathering) (t t' : Tree) (f h : Option (List FolderCall))
+pub tree_stops : {X : Type 0} (before : Walk) (r : Result X RunFault) (place : PlaceValue) (g : Gathering) (t t' : Tree)
+    (f h : Option (List FolderCall))
     → t'.nodes ≡ t.nodes → before ≡ walk_at place (stages.Tree g t)
-    → IfErr r (λ fault. FolderStopsWith before place (stages.Tree g t') fault f h) → IfErr r (λ fault. FolderStops place (stages.Tree g t) fault f h)
+    → IfErr r (λ fault. FolderStopsWith before place (stages.Tree g t') fault f h) →
+    IfErr r (λ fault. FolderStops place (stages.Tree g t) fault f h)
 tree_stops before (Ok x) place g t t' f h nodes one stops = stops
 tree_stops before (Err fault) place g t t' f h nodes one stops = λ text p.
     let was = stops text p in
@@ -207,7 +230,8 @@ tree_stops before (Err fault) place g t t' f h nodes one stops = λ text p.
       own = was.own;
       folder_asked = was.folder_asked;
       programs_asked = was.programs_asked;
-      asks = subst (λ (w : Walk). AsksNext w text place (stages.Tree g t) was.calls) one (tree_asks before text place g t t' was.calls was.asks);
+      asks = subst (λ (w : Walk). AsksNext w text place (stages.Tree g t) was.calls) one
+          (tree_asks before text place g t t' was.calls was.asks);
       is_true = subst (λ n. IsTrueOf fault n was.calls) (ap (λ n. exited_length g.exited + nodes_length n.nodes) nodes) was.is_true;
       is_of = was.is_of;
     }

@@ -82,7 +82,8 @@ nodes_append : (xs : List OutputNode) (n : OutputNode) → nodes_length (xs ++ n
 nodes_append [] n = omega arith
 nodes_append (x ∷ xs) n = let more = nodes_append xs n in omega (arith, more)
 
-pub node_added : (old new : List OutputNode) (n : OutputNode) (k : ℕ) → new ≡ old ++ n ∷ [] → node_length n.kind ≡ k → nodes_length new ≡ nodes_length old + k
+pub node_added : (old new : List OutputNode) (n : OutputNode) (k : ℕ) → new ≡ old ++ n ∷ [] → node_length n.kind ≡ k →
+    nodes_length new ≡ nodes_length old + k
 node_added old new n k is size = ap nodes_length is ∙ nodes_append old n ∙ ap (λ m. nodes_length old + m) size
 
 outputs_append : (xs : List Output) (o : Output) → outputs_length (xs ++ o ∷ []) ≡ outputs_length xs + output_length o.kind
@@ -101,5 +102,6 @@ taken_on t now n m taken same is =
     let most = taken.1 in
     (omega (arith, equal, same, is), omega (arith, most, is))
 
-pub directory_size : (old new : List OutputNode) (n : OutputNode) → new ≡ old ++ n ∷ [] → node_length n.kind ≡ 0 → nodes_length new ≡ nodes_length old
+pub directory_size : (old new : List OutputNode) (n : OutputNode) → new ≡ old ++ n ∷ [] → node_length n.kind ≡ 0 →
+    nodes_length new ≡ nodes_length old
 directory_size old new n is size = let more = node_added old new n 0 is size in omega (arith, more)

@@ -46,7 +46,8 @@ put : (runs rest : List Run) (at : ℕ) (run : Run) (kept : Option State) → dr
     → kept_at runs at kept ≡ take at runs ++ (run_kept run.place kept ++ rest)
 put runs rest at run kept there = ap (λ rs. take at runs ++ first_kept rs kept) there
 
-pub put_set : (runs : Vec Run) (at : ℕ) (item : Run) (state now : State) → at < vec_len runs → item ≡ slice_index_or runs.items at item → state ≡ now
+pub put_set : (runs : Vec Run) (at : ℕ) (item : Run) (state now : State) → at < vec_len runs → item ≡ slice_index_or runs.items at item →
+    state ≡ now
     → slice_set runs.items at (run_of item.place state) ≡ kept_at runs.items at (Some now)
 put_set runs at item state now inside is same =
     let within : at < length runs.items = grind (arith, inside, runs.ok) in
@@ -54,21 +55,25 @@ put_set runs at item state now inside is same =
     set_split runs.items at (run_of item.place state) within
     ∙ ap (λ n. take at runs.items ++ run_of item.place state ∷ drop n runs.items) next
     ∙ ap (λ s. take at runs.items ++ run_of item.place s ∷ drop (at + 1) runs.items) same
-    ∙ sym (put runs.items (drop (at + 1) runs.items) at item (Some now) (drop_more runs.items at item within ∙ ap (λ x. x ∷ drop (at + 1) runs.items) (sym is)))
+    ∙ sym (put runs.items (drop (at + 1) runs.items) at item (Some now)
+    (drop_more runs.items at item within ∙ ap (λ x. x ∷ drop (at + 1) runs.items) (sym is)))
 
 -- and stands there still
 put_drop : (runs mid rest : List Run) (at : ℕ) (run : Run) (state : State) → at < length runs → drop at runs ≡ run ∷ rest
     → mid ≡ kept_at runs at (Some state) → drop at mid ≡ run_of run.place state ∷ rest
 put_drop runs mid rest at run state inside there is =
-    ap (drop at) (is ∙ put runs rest at run (Some state) there) ∙ drop_at (take at runs) (run_of run.place state ∷ rest) at (length-take-le at runs (omega (arith, inside)))
+    ap (drop at) (is ∙ put runs rest at run (Some state) there)
+    ∙ drop_at (take at runs) (run_of run.place state ∷ rest) at (length-take-le at runs (omega (arith, inside)))
 
 put_take : (runs mid rest : List Run) (at : ℕ) (run : Run) (state : State) → at < length runs → drop at runs ≡ run ∷ rest
     → mid ≡ kept_at runs at (Some state) → take at mid ≡ take at runs
 put_take runs mid rest at run state inside there is =
-    ap (take at) (is ∙ put runs rest at run (Some state) there) ∙ take_at (take at runs) (run_of run.place state ∷ rest) at (length-take-le at runs (omega (arith, inside)))
+    ap (take at) (is ∙ put runs rest at run (Some state) there)
+    ∙ take_at (take at runs) (run_of run.place state ∷ rest) at (length-take-le at runs (omega (arith, inside)))
 
 -- once more
-put_again : (runs mid rest : List Run) (at : ℕ) (run : Run) (state : State) (kept : Option State) → at < length runs → drop at runs ≡ run ∷ rest
+put_again : (runs mid rest : List Run) (at : ℕ) (run : Run) (state : State) (kept : Option State) → at < length runs →
+    drop at runs ≡ run ∷ rest
     → mid ≡ kept_at runs at (Some state) → kept_at mid at kept ≡ kept_at runs at kept
 put_again runs mid rest at run state kept inside there is =
     ap (λ rs. rs ++ first_kept (drop at mid) kept) (put_take runs mid rest at run state inside there is)
@@ -77,12 +82,14 @@ put_again runs mid rest at run state kept inside there is =
 
 -- ---- what is left of it, and what is told
 
-pub left_over : (left : Option Ending) (kept : Option State) → MatchOption left (kept ≡ None) (λ e. IsSomeAnd kept (λ s. s ≡ Over e)) → kept ≡ option_map Over left
+pub left_over : (left : Option Ending) (kept : Option State) → MatchOption left (kept ≡ None) (λ e. IsSomeAnd kept (λ s. s ≡ Over e)) →
+    kept ≡ option_map Over left
 left_over None kept is = is
 left_over (Some e) (Some s) is = ap Some is
 left_over (Some e) None is = absurd is
 
-told_left : {A : Type 0} (x : A) (left : Result (Option Ending) RunFault) (told : Result A RunFault) → told ≡ result_and left (Ok x) → told ≡ end_told x left
+told_left : {A : Type 0} (x : A) (left : Result (Option Ending) RunFault) (told : Result A RunFault) → told ≡ result_and left (Ok x) →
+    told ≡ end_told x left
 told_left x (Ok l) told is = is
 told_left x (Err fault) told is = is
 
@@ -99,9 +106,11 @@ is_over key e old new f g p q ends = record {
   same_key = ends.same_key;
 }
 
-pub went_on : (text : ℕ → List ℕ) (key : RunKey) (r : Result (Option Outcome) RunFault) (found old mid new : List Run) (at : ℕ) (was state : State) (stage : Stage) (item : Run) (kept : Option State)
+pub went_on : (text : ℕ → List ℕ) (key : RunKey) (r : Result (Option Outcome) RunFault) (found old mid new : List Run) (at : ℕ)
+    (was state : State) (stage : Stage) (item : Run) (kept : Option State)
     (f g : Option (List FolderCall)) (p q : Option (List ProgramCall))
-    → found ≡ old → IsAt key found at → at < length found → option_map (λ (run : Run). run.state) (slice_get old at) ≡ Some was → was ≡ Live stage
+    → found ≡ old → IsAt key found at → at < length found → option_map (λ (run : Run). run.state) (slice_get old at) ≡ Some was →
+    was ≡ Live stage
     → mid ≡ kept_at old at (Some state) → item ≡ slice_index_or mid at item
     → new ≡ kept_at mid at kept → Becomes text item.place stage r kept f g p q → GoesOn text key r old new f g p q
 went_on text key r found old mid new at was state stage item kept f g p q same is_at within at_was live mid_is item_is new_is becomes =
@@ -117,7 +126,8 @@ went_on text key r found old mid new at was state stage item kept f g p q same i
       then = new_is ∙ put_again old mid is.rest at is.run state kept inside is.there mid_is ∙ put old is.rest at is.run kept is.there;
       same_key = is.same_key;
       becomes = subst (λ (x : Run). Becomes text x.place stage r kept f g p q)
-          (indexed mid is.rest at (run_of is.run.place state) item (put_drop old mid is.rest at is.run state inside is.there mid_is) item_is) becomes;
+          (indexed mid is.rest at (run_of is.run.place state) item
+          (put_drop old mid is.rest at is.run state inside is.there mid_is) item_is) becomes;
     }
 
 ended_on : (key : RunKey) (old new : List Run) (at : ℕ) (state : State) (left : Result (Option Ending) RunFault)
@@ -136,9 +146,11 @@ ended_on key old new at state left f g p q is state_is new_is by = record {
   by = by;
 }
 
-pub over_ends : (key : RunKey) (found old mid new : List Run) (at : ℕ) (was state : State) (ending : Ending) (kept : Option State) (left : Result (Option Ending) RunFault)
+pub over_ends : (key : RunKey) (found old mid new : List Run) (at : ℕ) (was state : State) (ending : Ending) (kept : Option State)
+    (left : Result (Option Ending) RunFault)
     (f g : Option (List FolderCall)) (p q : Option (List ProgramCall))
-    → found ≡ old → IsAt key found at → at < length found → option_map (λ (run : Run). run.state) (slice_get old at) ≡ Some was → was ≡ Over ending
+    → found ≡ old → IsAt key found at → at < length found → option_map (λ (run : Run). run.state) (slice_get old at) ≡ Some was →
+    was ≡ Over ending
     → mid ≡ kept_at old at (Some state) → kept ≡ option_map Over (still_left left) → new ≡ kept_at mid at kept
     → EndsBy key (Some ending) left f g p q → Ends key (Over ending) old new f g p q
 over_ends key found old mid new at was state ending kept left f g p q same is_at within there over mid_is kept_is new_is by =
@@ -148,26 +160,37 @@ over_ends key found old mid new at was state ending kept left f g p q same is_at
     (new_is ∙ put_again old mid is.rest at is.run state kept inside is.there mid_is ∙ ap (kept_at old at) kept_is) by
 
 -- one that was over was asked
-pub over_on : (text : ℕ → List ℕ) (key : RunKey) (told : Result (Option Outcome) RunFault) (found old mid new : List Run) (at : ℕ) (was state : State) (ending : Ending) (kept : Option State)
+pub over_on : (text : ℕ → List ℕ) (key : RunKey) (told : Result (Option Outcome) RunFault) (found old mid new : List Run) (at : ℕ)
+    (was state : State) (ending : Ending) (kept : Option State)
     (left : Result (Option Ending) RunFault) (f g : Option (List FolderCall)) (p q : Option (List ProgramCall))
-    → found ≡ old → IsAt key found at → at < length found → option_map (λ (run : Run). run.state) (slice_get old at) ≡ Some was → was ≡ Over ending
+    → found ≡ old → IsAt key found at → at < length found → option_map (λ (run : Run). run.state) (slice_get old at) ≡ Some was →
+    was ≡ Over ending
     → mid ≡ kept_at old at (Some state) → kept ≡ option_map Over (still_left left) → new ≡ kept_at mid at kept
     → EndsBy key (Some ending) left f g p q → told ≡ result_and left (Ok None)
     → IsAsked text key told old new f g p q
 unfolding over_ends ended_on
-over_on text key told found old mid new at was state ending kept left f g p q same is_at within there over mid_is kept_is new_is by told_is =
-    inr (inl (ending, over_ends key found old mid new at was state ending kept left f g p q same is_at within there over mid_is kept_is new_is by, told_left None left told told_is))
+over_on text key told found old mid new at was state ending kept left f g p q same is_at within there over mid_is kept_is new_is by
+    told_is =
+    inr (inl (
+      ending,
+      over_ends key found old mid new at was state ending kept left f g p q same is_at within there over mid_is kept_is
+          new_is by,
+      told_left None left told told_is,
+    ))
 
 -- a failure is counted
-pub over_counts : (key : RunKey) (runs : List Run) (left : Result (Option Ending) RunFault) (told : Result (Option Outcome) RunFault) (f g p q : ℕ)
+pub over_counts : (key : RunKey) (runs : List Run) (left : Result (Option Ending) RunFault) (told : Result (Option Outcome) RunFault)
+    (f g p q : ℕ)
     → IsOver key runs → told ≡ result_and left (Ok None)
     → IfErr left (λ fault. FaultFailed fault f g p q) → Counted told f g p q ⊎ (IsOver key runs × (told ≡ Ok None))
 over_counts key runs (Ok l) told f g p q over is failed = inr (over, is)
-over_counts key runs (Err fault) told f g p q over is failed = inl (subst (λ (r : Result (Option Outcome) RunFault). Counted r f g p q) (sym is) failed)
+over_counts key runs (Err fault) told f g p q over is failed =
+    inl (subst (λ (r : Result (Option Outcome) RunFault). Counted r f g p q) (sym is) failed)
 
 -- ---- killed
 
-pub killed_on : (key : RunKey) (told : Result ⊤ RunFault) (found old new : List Run) (at : ℕ) (item : Run) (ending : Option Ending) (kept : Option State) (left : Result (Option Ending) RunFault)
+pub killed_on : (key : RunKey) (told : Result ⊤ RunFault) (found old new : List Run) (at : ℕ) (item : Run) (ending : Option Ending)
+    (kept : Option State) (left : Result (Option Ending) RunFault)
     (f g : Option (List FolderCall)) (p q : Option (List ProgramCall))
     → found ≡ old → IsAt key found at → item ≡ slice_index_or old at item → ending ≡ ending_of item.state
     → kept ≡ option_map Over (still_left left) → new ≡ kept_at old at kept → EndsBy key ending left f g p q
@@ -175,9 +198,11 @@ pub killed_on : (key : RunKey) (told : Result ⊤ RunFault) (found old new : Lis
 unfolding ended_on
 killed_on key told found old new at item ending kept left f g p q same is_at item_is ends kept_is new_is by told_is =
     let is : IsAt key old at = subst (λ (runs : List Run). IsAt key runs at) same is_at in
-    let ending_is : ending ≡ ending_of is.run.state = ends ∙ ap (λ (x : Run). ending_of x.state) (indexed old is.rest at is.run item is.there item_is) in
+    let ending_is : ending ≡ ending_of is.run.state =
+    ends ∙ ap (λ (x : Run). ending_of x.state) (indexed old is.rest at is.run item is.there item_is) in
     inr (
       is.run.state,
-      ended_on key old new at is.run.state left f g p q is refl (new_is ∙ ap (kept_at old at) kept_is) (subst (λ (e : Option Ending). EndsBy key e left f g p q) ending_is by),
+      ended_on key old new at is.run.state left f g p q is refl (new_is ∙ ap (kept_at old at) kept_is)
+          (subst (λ (e : Option Ending). EndsBy key e left f g p q) ending_is by),
       told_left tt left told told_is,
     )

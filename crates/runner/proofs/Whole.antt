@@ -22,7 +22,8 @@ use Rattle.runner.specs.Whole.{GoesBy, ExitsBy, IsPart, IsWhole, all_calls}
 use Rattle.runner.proofs.Collect.{collect_append, goes_on}
 
 -- a call of `ask`, by itself
-pub by_itself : (text : ℕ → List ℕ) (place : PlaceValue) (from : Stage) (to : Step) (f g : Option (List FolderCall)) (p q : Option (List ProgramCall)) → (h : Goes text place from to f g p q) → GoesBy text place from to h.calls
+pub by_itself : (text : ℕ → List ℕ) (place : PlaceValue) (from : Stage) (to : Step) (f g : Option (List FolderCall))
+    (p q : Option (List ProgramCall)) → (h : Goes text place from to f g p q) → GoesBy text place from to h.calls
 by_itself text place from to f g p q h = record {
   calls = h.calls;
   own = h.own;
@@ -39,7 +40,8 @@ by_itself text place from to f g p q h = record {
   succeeds = h.succeeds;
 }
 
-pub is_part : (text : ℕ → List ℕ) (place : PlaceValue) (from : Stage) (to : Step) (f g : Option (List FolderCall)) (p q : Option (List ProgramCall)) → Goes text place from to f g p q → IsPart text place from to f g p q
+pub is_part : (text : ℕ → List ℕ) (place : PlaceValue) (from : Stage) (to : Step) (f g : Option (List FolderCall))
+    (p q : Option (List ProgramCall)) → Goes text place from to f g p q → IsPart text place from to f g p q
 is_part text place from to f g p q h = record {
   calls = h.calls;
   goes_by = by_itself text place from to f g p q h;
@@ -56,7 +58,9 @@ added xs ys more (inl lost) = let same : ys ≡ xs ++ more = cc in same
 added xs ys more (inr adds) = of_some ys (xs ++ more) adds
 
 -- the same calls behind others
-behind : (text : ℕ → List ℕ) (place : PlaceValue) (from : Stage) (to : Step) (fs : List FolderCall) (ps : List ProgramCall) (calls : List RunCall) → GoesBy text place from to calls → Goes text place from to (Some fs) (Some (fs ++ folder_calls calls)) (Some ps) (Some (ps ++ program_calls calls))
+behind : (text : ℕ → List ℕ) (place : PlaceValue) (from : Stage) (to : Step) (fs : List FolderCall) (ps : List ProgramCall)
+    (calls : List RunCall) → GoesBy text place from to calls →
+    Goes text place from to (Some fs) (Some (fs ++ folder_calls calls)) (Some ps) (Some (ps ++ program_calls calls))
 behind text place from to fs ps calls h = record {
   calls = h.calls;
   own = h.own;
@@ -75,13 +79,18 @@ behind text place from to fs ps calls h = record {
 
 -- ---- all of them
 
-pub joined : (text : ℕ → List ℕ) (place : PlaceValue) (from next : Stage) (cost : ℕ) (to : Step) (calls later : List RunCall) → GoesBy text place from (steps.Goes next cost) calls → GoesBy text place next to later → GoesBy text place from to (calls ++ later)
+pub joined : (text : ℕ → List ℕ) (place : PlaceValue) (from next : Stage) (cost : ℕ) (to : Step) (calls later : List RunCall) →
+    GoesBy text place from (steps.Goes next cost) calls → GoesBy text place next to later → GoesBy text place from to (calls ++ later)
 joined text place from next cost to calls later first next_by =
-    subst (λ (cs : List FolderCall). Goes text place from to (Some []) (Some cs) (Some []) (Some (program_calls (calls ++ later)))) (sym (collect_append folder_call calls later))
-    (subst (λ (cs : List ProgramCall). Goes text place from to (Some []) (Some (folder_calls calls ++ folder_calls later)) (Some []) (Some cs)) (sym (collect_append program_call calls later))
-    (goes_on text place from next cost to _ _ _ _ _ _ first (behind text place next to (folder_calls calls) (program_calls calls) later next_by)))
+    subst (λ (cs : List FolderCall). Goes text place from to (Some []) (Some cs) (Some []) (Some (program_calls (calls ++ later))))
+    (sym (collect_append folder_call calls later))
+    (subst (λ (cs : List ProgramCall). Goes text place from to (Some []) (Some (folder_calls calls ++ folder_calls later)) (Some [])
+    (Some cs)) (sym (collect_append program_call calls later))
+    (goes_on text place from next cost to _ _ _ _ _ _ first
+    (behind text place next to (folder_calls calls) (program_calls calls) later next_by)))
 
-exits : (text : ℕ → List ℕ) (place : PlaceValue) (from : Stage) (parts : List (List RunCall)) (e : Exited) → ExitsBy text place from parts e → GoesBy text place from (steps.Exits e) (all_calls parts)
+exits : (text : ℕ → List ℕ) (place : PlaceValue) (from : Stage) (parts : List (List RunCall)) (e : Exited) →
+    ExitsBy text place from parts e → GoesBy text place from (steps.Exits e) (all_calls parts)
 exits text place from [] e x = absurd x
 exits text place from (calls ∷ []) e x = subst (λ (cs : List RunCall). GoesBy text place from (steps.Exits e) cs) (sym (append-nil calls)) x
 exits text place from (calls ∷ more ∷ parts) e x =
@@ -89,17 +98,23 @@ exits text place from (calls ∷ more ∷ parts) e x =
 
 -- ---- from the start
 
-pub whole : (text : ℕ → List ℕ) (place : PlaceValue) (task : Task) (from : Stage) (calls : List RunCall) (e : Exited) → IsStageOf from task → GoesBy text place from (steps.Exits e) calls → IsWhole text place task e calls
+pub whole : (text : ℕ → List ℕ) (place : PlaceValue) (task : Task) (from : Stage) (calls : List RunCall) (e : Exited) →
+    IsStageOf from task → GoesBy text place from (steps.Exits e) calls → IsWhole text place task e calls
 whole text place task (stages.Making (makings.Root n)) calls e h g =
     let fs : folder_calls g.calls ≡ folder_calls calls = sym (added [] (folder_calls calls) (folder_calls g.calls) g.folder_asked) in
     let ps : program_calls g.calls ≡ program_calls calls = sym (added [] (program_calls calls) (program_calls g.calls) g.programs_asked) in
     record {
       makes = ap made (sym fs) ∙ sym (append-nil (made (folder_calls g.calls))) ∙ sym g.makes
-          ∙ ap (λ above. root_item place.run ∷ (nodes_made text place.run (map rc_str_bytes above) n.left.items ++ directory_item place ∷ map (λ o. parents_item place (string_bytes o)) n.next.outputs.items)) h.0
-          ∙ ap (λ left. root_item place.run ∷ (nodes_made text place.run [] left.items ++ directory_item place ∷ map (λ o. parents_item place (string_bytes o)) n.next.outputs.items)) h.1
-          ∙ ap (λ outputs. root_item place.run ∷ (nodes_made text place.run [] task.nodes.items ++ directory_item place ∷ map (λ o. parents_item place (string_bytes o)) outputs.items)) h.3;
-      starts_once = ap starts (sym ps) ∙ sym (append-nil (starts (program_calls g.calls))) ∙ sym g.starts_it ∙ ap (λ command. start_asked place (command_shown command) ∷ []) h.2;
-      looks_at = ap looks (sym fs) ∙ sym (append-nil (looks (folder_calls g.calls))) ∙ sym g.looks_at ∙ ap (λ outputs. map (look_asked place) (map string_bytes outputs.items)) h.3;
+          ∙ ap (λ above. root_item place.run ∷ (nodes_made text place.run (map rc_str_bytes above) n.left.items
+          ++ directory_item place ∷ map (λ o. parents_item place (string_bytes o)) n.next.outputs.items)) h.0
+          ∙ ap (λ left. root_item place.run ∷ (nodes_made text place.run [] left.items
+          ++ directory_item place ∷ map (λ o. parents_item place (string_bytes o)) n.next.outputs.items)) h.1
+          ∙ ap (λ outputs. root_item place.run ∷ (nodes_made text place.run [] task.nodes.items
+          ++ directory_item place ∷ map (λ o. parents_item place (string_bytes o)) outputs.items)) h.3;
+      starts_once = ap starts (sym ps) ∙ sym (append-nil (starts (program_calls g.calls))) ∙ sym g.starts_it
+          ∙ ap (λ command. start_asked place (command_shown command) ∷ []) h.2;
+      looks_at = ap looks (sym fs) ∙ sym (append-nil (looks (folder_calls g.calls))) ∙ sym g.looks_at
+          ∙ ap (λ outputs. map (look_asked place) (map string_bytes outputs.items)) h.3;
       meets = subst (λ (cs : List FolderCall). Meets no_walk cs no_walk) fs g.meets;
       gathers = ap items_answered (sym fs) ∙ sym g.gathers;
       is_told = ap items_told (sym ps) ∙ sym g.is_told;
@@ -108,5 +123,7 @@ whole text place task (stages.Making (makings.Root n)) calls e h g =
     }
 whole text place task from calls e h g = absurd h
 
-pub run_whole : (text : ℕ → List ℕ) (place : Place) (task : Task) (from : Stage) (parts : List (List RunCall)) (e : Exited) → IsStageOf from task → ExitsBy text (place_shown place) from parts e → IsWhole text (place_shown place) task e (all_calls parts)
-run_whole text place task from parts e h x = whole text (place_shown place) task from (all_calls parts) e h (exits text (place_shown place) from parts e x)
+pub run_whole : (text : ℕ → List ℕ) (place : Place) (task : Task) (from : Stage) (parts : List (List RunCall)) (e : Exited) →
+    IsStageOf from task → ExitsBy text (place_shown place) from parts e → IsWhole text (place_shown place) task e (all_calls parts)
+run_whole text place task from parts e h x = whole text (place_shown place) task from (all_calls parts) e h
+    (exits text (place_shown place) from parts e x)

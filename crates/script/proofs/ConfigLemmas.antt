@@ -93,7 +93,8 @@ added limits all before words made h =
 -- ---- the first instance of a name
 
 -- the first of these that has the name, as their type shows them
-pub first_is_root-found : (forms : List InstanceForm) (name : List ℕ) (found : Option InstanceForm) → found ≡ find (λ form. bytes_eq form.name.now name) forms
+pub first_is_root-found : (forms : List InstanceForm) (name : List ℕ) (found : Option InstanceForm) →
+    found ≡ find (λ form. bytes_eq form.name.now name) forms
     → option_map_or (λ form. is_none form.parent) found false ≡ first_is_root (map form_value forms) name
 first_is_root-found forms name found e = ap (λ f. option_map_or (λ form. is_none form.parent) f false) e ∙ shown forms
   where
@@ -103,28 +104,35 @@ first_is_root-found forms name found e = ap (λ f. option_map_or (λ form. is_no
 
     by : (same : Bool) (form : InstanceForm) (first : Option InstanceForm) (shown_first : Option ConfigValue)
         → option_map_or (λ f. is_none f.parent) first false ≡ option_map_or (λ c. is_none c.parent) shown_first false
-        → option_map_or (λ f. is_none f.parent) (cond same (Some form) first) false ≡ option_map_or (λ c. is_none c.parent) (cond same (Some (form_value form)) shown_first) false
+        → option_map_or (λ f. is_none f.parent) (cond same (Some form) first) false
+        ≡ option_map_or (λ c. is_none c.parent) (cond same (Some (form_value form)) shown_first) false
     by true form first shown_first e = unmapped (λ parent. parent.now) form.parent
     by false form first shown_first e = e
 
-    shown : (forms : List InstanceForm) → option_map_or (λ form. is_none form.parent) (find (λ form. bytes_eq form.name.now name) forms) false ≡ first_is_root (map form_value forms) name
+    shown : (forms : List InstanceForm) → option_map_or (λ form. is_none form.parent)
+        (find (λ form. bytes_eq form.name.now name) forms) false ≡ first_is_root (map form_value forms) name
     shown [] = refl
     shown (form ∷ forms) =
-        by (bytes_eq form.name.now name) form (find (λ f. bytes_eq f.name.now name) forms) (find (λ c. bytes_eq c.name name) (map form_value forms)) (shown forms)
+        by (bytes_eq form.name.now name) form (find (λ f. bytes_eq f.name.now name) forms)
+        (find (λ c. bytes_eq c.name name) (map form_value forms)) (shown forms)
 
 -- ---- whole scripts
 
 -- what an instance or an event adds
-answer_of : (limits : LimitsValue) → (configures early : Bool) → List ConfigValue → ReplayScriptValue → List ℕ → List (List ℕ) → Option ReplayScriptValue
+answer_of : (limits : LimitsValue) → (configures early : Bool) → List ConfigValue → ReplayScriptValue → List ℕ → List (List ℕ) →
+    Option ReplayScriptValue
 answer_of limits configures early all script kind arguments =
-    cond configures (cond early (option_map (with_config script) (option_and_then (config_if_good all script.configs) (config_of limits arguments))) None)
+    cond configures (cond early (option_map (with_config script)
+    (option_and_then (config_if_good all script.configs) (config_of limits arguments))) None)
     (option_map (with_event script) (event_of kind arguments))
 
 -- what is so of the instances of a script, and stays so where one is added
 record StaysWith (all : List ConfigValue) (P : List ConfigValue → Type 0) : Type 0 where
-  more : (configs : List ConfigValue) (last : ConfigValue) → P configs → may_follow configs last ≡ true → may_build all last ≡ true → P (configs ++ last ∷ [])
+  more : (configs : List ConfigValue) (last : ConfigValue) → P configs → may_follow configs last ≡ true → may_build all last ≡ true →
+      P (configs ++ last ∷ [])
 
-kept_answer : (limits : LimitsValue) → (all : List ConfigValue) (P : List ConfigValue → Type 0) → StaysWith all P → (configures early : Bool) (script next : ReplayScriptValue) (kind : List ℕ) (arguments : List (List ℕ))
+kept_answer : (limits : LimitsValue) → (all : List ConfigValue) (P : List ConfigValue → Type 0) → StaysWith all P →
+    (configures early : Bool) (script next : ReplayScriptValue) (kind : List ℕ) (arguments : List (List ℕ))
     → P script.configs → answer_of limits configures early all script kind arguments ≡ Some next → P next.configs
 unfolding answer_of
 kept_answer limits all P stays true true script next kind arguments h e =
@@ -136,19 +144,22 @@ kept_answer limits all P stays false early script next kind arguments h e =
     let made = mapped (with_event script) (event_of kind arguments) next e in
     subst (λ (s : ReplayScriptValue). P s.configs) made.2 h
 
-kept_words : (limits : LimitsValue) → (all : List ConfigValue) (P : List ConfigValue → Type 0) → StaysWith all P → (script next : ReplayScriptValue) (words : List (List ℕ))
+kept_words : (limits : LimitsValue) → (all : List ConfigValue) (P : List ConfigValue → Type 0) → StaysWith all P →
+    (script next : ReplayScriptValue) (words : List (List ℕ))
     → P script.configs → after_replay_words limits all script words ≡ Some next → P next.configs
 unfolding answer_of
 kept_words limits all P stays script next [] h e = cc
 kept_words limits all P stays script next (kind ∷ arguments) h e =
     kept_answer limits all P stays (bytes_eq kind (codes "instance")) (length script.events == 0) script next kind arguments h e
 
-kept_line : (limits : LimitsValue) → (all : List ConfigValue) (P : List ConfigValue → Type 0) → StaysWith all P → (script next : ReplayScriptValue) (line : List ℕ)
+kept_line : (limits : LimitsValue) → (all : List ConfigValue) (P : List ConfigValue → Type 0) → StaysWith all P →
+    (script next : ReplayScriptValue) (line : List ℕ)
     → P script.configs → after_replay_line limits all script line ≡ Some next → P next.configs
 kept_line limits all P stays script next [] h e = let same : script ≡ next = cc in subst (λ (s : ReplayScriptValue). P s.configs) same h
 kept_line limits all P stays script next (byte ∷ line) h e = kept_words limits all P stays script next (words_of (byte ∷ line)) h e
 
-kept_lines : (limits : LimitsValue) → (all : List ConfigValue) (P : List ConfigValue → Type 0) → StaysWith all P → (from to : ReplayScriptValue) (lines : List (List ℕ))
+kept_lines : (limits : LimitsValue) → (all : List ConfigValue) (P : List ConfigValue → Type 0) → StaysWith all P →
+    (from to : ReplayScriptValue) (lines : List (List ℕ))
     → P from.configs → Leads (after_replay_line limits all) from lines to → P to.configs
 kept_lines limits all P stays from to [] h leads = subst (λ (s : ReplayScriptValue). P s.configs) leads h
 kept_lines limits all P stays from to (line ∷ lines) h leads =
@@ -157,7 +168,8 @@ kept_lines limits all P stays from to (line ∷ lines) h leads =
 -- ---- parents
 
 -- a line adds the instance that it configures
-configs_answer : (limits : LimitsValue) → (configures early : Bool) (all : List ConfigValue) (script next : ReplayScriptValue) (kind : List ℕ) (arguments : List (List ℕ))
+configs_answer : (limits : LimitsValue) → (configures early : Bool) (all : List ConfigValue) (script next : ReplayScriptValue)
+    (kind : List ℕ) (arguments : List (List ℕ))
     → answer_of limits configures early all script kind arguments ≡ Some next
     → next.configs ≡ script.configs ++ option_to_list (cond configures (config_of limits arguments) None)
 unfolding answer_of
@@ -171,14 +183,16 @@ configs_answer limits false early all script next kind arguments e =
     let made = mapped (with_event script) (event_of kind arguments) next e in
     ap (λ (s : ReplayScriptValue). s.configs) (sym made.2) ∙ sym (append-nil script.configs)
 
-configs_words : (limits : LimitsValue) → (all : List ConfigValue) (script next : ReplayScriptValue) (words : List (List ℕ)) → after_replay_words limits all script words ≡ Some next
+configs_words : (limits : LimitsValue) → (all : List ConfigValue) (script next : ReplayScriptValue) (words : List (List ℕ)) →
+    after_replay_words limits all script words ≡ Some next
     → next.configs ≡ script.configs ++ option_to_list (config_of_words limits words)
 unfolding answer_of
 configs_words limits all script next [] e = cc
 configs_words limits all script next (kind ∷ arguments) e =
     configs_answer limits (bytes_eq kind (codes "instance")) (length script.events == 0) all script next kind arguments e
 
-configs_line : (limits : LimitsValue) → (all : List ConfigValue) (script next : ReplayScriptValue) (line : List ℕ) → after_replay_line limits all script line ≡ Some next
+configs_line : (limits : LimitsValue) → (all : List ConfigValue) (script next : ReplayScriptValue) (line : List ℕ) →
+    after_replay_line limits all script line ≡ Some next
     → next.configs ≡ script.configs ++ option_to_list (config_of_words limits (words_of line))
 configs_line limits all script next [] e =
     let same : script ≡ next = cc in
@@ -186,7 +200,8 @@ configs_line limits all script next [] e =
 configs_line limits all script next (byte ∷ line) e = configs_words limits all script next (words_of (byte ∷ line)) e
 
 -- good lines leave the instances of all lines
-configs_lines : (limits : LimitsValue) → (all : List ConfigValue) (from to : ReplayScriptValue) (lines : List (List ℕ)) → Leads (after_replay_line limits all) from lines to
+configs_lines : (limits : LimitsValue) → (all : List ConfigValue) (from to : ReplayScriptValue) (lines : List (List ℕ)) →
+    Leads (after_replay_line limits all) from lines to
     → to.configs ≡ from.configs ++ configs_of_lines limits lines
 configs_lines limits all from to [] leads = ap (λ (s : ReplayScriptValue). s.configs) (sym leads) ∙ sym (append-nil from.configs)
 configs_lines limits all from to (line ∷ lines) leads =
@@ -200,15 +215,18 @@ names_first [] name h = h
 names_first (config ∷ configs) name h =
     go (bytes_eq config.name name) (find (λ c. bytes_eq c.name name) configs) (names_a_root configs name) (names_first configs name) h
   where
-    go : (same : Bool) (found : Option ConfigValue) (later : Bool) → (option_map_or (λ c. is_none c.parent) found false ≡ true → later ≡ true)
-        → option_map_or (λ c. is_none c.parent) (cond same (Some config) found) false ≡ true → ((same && is_none config.parent) || later) ≡ true
+    go : (same : Bool) (found : Option ConfigValue) (later : Bool) →
+        (option_map_or (λ c. is_none c.parent) found false ≡ true → later ≡ true)
+        → option_map_or (λ c. is_none c.parent) (cond same (Some config) found) false ≡ true →
+        ((same && is_none config.parent) || later) ≡ true
     go true found later tail h = ap (λ b. b || later) h
     go false found later tail h = tail h
 
 not_bad : (configs : List ConfigValue) (config : ConfigValue) → may_build configs config ≡ true → has_bad_parent configs config ≡ false
 not_bad configs config h = go config.parent h
   where
-    go : (parent : Option (List ℕ)) → option_map_or (λ name. not (bytes_eq name config.name) && first_is_root configs name) parent true ≡ true
+    go : (parent : Option (List ℕ)) → option_map_or (λ name. not (bytes_eq name config.name) && first_is_root configs name) parent true
+        ≡ true
         → option_map_or (λ name. not (names_a_root configs name)) parent false ≡ false
     go None h = refl
     go (Some name) h = ap not (names_first configs name (and_parts (not (bytes_eq name config.name)) (first_is_root configs name) h).1)
@@ -220,15 +238,24 @@ unfolding own_faults
 config_fault-Leads limits from to lines empty leads =
     let all = configs_of_lines limits lines in
     let own : own_faults to.configs ≡ None =
-    kept_lines limits all (λ configs. own_faults configs ≡ None) (record { more = λ configs last h follows builds. own_faults-push configs last h follows }) from to lines (rw empty refl) leads in
+    kept_lines limits all (λ configs. own_faults configs ≡ None)
+    (record { more = λ configs last h follows builds. own_faults-push configs last h follows }) from to lines (rw empty refl) leads in
     let few = is_within (nat_lt instance_limit (length to.configs)) (first_own_fault [] to.configs) TooMany own in
     let build : All (λ config. may_build all config ≡ true) to.configs =
-    kept_lines limits all (All (λ config. may_build all config ≡ true)) (record { more = λ configs last h follows builds. All-push (λ config. may_build all config ≡ true) configs last h builds }) from to lines (rw empty (All-nil (λ config. may_build all config ≡ true))) leads in
-    let are : all ≡ to.configs = sym (configs_lines limits all from to lines leads ∙ ap (λ (configs : List ConfigValue). configs ++ all) empty) in
+    kept_lines limits all (All (λ config. may_build all config ≡ true))
+    (record { more = λ configs last h follows builds. All-push (λ config. may_build all config ≡ true) configs last h builds }) from to
+    lines (rw empty (All-nil (λ config. may_build all config ≡ true))) leads in
+    let are : all ≡ to.configs = sym (configs_lines limits all from to lines leads
+    ∙ ap (λ (configs : List ConfigValue). configs ++ all) empty) in
     let parents : first_parent_fault to.configs ≡ None =
-    ap (option_map BadParent) (passes_none (has_bad_parent to.configs) to.configs (λ k d lt. let config = get_or to.configs k d in not_bad to.configs config (subst (λ (configs : List ConfigValue). may_build configs config ≡ true) are (build k d lt)))) in
+    ap (option_map BadParent) (passes_none (has_bad_parent to.configs) to.configs
+    (λ k d lt. let config = get_or to.configs k d in
+    not_bad to.configs config (subst (λ (configs : List ConfigValue). may_build configs config ≡ true) are (build k d lt)))) in
     rw (few.0, few.1) parents
 
-pub config_fault-replay_script_of : (limits : LimitsValue) → (text : List ℕ) (script : ReplayScriptValue) → replay_script_of limits text ≡ Ok script → config_fault script.configs ≡ None
+pub config_fault-replay_script_of : (limits : LimitsValue) → (text : List ℕ) (script : ReplayScriptValue) →
+    replay_script_of limits text ≡ Ok script → config_fault script.configs ≡ None
 config_fault-replay_script_of limits text script read =
-    config_fault-Leads limits empty_replay_script script (lines_of text) refl (Leads-from_Ok (after_replay_line limits (configs_of_lines limits (lines_of text))) 1 empty_replay_script script (lines_of text) read)
+    config_fault-Leads limits empty_replay_script script (lines_of text) refl
+    (Leads-from_Ok (after_replay_line limits (configs_of_lines limits (lines_of text))) 1 empty_replay_script script
+    (lines_of text) read)

@@ -42,7 +42,8 @@ pub instance_index-entries : {Z : Type 0} (es : List (String Z × ℕ)) (name : 
     → position (λ key. bytes_eq name (string_bytes key)) (keys_of es) ≡ instance_index (map entry_value es) name
 instance_index-entries es name =
     position-map (λ key. bytes_eq name (string_bytes key)) (λ e. e.0) es
-    ∙ position-alike (λ e. bytes_eq name (string_bytes e.0)) (λ e. bytes_eq (string_bytes e.0) name) es (λ e. bytes_eq-swap name (string_bytes e.0))
+    ∙ position-alike (λ e. bytes_eq name (string_bytes e.0)) (λ e. bytes_eq (string_bytes e.0) name) es
+    (λ e. bytes_eq-swap name (string_bytes e.0))
     ∙ sym (position-map (λ instance. bytes_eq instance.name name) entry_value es)
 
 position_or_len-none : {X : Type 0} (p : X → Bool) (xs : List X) → ((x : X) → p x ≡ false) → position_or_len p xs ≡ length xs
@@ -65,7 +66,8 @@ is_not key name text h = go (bytes_eq key name) refl
     go true e = absurd (h (subst IsUtf8 ((bytes_eq-Decides key name).0 e) text))
 
 -- what is no text is no instance's name
-pub instance_index-no_text : {Z : Type 0} (es : List (String Z × ℕ)) (name : List ℕ) → (IsUtf8 name → ⊥) → instance_index (map entry_value es) name ≡ None
+pub instance_index-no_text : {Z : Type 0} (es : List (String Z × ℕ)) (name : List ℕ) → (IsUtf8 name → ⊥) →
+    instance_index (map entry_value es) name ≡ None
 instance_index-no_text es name h =
     position-map (λ instance. bytes_eq instance.name name) entry_value es
     ∙ position-none (λ e. bytes_eq (string_bytes e.0) name) es (λ e. is_not (string_bytes e.0) name (IsUtf8-string_bytes e.0) h)
@@ -88,6 +90,7 @@ insert_entry-new (e ∷ es) key quota h =
     rw (other, insert_entry-new es key quota (λ j d lt. h (suc j) d (omega (arith, lt)))) refl
 
 -- an instance of a new name goes last
-pub insert_entry-last : {Z : Type 0} (es : List (String Z × ℕ)) (key : String Z) (quota : ℕ) → instance_index (map entry_value es) (string_bytes key) ≡ None
+pub insert_entry-last : {Z : Type 0} (es : List (String Z × ℕ)) (key : String Z) (quota : ℕ) →
+    instance_index (map entry_value es) (string_bytes key) ≡ None
     → insert_entry string_eq es key quota ≡ es ++ (key, quota) ∷ []
 insert_entry-last es key quota h = insert_entry-new es key quota (new_name (map entry_value es) (string_bytes key) (ap is_none h))

@@ -23,47 +23,72 @@ only_number [] number h = cc
 only_number (word ∷ []) number h = (word, refl, IsNumber-decimal_below (2 ^ 32) word number h)
 only_number (word ∷ other ∷ more) number h = cc
 
-open_form : (kind : List ℕ) (arguments : List (List ℕ)) (what : WhatValue) → kind ≡ codes "open" → option_map opened (only_number_of arguments) ≡ Some what → Tells kind arguments what
+open_form : (kind : List ℕ) (arguments : List (List ℕ)) (what : WhatValue) → kind ≡ codes "open" →
+    option_map opened (only_number_of arguments) ≡ Some what → Tells kind arguments what
 open_form kind arguments what k h =
     let read = mapped opened (only_number_of arguments) what h in
     rw (← read.2) (k, only_number arguments read.0 read.1)
 
-closed_form : (kind : List ℕ) (arguments : List (List ℕ)) (what : WhatValue) → kind ≡ codes "closed" → option_map closed (only_number_of arguments) ≡ Some what → Tells kind arguments what
+closed_form : (kind : List ℕ) (arguments : List (List ℕ)) (what : WhatValue) → kind ≡ codes "closed" →
+    option_map closed (only_number_of arguments) ≡ Some what → Tells kind arguments what
 closed_form kind arguments what k h =
     let read = mapped closed (only_number_of arguments) what h in
     rw (← read.2) (k, only_number arguments read.0 read.1)
 
-bytes_form : (kind : List ℕ) (arguments : List (List ℕ)) (what : WhatValue) → kind ≡ codes "bytes" → received_of arguments ≡ Some what → Tells kind arguments what
+bytes_form : (kind : List ℕ) (arguments : List (List ℕ)) (what : WhatValue) → kind ≡ codes "bytes" → received_of arguments ≡ Some what →
+    Tells kind arguments what
 bytes_form kind [] what k h = cc
 bytes_form kind (a ∷ []) what k h = cc
 bytes_form kind (word ∷ digits ∷ []) what k h =
     let number = chained (λ n. option_map (received n) (bytes_of_hex digits)) (number_of word) what h in
     let read = mapped (received number.0) (bytes_of_hex digits) what number.2 in
-    rw (← read.2)
-    (k, (word, ap (λ d. word ∷ d ∷ []) (hex_word-bytes_of_hex digits read.0 read.1), IsNumber-decimal_below (2 ^ 32) word number.0 number.1, IsBytes-bytes_of_hex digits read.0 read.1))
+    rw (← read.2) (
+      k,
+      (
+        word,
+        ap (λ d. word ∷ d ∷ []) (hex_word-bytes_of_hex digits read.0 read.1),
+        IsNumber-decimal_below
+            (2 ^ 32) word number.0 number.1,
+        IsBytes-bytes_of_hex digits read.0 read.1,
+      ),
+    )
 bytes_form kind (a ∷ b ∷ c ∷ more) what k h = cc
 
-took_form : (kind : List ℕ) (arguments : List (List ℕ)) (what : WhatValue) → kind ≡ codes "took" → took_of arguments ≡ Some what → Tells kind arguments what
+took_form : (kind : List ℕ) (arguments : List (List ℕ)) (what : WhatValue) → kind ≡ codes "took" → took_of arguments ≡ Some what →
+    Tells kind arguments what
 took_form kind [] what k h = cc
 took_form kind (a ∷ []) what k h = cc
 took_form kind (word ∷ digits ∷ []) what k h =
     let number = chained (λ n. option_map (took n) (number_of digits)) (number_of word) what h in
     let read = mapped (took number.0) (number_of digits) what number.2 in
-    rw (← read.2) (k, (word, digits, refl, IsNumber-decimal_below (2 ^ 32) word number.0 number.1, IsNumber-decimal_below (2 ^ 32) digits read.0 read.1))
+    rw (← read.2) (
+      k,
+      (
+        word,
+        digits,
+        refl,
+        IsNumber-decimal_below (2 ^ 32) word number.0 number.1,
+        IsNumber-decimal_below
+            (2 ^ 32) digits read.0 read.1,
+      ),
+    )
 took_form kind (a ∷ b ∷ c ∷ more) what k h = cc
 
-tick_form : (kind : List ℕ) (arguments : List (List ℕ)) (what : WhatValue) → kind ≡ codes "tick" → tick_of arguments ≡ Some what → Tells kind arguments what
+tick_form : (kind : List ℕ) (arguments : List (List ℕ)) (what : WhatValue) → kind ≡ codes "tick" → tick_of arguments ≡ Some what →
+    Tells kind arguments what
 tick_form kind [] what k h = let same : tick ≡ what = cc in rw (← same) (k, refl)
 tick_form kind (a ∷ more) what k h = cc
 
-fail_form : (kind : List ℕ) (arguments : List (List ℕ)) (what : WhatValue) → kind ≡ codes "fail" → fail_of arguments ≡ Some what → Tells kind arguments what
+fail_form : (kind : List ℕ) (arguments : List (List ℕ)) (what : WhatValue) → kind ≡ codes "fail" → fail_of arguments ≡ Some what →
+    Tells kind arguments what
 fail_form kind [] what k h = cc
 fail_form kind (word ∷ []) what k h =
     let read = mapped (λ n. ended n failed) (decimal_of word) what h in
     rw (← read.2) (k, (word, refl, read.1))
 fail_form kind (a ∷ b ∷ more) what k h = cc
 
-exit_form : (kind : List ℕ) (arguments : List (List ℕ)) (what : WhatValue) → kind ≡ codes "exit" → exit_of arguments ≡ Some what → Tells kind arguments what
+exit_form : (kind : List ℕ) (arguments : List (List ℕ)) (what : WhatValue) → kind ≡ codes "exit" → exit_of arguments ≡ Some what →
+    Tells kind arguments what
 exit_form kind [] what k h = cc
 exit_form kind (a ∷ []) what k h = cc
 exit_form kind (a ∷ b ∷ []) what k h = cc
@@ -92,9 +117,11 @@ exit_form kind (job ∷ code ∷ stdout ∷ stderr ∷ files) what k h =
       },
     )
 
-pub Tells-from_Some : (kind : List ℕ) (arguments : List (List ℕ)) (what : WhatValue) → what_of kind arguments ≡ Some what → Tells kind arguments what
+pub Tells-from_Some : (kind : List ℕ) (arguments : List (List ℕ)) (what : WhatValue) → what_of kind arguments ≡ Some what →
+    Tells kind arguments what
 Tells-from_Some kind arguments what h =
-    go (bytes_eq kind (codes "open")) refl (bytes_eq kind (codes "closed")) refl (bytes_eq kind (codes "bytes")) refl (bytes_eq kind (codes "took")) refl
+    go (bytes_eq kind (codes "open")) refl (bytes_eq kind (codes "closed")) refl (bytes_eq kind (codes "bytes")) refl
+    (bytes_eq kind (codes "took")) refl
     (bytes_eq kind (codes "tick")) refl (bytes_eq kind (codes "exit")) refl (bytes_eq kind (codes "fail")) refl h
   where
     is : (word : List ℕ) → bytes_eq kind word ≡ true → kind ≡ word
@@ -104,8 +131,10 @@ Tells-from_Some kind arguments what h =
         → (c : Bool) → bytes_eq kind (codes "bytes") ≡ c → (d : Bool) → bytes_eq kind (codes "took") ≡ d
         → (e : Bool) → bytes_eq kind (codes "tick") ≡ e → (f : Bool) → bytes_eq kind (codes "exit") ≡ f
         → (g : Bool) → bytes_eq kind (codes "fail") ≡ g
-        → cond a (option_map opened (only_number_of arguments)) (cond b (option_map closed (only_number_of arguments)) (cond c (received_of arguments)
-        (cond d (took_of arguments) (cond e (tick_of arguments) (cond f (exit_of arguments) (cond g (fail_of arguments) None)))))) ≡ Some what
+        → cond a (option_map opened (only_number_of arguments))
+        (cond b (option_map closed (only_number_of arguments)) (cond c (received_of arguments)
+        (cond d (took_of arguments) (cond e (tick_of arguments) (cond f (exit_of arguments) (cond g (fail_of arguments) None))))))
+        ≡ Some what
         → Tells kind arguments what
     go true i b j c k d l e m f n g o h = open_form kind arguments what (is (codes "open") i) h
     go false i true j c k d l e m f n g o h = closed_form kind arguments what (is (codes "closed") j) h
@@ -118,14 +147,17 @@ Tells-from_Some kind arguments what h =
 
 -- ---- from a form to what is read
 
-pub Some-from_Tells : (kind : List ℕ) (arguments : List (List ℕ)) (what : WhatValue) → Tells kind arguments what → what_of kind arguments ≡ Some what
+pub Some-from_Tells : (kind : List ℕ) (arguments : List (List ℕ)) (what : WhatValue) → Tells kind arguments what →
+    what_of kind arguments ≡ Some what
 Some-from_Tells kind arguments (opened connection) h =
     rw (h.0, h.1.1) (ap (option_map opened) (decimal_below-IsNumber (2 ^ 32) h.1.0 connection h.1.2))
 Some-from_Tells kind arguments (received connection bytes) h =
-    rw (h.0, h.1.1) (ap (option_and_then (λ n. option_map (received n) (bytes_of_hex (hex_word bytes)))) (decimal_below-IsNumber (2 ^ 32) h.1.0 connection h.1.2)
+    rw (h.0, h.1.1) (ap (option_and_then (λ n. option_map (received n) (bytes_of_hex (hex_word bytes))))
+    (decimal_below-IsNumber (2 ^ 32) h.1.0 connection h.1.2)
     ∙ ap (option_map (received connection)) (bytes_of_hex-hex_word bytes h.1.3))
 Some-from_Tells kind arguments (took connection count) h =
-    rw (h.0, h.1.2) (ap (option_and_then (λ n. option_map (took n) (number_of h.1.1))) (decimal_below-IsNumber (2 ^ 32) h.1.0 connection h.1.3)
+    rw (h.0, h.1.2) (ap (option_and_then (λ n. option_map (took n) (number_of h.1.1)))
+    (decimal_below-IsNumber (2 ^ 32) h.1.0 connection h.1.3)
     ∙ ap (option_map (took connection)) (decimal_below-IsNumber (2 ^ 32) h.1.1 count h.1.4))
 Some-from_Tells kind arguments (closed connection) h =
     rw (h.0, h.1.1) (ap (option_map closed) (decimal_below-IsNumber (2 ^ 32) h.1.0 connection h.1.2))

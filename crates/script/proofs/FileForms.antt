@@ -18,9 +18,11 @@ use Rattle.script.proofs.Somes.{mapped, chained, chosen, if_some}
 -- ---- the last `=`
 
 -- what stands before and after it gives the text back
-at_last-split : (separator : ℕ) (text : List ℕ) (split : List ℕ × List ℕ) → at_last separator text ≡ Some split → text ≡ split.0 ++ separator ∷ split.1
+at_last-split : (separator : ℕ) (text : List ℕ) (split : List ℕ × List ℕ) → at_last separator text ≡ Some split →
+    text ≡ split.0 ++ separator ∷ split.1
 at_last-split separator [] split h = cc
-at_last-split separator (byte ∷ text) split h = go (λ inner e. at_last-split separator text inner e) (at_last separator text) refl (byte == separator) refl h
+at_last-split separator (byte ∷ text) split h =
+    go (λ inner e. at_last-split separator text inner e) (at_last separator text) refl (byte == separator) refl h
   where
     go : ((inner : List ℕ × List ℕ) → at_last separator text ≡ Some inner → text ≡ inner.0 ++ separator ∷ inner.1)
         → (r : Option (List ℕ × List ℕ)) → at_last separator text ≡ r → (here : Bool) → (byte == separator) ≡ here

@@ -4,9 +4,11 @@ use Rattle.std.specs.Option.{option_map_or}
 use Rattle.script.specs.FirstBadLine.{IsFirstBadLine, Leads, after_lines}
 
 -- what reading a line first tells
-after_lines-step : {S : Type 0} (after_line : S → List ℕ → Option S) (number : ℕ) (from : S) (line : List ℕ) (lines : List (List ℕ)) (r : Option S)
+after_lines-step : {S : Type 0} (after_line : S → List ℕ → Option S) (number : ℕ) (from : S) (line : List ℕ) (lines : List (List ℕ))
+    (r : Option S)
     → after_line from line ≡ r
-    → after_lines after_line number from (line ∷ lines) ≡ option_map_or (λ next. after_lines after_line (number + 1) next lines) r (Err number)
+    → after_lines after_line number from (line ∷ lines)
+    ≡ option_map_or (λ next. after_lines after_line (number + 1) next lines) r (Err number)
 after_lines-step after_line number from line lines r e = rw e refl
 
 pub Leads-from_Ok : {S : Type 0} (after_line : S → List ℕ → Option S) (number : ℕ) (from to : S) (lines : List (List ℕ))
@@ -27,7 +29,8 @@ Ok-from_Leads after_line number from to (line ∷ lines) h =
     after_lines-step after_line number from line lines (Some h.0) h.1 ∙ Ok-from_Leads after_line (number + 1) h.0 to lines h.2
 
 -- the first bad line after others, where the first of the lines has this number
-pub record IsFirstBadAfter {S : Type 0} (after_line : S → List ℕ → Option S) (first : ℕ) (from : S) (lines : List (List ℕ)) (number : ℕ) : Type 0 where
+pub record IsFirstBadAfter {S : Type 0} (after_line : S → List ℕ → Option S) (first : ℕ) (from : S) (lines : List (List ℕ))
+    (number : ℕ) : Type 0 where
   pub front : List (List ℕ)
   pub line : List ℕ
   pub back : List (List ℕ)
@@ -43,7 +46,8 @@ IsFirstBadAfter-from_Err after_line first from [] number h = cc
 IsFirstBadAfter-from_Err {S = S} after_line first from (line ∷ lines) number h =
     go (λ next. IsFirstBadAfter-from_Err after_line (first + 1) next lines number) (after_line from line) refl
   where
-    go : ((next : S) → after_lines after_line (first + 1) next lines ≡ Err number → IsFirstBadAfter after_line (first + 1) next lines number)
+    go : ((next : S) → after_lines after_line (first + 1) next lines ≡ Err number →
+        IsFirstBadAfter after_line (first + 1) next lines number)
         → (r : Option S) → after_line from line ≡ r → IsFirstBadAfter after_line first from (line ∷ lines) number
     go more (Some next) e =
         let later = more next (sym (after_lines-step after_line first from line lines (Some next) e) ∙ h) in
@@ -71,7 +75,8 @@ IsFirstBadAfter-from_Err {S = S} after_line first from (line ∷ lines) number h
           bad = e;
         }
 
-after_front : {S : Type 0} (after_line : S → List ℕ → Option S) (first : ℕ) (from made : S) (front : List (List ℕ)) (line : List ℕ) (back : List (List ℕ)) (number : ℕ)
+after_front : {S : Type 0} (after_line : S → List ℕ → Option S) (first : ℕ) (from made : S) (front : List (List ℕ)) (line : List ℕ)
+    (back : List (List ℕ)) (number : ℕ)
     → Leads after_line from front made → after_line made line ≡ None → number ≡ length front + first
     → after_lines after_line first from (front ++ line ∷ back) ≡ Err number
 after_front after_line first from made [] line back number good bad place =

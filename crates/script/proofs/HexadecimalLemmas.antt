@@ -60,7 +60,8 @@ some_same : (a b : ℕ) → Some a ≡ Some b → a ≡ b
 some_same a b e = cc
 
 -- a digit in lower case is the digit of its value
-digit_of-value : (byte value : ℕ) → is_lower_hex_digit byte ≡ true → hex_digit_value byte ≡ Some value → (value < 16) × (digit_of value ≡ byte)
+digit_of-value : (byte value : ℕ) → is_lower_hex_digit byte ≡ true → hex_digit_value byte ≡ Some value →
+    (value < 16) × (digit_of value ≡ byte)
 digit_of-value byte value h e =
     elim (lower_ranges byte h) [
       | inl digit ↦
@@ -98,11 +99,13 @@ not_dash [] h = refl
 not_dash (byte ∷ word) h =
     let parts = and_parts (is_lower_hex_digit byte) (list_all is_lower_hex_digit word) h in
     let range = lower_ranges byte parts.0 in
-    let other : (byte == 45) ≡ false = elim range [ inl digit ↦ (let low = digit.0 in grind (arith, nat_tests)) | inr letter ↦ (let low = letter.0 in grind (arith, nat_tests)) ] in
+    let other : (byte == 45) ≡ false = elim range
+    [ inl digit ↦ (let low = digit.0 in grind (arith, nat_tests)) | inr letter ↦ (let low = letter.0 in grind (arith, nat_tests)) ] in
     rw other refl
 
 -- a word of digits is read as what it decodes to
-bytes_of_hex-digits : (byte : ℕ) (word bytes : List ℕ) → list_all is_lower_hex_digit (byte ∷ word) ≡ true → decode_of (byte ∷ word) ≡ Ok bytes
+bytes_of_hex-digits : (byte : ℕ) (word bytes : List ℕ) → list_all is_lower_hex_digit (byte ∷ word) ≡ true →
+    decode_of (byte ∷ word) ≡ Ok bytes
     → bytes_of_hex (byte ∷ word) ≡ Some bytes
 bytes_of_hex-digits byte word bytes lower read =
     ap (λ b. cond b (Some []) (digits_bytes (byte ∷ word))) (not_dash (byte ∷ word) lower)
@@ -113,7 +116,8 @@ pub bytes_of_hex-hex_word : (bytes : List ℕ) → IsBytes bytes → bytes_of_he
 unfolding encode_with
 bytes_of_hex-hex_word [] h = refl
 bytes_of_hex-hex_word (byte ∷ bytes) h =
-    bytes_of_hex-digits (slice_index lower_digits (byte / 16)) (slice_index lower_digits (byte % 16) ∷ encode_lower bytes) (byte ∷ bytes) (list_all-encode_lower (byte ∷ bytes) h) (decode_of-encode_lower (byte ∷ bytes) h)
+    bytes_of_hex-digits (slice_index lower_digits (byte / 16)) (slice_index lower_digits (byte % 16) ∷ encode_lower bytes) (byte ∷ bytes)
+    (list_all-encode_lower (byte ∷ bytes) h) (decode_of-encode_lower (byte ∷ bytes) h)
 
 -- ---- and no other word is read as those bytes
 
@@ -158,7 +162,8 @@ encode_lower-decode_pairs i (high ∷ low ∷ rest) bytes lower h =
     rw (← whole, upper, under, a.1, b.1, ← later) refl
 
 -- the same of whole words
-encode_lower-decode_of : (word bytes : List ℕ) → list_all is_lower_hex_digit word ≡ true → decode_of word ≡ Ok bytes → word ≡ encode_lower bytes
+encode_lower-decode_of : (word bytes : List ℕ) → list_all is_lower_hex_digit word ≡ true → decode_of word ≡ Ok bytes →
+    word ≡ encode_lower bytes
 encode_lower-decode_of word bytes lower h =
     let even = (decode_of-ok word bytes h).0 in
     encode_lower-decode_pairs 0 word bytes lower (sym (decode_of-even word even) ∙ h)

@@ -29,7 +29,8 @@ IsExitCode-from_Some [] code h = cc
 IsExitCode-from_Some (byte ∷ word) code h = go (byte == 45) refl h
   where
     go : (minus : Bool) → (byte == 45) ≡ minus
-        → cond minus (option_map (λ number. neg_ℤ (pos number)) (decimal_below (2 ^ 31 + 1) word)) (option_map pos (decimal_below (2 ^ 31) (byte ∷ word))) ≡ Some code
+        → cond minus (option_map (λ number. neg_ℤ (pos number)) (decimal_below (2 ^ 31 + 1) word))
+        (option_map pos (decimal_below (2 ^ 31) (byte ∷ word))) ≡ Some code
         → IsExitCode (byte ∷ word) code
     go true e h =
         let read = mapped (λ number. neg_ℤ (pos number)) (decimal_below (2 ^ 31 + 1) word) code h in
@@ -47,7 +48,9 @@ Some-from_IsExitCode [] code (inl h) = let none : None ≡ Some h.0 = h.1.decima
 Some-from_IsExitCode (byte ∷ word) code (inl h) =
     let digits = digits-decimal_of (byte ∷ word) h.0 h.1.decimal in
     let digit = no_minus byte (and_parts (is_decimal_digit byte) (list_all is_decimal_digit word) digits).0 in
-    ap (λ b. cond b (option_map (λ number. neg_ℤ (pos number)) (decimal_below (2 ^ 31 + 1) word)) (option_map pos (decimal_below (2 ^ 31) (byte ∷ word)))) digit
+    ap (λ b. cond b (option_map (λ number. neg_ℤ (pos number)) (decimal_below (2 ^ 31 + 1) word))
+    (option_map pos (decimal_below (2 ^ 31) (byte ∷ word)))) digit
     ∙ ap (option_map pos) (decimal_below-IsNumber (2 ^ 31) (byte ∷ word) h.0 h.1) ∙ ap Some (sym h.2)
 Some-from_IsExitCode word code (inr h) =
-    ap exit_code_of h.2 ∙ ap (option_map (λ number. neg_ℤ (pos number))) (decimal_below-IsNumber (2 ^ 31 + 1) h.0 h.1 h.3) ∙ ap Some (sym h.4)
+    ap exit_code_of h.2 ∙ ap (option_map (λ number. neg_ℤ (pos number))) (decimal_below-IsNumber (2 ^ 31 + 1) h.0 h.1 h.3)
+    ∙ ap Some (sym h.4)

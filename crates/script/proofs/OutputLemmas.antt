@@ -25,16 +25,22 @@ ascii_byte byte h = grind (arith, nat_tests)
 -- a word of ASCII is text
 pub IsUtf8-ascii : (word : List ℕ) → list_all is_ascii word ≡ true → IsUtf8 word
 IsUtf8-ascii word h =
-    IsUtf8-from_ascii word (IsAscii-from_reads word (length word) (omega arith) (λ k lt. ascii_byte _ (AllPass-from_list_all is_ascii word h k 0 lt)))
+    IsUtf8-from_ascii word (IsAscii-from_reads word (length word) (omega arith)
+    (λ k lt. ascii_byte _ (AllPass-from_list_all is_ascii word h k 0 lt)))
 
 -- ---- the last `=`
 
 pub at_last-none : (separator : ℕ) (text : List ℕ) → Lacks separator text → at_last separator text ≡ None
 at_last-none separator [] h = refl
 at_last-none separator (byte ∷ text) h =
-    rw (at_last-none separator text (All-tail (λ b. b ≢ separator) byte text h), other_byte separator byte (All-head (λ b. b ≢ separator) byte text h)) refl
+    rw (
+      at_last-none separator text (All-tail (λ b. b ≢ separator) byte text h),
+      other_byte separator byte
+          (All-head (λ b. b ≢ separator) byte text h),
+    ) refl
 
-pub at_last-some : (separator : ℕ) (front back : List ℕ) → Lacks separator back → at_last separator (front ++ separator ∷ back) ≡ Some (front, back)
+pub at_last-some : (separator : ℕ) (front back : List ℕ) → Lacks separator back →
+    at_last separator (front ++ separator ∷ back) ≡ Some (front, back)
 at_last-some separator [] back h = rw (at_last-none separator back h, same_byte separator) refl
 at_last-some separator (byte ∷ front) back h = rw (at_last-some separator front back h) refl
 
@@ -44,12 +50,14 @@ lacks_equals text h k d lt same =
 
 -- what `rsplit_once` answers
 pub split_at_last : (text : List ℕ) (r : Option (Bor (List ℕ) × Bor (List ℕ)))
-    → MatchOption r (RFindsChar 61 text None) (λ x. (i : ℕ) × (j : ℕ) × RFindsChar 61 text (Some (i, j)) × (x.0.now ≡ take i text) × (x.1.now ≡ drop j text) × (i ≤ j) × (length x.0.now ≡ i) × (length x.1.now + j ≡ length text))
+    → MatchOption r (RFindsChar 61 text None) (λ x. (i : ℕ) × (j : ℕ) × RFindsChar 61 text (Some (i, j)) × (x.0.now ≡ take i text)
+    × (x.1.now ≡ drop j text) × (i ≤ j) × (length x.0.now ≡ i) × (length x.1.now + j ≡ length text))
     → option_map (λ x. (x.0.now, x.1.now)) r ≡ at_last 61 text
 split_at_last text None h = sym (at_last-none 61 text (lacks_equals text h))
 split_at_last text (Some x) h =
     let whole : take h.0 text ++ 61 ∷ drop h.1 text ≡ text =
-    ap (λ back. take h.0 text ++ back) (ap (λ c. c ++ drop h.1 text) (sym (encode_ascii 61 (lit< tt))) ∙ sym h.2.1.split) ∙ take-append-drop h.0 text in
+    ap (λ back. take h.0 text ++ back) (ap (λ c. c ++ drop h.1 text) (sym (encode_ascii 61 (lit< tt))) ∙ sym h.2.1.split)
+    ∙ take-append-drop h.0 text in
     let found = at_last-some 61 (take h.0 text) (drop h.1 text) (lacks_equals (drop h.1 text) h.2.0) in
     rw (h.3, h.4) (sym found ∙ ap (at_last 61) whole)
 

@@ -37,7 +37,8 @@ all_ascii word text h =
     let found = chosen (list_all is_ascii word) word text h in
     (found.1, subst (AllPass is_ascii) found.1 (AllPass-from_list_all is_ascii word found.0))
 
-config_words : (limits : LimitsValue) → (words : List (List ℕ)) (made : ConfigValue) → config_of limits words ≡ Some made → AreConfigWords words made
+config_words : (limits : LimitsValue) → (words : List (List ℕ)) (made : ConfigValue) → config_of limits words ≡ Some made →
+    AreConfigWords words made
 config_words limits [] made h = cc
 config_words limits (a ∷ []) made h = cc
 config_words limits (a ∷ b ∷ []) made h = cc
@@ -53,8 +54,10 @@ config_words limits (name ∷ quota ∷ slots ∷ []) made h =
       ascii = tt;
     })
 config_words limits (name ∷ quota ∷ slots ∷ parent ∷ []) made h =
-    let read = chained (λ bytes. option_and_then (λ count. option_map (λ text. config limits name bytes count (Some text)) (ascii_of parent)) (number_of slots)) (decimal_of quota) made h in
-    let counted = chained (λ count. option_map (λ text. config limits name read.0 count (Some text)) (ascii_of parent)) (number_of slots) made read.2 in
+    let read = chained (λ bytes. option_and_then (λ count. option_map (λ text. config limits name bytes count (Some text))
+    (ascii_of parent)) (number_of slots)) (decimal_of quota) made h in
+    let counted = chained (λ count. option_map (λ text. config limits name read.0 count (Some text)) (ascii_of parent))
+    (number_of slots) made read.2 in
     let named = mapped (λ text. config limits name read.0 counted.0 (Some text)) (ascii_of parent) made counted.2 in
     let text = all_ascii parent named.0 named.1 in
     subst (AreConfigWords (name ∷ quota ∷ slots ∷ parent ∷ [])) named.2 (record {
@@ -68,7 +71,8 @@ config_words limits (name ∷ quota ∷ slots ∷ parent ∷ []) made h =
 config_words limits (a ∷ b ∷ c ∷ d ∷ e ∷ more) made h = cc
 
 -- the limits are those that were chosen for all
-chosen_limits : (limits : LimitsValue) → (words : List (List ℕ)) (made : ConfigValue) → config_of limits words ≡ Some made → made.limits ≡ limits
+chosen_limits : (limits : LimitsValue) → (words : List (List ℕ)) (made : ConfigValue) → config_of limits words ≡ Some made →
+    made.limits ≡ limits
 chosen_limits limits [] made h = cc
 chosen_limits limits (a ∷ []) made h = cc
 chosen_limits limits (a ∷ b ∷ []) made h = cc
@@ -77,13 +81,16 @@ chosen_limits limits (name ∷ quota ∷ slots ∷ []) made h =
     let counted = mapped (λ count. config limits name read.0 count None) (number_of slots) made read.2 in
     ap (λ (c : ConfigValue). c.limits) (sym counted.2)
 chosen_limits limits (name ∷ quota ∷ slots ∷ parent ∷ []) made h =
-    let read = chained (λ bytes. option_and_then (λ count. option_map (λ text. config limits name bytes count (Some text)) (ascii_of parent)) (number_of slots)) (decimal_of quota) made h in
-    let counted = chained (λ count. option_map (λ text. config limits name read.0 count (Some text)) (ascii_of parent)) (number_of slots) made read.2 in
+    let read = chained (λ bytes. option_and_then (λ count. option_map (λ text. config limits name bytes count (Some text))
+    (ascii_of parent)) (number_of slots)) (decimal_of quota) made h in
+    let counted = chained (λ count. option_map (λ text. config limits name read.0 count (Some text)) (ascii_of parent))
+    (number_of slots) made read.2 in
     let named = mapped (λ text. config limits name read.0 counted.0 (Some text)) (ascii_of parent) made counted.2 in
     ap (λ (c : ConfigValue). c.limits) (sym named.2)
 chosen_limits limits (a ∷ b ∷ c ∷ d ∷ e ∷ more) made h = cc
 
-words_config : (limits : LimitsValue) → (words : List (List ℕ)) (name : List ℕ) (quota slots : ℕ) (parent : Option (List ℕ)) → AreConfigWords words (config limits name quota slots parent)
+words_config : (limits : LimitsValue) → (words : List (List ℕ)) (name : List ℕ) (quota slots : ℕ) (parent : Option (List ℕ)) →
+    AreConfigWords words (config limits name quota slots parent)
     → config_of limits words ≡ Some (config limits name quota slots parent)
 words_config limits words name quota slots None h =
     ap (config_of limits) h.form
@@ -91,9 +98,12 @@ words_config limits words name quota slots None h =
     ∙ ap (option_map (λ count. config limits name quota count None)) (decimal_below-IsNumber (2 ^ 32) h.slots slots h.count_number)
 words_config limits words name quota slots (Some parent) h =
     ap (config_of limits) h.form
-    ∙ ap (option_and_then (λ bytes. option_and_then (λ count. option_map (λ text. config limits name bytes count (Some text)) (ascii_of parent)) (number_of h.slots))) h.bytes_number
-    ∙ ap (option_and_then (λ count. option_map (λ text. config limits name quota count (Some text)) (ascii_of parent))) (decimal_below-IsNumber (2 ^ 32) h.slots slots h.count_number)
-    ∙ ap (λ b. option_map (λ text. config limits name quota slots (Some text)) (cond b (Some parent) None)) (list_all-from_AllPass is_ascii parent h.ascii)
+    ∙ ap (option_and_then (λ bytes. option_and_then
+    (λ count. option_map (λ text. config limits name bytes count (Some text)) (ascii_of parent)) (number_of h.slots))) h.bytes_number
+    ∙ ap (option_and_then (λ count. option_map (λ text. config limits name quota count (Some text)) (ascii_of parent)))
+    (decimal_below-IsNumber (2 ^ 32) h.slots slots h.count_number)
+    ∙ ap (λ b. option_map (λ text. config limits name quota slots (Some text)) (cond b (Some parent) None))
+    (list_all-from_AllPass is_ascii parent h.ascii)
 
 -- what stands around the first instance of a name
 record IsFirstNamed (all : List ConfigValue) (name : List ℕ) (named : ConfigValue) : Type 0 where
@@ -103,46 +113,60 @@ record IsFirstNamed (all : List ConfigValue) (name : List ℕ) (named : ConfigVa
   other_names : All (λ other. other.name ≢ name) front
   has_name : named.name ≡ name
 
-first_named : (all : List ConfigValue) (name : List ℕ) (named : ConfigValue) → find (λ c. bytes_eq c.name name) all ≡ Some named → IsFirstNamed all name named
+first_named : (all : List ConfigValue) (name : List ℕ) (named : ConfigValue) → find (λ c. bytes_eq c.name name) all ≡ Some named →
+    IsFirstNamed all name named
 first_named [] name named h = cc
 first_named (config ∷ all) name named h = go (first_named all name named) (bytes_eq config.name name) refl h
   where
-    go : (find (λ c. bytes_eq c.name name) all ≡ Some named → IsFirstNamed all name named) → (same : Bool) → bytes_eq config.name name ≡ same
+    go : (find (λ c. bytes_eq c.name name) all ≡ Some named → IsFirstNamed all name named) → (same : Bool) →
+        bytes_eq config.name name ≡ same
         → cond same (Some config) (find (λ c. bytes_eq c.name name) all) ≡ Some named → IsFirstNamed (config ∷ all) name named
     go later true e h =
         let is : config ≡ named = cc in
-        record { front = []; back = all; whole = ap (λ c. c ∷ all) is; other_names = All-nil (λ other. other.name ≢ name); has_name = subst (λ (c : ConfigValue). c.name ≡ name) is ((bytes_eq-Decides config.name name).0 e) }
+        record {
+          front = [];
+          back = all;
+          whole = ap (λ c. c ∷ all) is;
+          other_names = All-nil (λ other. other.name ≢ name);
+          has_name =
+              subst (λ (c : ConfigValue). c.name ≡ name) is ((bytes_eq-Decides config.name name).0 e);
+        }
     go later false e h =
         let found = later h in
         record {
           front = config ∷ found.front;
           back = found.back;
           whole = ap (λ cs. config ∷ cs) found.whole;
-          other_names = All-cons (λ other. other.name ≢ name) config found.front (not_from_Decides (bytes_eq config.name name) (bytes_eq-Decides config.name name) e) found.other_names;
+          other_names = All-cons (λ other. other.name ≢ name) config found.front
+              (not_from_Decides (bytes_eq config.name name) (bytes_eq-Decides config.name name) e) found.other_names;
           has_name = found.has_name;
         }
 
-found_first : (front back : List ConfigValue) (name : List ℕ) (named : ConfigValue) → All (λ other. other.name ≢ name) front → named.name ≡ name
+found_first : (front back : List ConfigValue) (name : List ℕ) (named : ConfigValue) → All (λ other. other.name ≢ name) front →
+    named.name ≡ name
     → find (λ c. bytes_eq c.name name) (front ++ named ∷ back) ≡ Some named
 found_first [] back name named others is =
     ap (λ b. cond b (Some named) (find (λ c. bytes_eq c.name name) back)) ((bytes_eq-Decides named.name name).1 is)
 found_first (config ∷ front) back name named others is =
     ap (λ b. cond b (Some config) (find (λ c. bytes_eq c.name name) (front ++ named ∷ back)))
-    (false_from_ne_true (bytes_eq config.name name) (λ e. All-head (λ other. other.name ≢ name) config front others ((bytes_eq-Decides config.name name).0 e)))
+    (false_from_ne_true (bytes_eq config.name name)
+    (λ e. All-head (λ other. other.name ≢ name) config front others ((bytes_eq-Decides config.name name).0 e)))
     ∙ found_first front back name named (All-tail (λ other. other.name ≢ name) config front others) is
 
 -- the instance on which another may build
 built_on : (all : List ConfigValue) (made : ConfigValue) → may_build all made ≡ true → IfSome made.parent (MayBuildOn all made)
 built_on all made h = go made.parent h
   where
-    go : (parent : Option (List ℕ)) → option_map_or (λ name. not (bytes_eq name made.name) && first_is_root all name) parent true ≡ true → IfSome parent (MayBuildOn all made)
+    go : (parent : Option (List ℕ)) → option_map_or (λ name. not (bytes_eq name made.name) && first_is_root all name) parent true ≡ true →
+        IfSome parent (MayBuildOn all made)
     go None h = tt
     go (Some name) h = found (find (λ c. bytes_eq c.name name) all) refl parts.1
       where
         parts : (not (bytes_eq name made.name) ≡ true) × (first_is_root all name ≡ true)
         parts = and_parts (not (bytes_eq name made.name)) (first_is_root all name) h
 
-        found : (o : Option ConfigValue) → find (λ c. bytes_eq c.name name) all ≡ o → option_map_or (λ c. is_none c.parent) o false ≡ true → MayBuildOn all made name
+        found : (o : Option ConfigValue) → find (λ c. bytes_eq c.name name) all ≡ o → option_map_or (λ c. is_none c.parent) o false ≡ true →
+            MayBuildOn all made name
         found None e h = cc
         found (Some root) e h =
             let first = first_named all name root e in
@@ -160,7 +184,8 @@ built_on all made h = go made.parent h
 builds_on : (all : List ConfigValue) (made : ConfigValue) → IfSome made.parent (MayBuildOn all made) → may_build all made ≡ true
 builds_on all made h = go made.parent h
   where
-    go : (parent : Option (List ℕ)) → IfSome parent (MayBuildOn all made) → option_map_or (λ name. not (bytes_eq name made.name) && first_is_root all name) parent true ≡ true
+    go : (parent : Option (List ℕ)) → IfSome parent (MayBuildOn all made) →
+        option_map_or (λ name. not (bytes_eq name made.name) && first_is_root all name) parent true ≡ true
     go None h = refl
     go (Some name) h =
         ap (λ b. b && first_is_root all name) ((Decides-not (bytes_eq name made.name) (bytes_eq-Decides name made.name)).1 h.another)
@@ -168,8 +193,10 @@ builds_on all made h = go made.parent h
         ∙ ap (λ o. option_map_or (λ c. is_none c.parent) o false) (found_first h.front h.back name h.root h.other_names h.named)
         ∙ ap is_none h.alone
 
-instance_form : (limits : LimitsValue) → (all : List ConfigValue) (before after : ReplayScriptValue) (kind : List ℕ) (arguments : List (List ℕ)) (made : ConfigValue)
-    → kind ≡ codes "instance" → before.events ≡ [] → option_and_then (config_if_good all before.configs) (config_of limits arguments) ≡ Some made → with_config before made ≡ after
+instance_form : (limits : LimitsValue) → (all : List ConfigValue) (before after : ReplayScriptValue) (kind : List ℕ)
+    (arguments : List (List ℕ)) (made : ConfigValue)
+    → kind ≡ codes "instance" → before.events ≡ [] →
+    option_and_then (config_if_good all before.configs) (config_of limits arguments) ≡ Some made → with_config before made ≡ after
     → IsReplayInstanceLine limits all before (kind ∷ arguments) after
 instance_form limits all before after kind arguments made k first h adds =
     let found = added limits all before.configs arguments made h in
@@ -196,7 +223,8 @@ event_form before after kind [] h = cc
 event_form before after kind (a ∷ []) h = cc
 event_form before after kind (moment ∷ instance ∷ arguments) h =
     let added = mapped (with_event before) (event_of kind (moment ∷ instance ∷ arguments)) after h in
-    let at = chained (λ at. option_and_then (λ number. option_map (event_at at number) (what_of kind arguments)) (number_of instance)) (decimal_of moment) added.0 added.1 in
+    let at = chained (λ at. option_and_then (λ number. option_map (event_at at number) (what_of kind arguments)) (number_of instance))
+    (decimal_of moment) added.0 added.1 in
     let number = chained (λ number. option_map (event_at at.0 number) (what_of kind arguments)) (number_of instance) added.0 at.2 in
     let what = mapped (event_at at.0 number.0) (what_of kind arguments) added.0 number.2 in
     record {
@@ -214,24 +242,30 @@ event_form before after kind (moment ∷ instance ∷ arguments) h =
       adds = sym added.2 ∙ ap (with_event before) (sym what.2);
     }
 
-words_form : (limits : LimitsValue) → (all : List ConfigValue) (before after : ReplayScriptValue) (words : List (List ℕ)) → after_replay_words limits all before words ≡ Some after
+words_form : (limits : LimitsValue) → (all : List ConfigValue) (before after : ReplayScriptValue) (words : List (List ℕ)) →
+    after_replay_words limits all before words ≡ Some after
     → IsReplayInstanceLine limits all before words after ⊎ IsEventLine before words after
 words_form limits all before after [] h = cc
 words_form limits all before after (kind ∷ arguments) h = go (bytes_eq kind (codes "instance")) refl h
   where
     go : (configures : Bool) → bytes_eq kind (codes "instance") ≡ configures
-        → cond configures (cond (length before.events == 0) (option_map (with_config before) (option_and_then (config_if_good all before.configs) (config_of limits arguments))) None)
+        → cond configures (cond (length before.events == 0)
+        (option_map (with_config before) (option_and_then (config_if_good all before.configs) (config_of limits arguments))) None)
         (option_map (with_event before) (event_of kind arguments)) ≡ Some after
         → IsReplayInstanceLine limits all before (kind ∷ arguments) after ⊎ IsEventLine before (kind ∷ arguments) after
     go true i h =
-        let early = if_some (length before.events == 0) (option_map (with_config before) (option_and_then (config_if_good all before.configs) (config_of limits arguments))) after h in
-        let more = mapped (with_config before) (option_and_then (config_if_good all before.configs) (config_of limits arguments)) after early.1 in
-        inl (instance_form limits all before after kind arguments more.0 ((bytes_eq-Decides kind (codes "instance")).0 i) (nothing_left before.events early.0) more.1 more.2)
+        let early = if_some (length before.events == 0)
+        (option_map (with_config before) (option_and_then (config_if_good all before.configs) (config_of limits arguments))) after h in
+        let more = mapped (with_config before) (option_and_then (config_if_good all before.configs) (config_of limits arguments)) after
+        early.1 in
+        inl (instance_form limits all before after kind arguments more.0 ((bytes_eq-Decides kind (codes "instance")).0 i)
+        (nothing_left before.events early.0) more.1 more.2)
     go false i h = inr (event_form before after kind arguments h)
 
 -- ---- from a form to a good line
 
-Some-from_instance : (limits : LimitsValue) → (all : List ConfigValue) (before after : ReplayScriptValue) (words : List (List ℕ)) → IsReplayInstanceLine limits all before words after
+Some-from_instance : (limits : LimitsValue) → (all : List ConfigValue) (before after : ReplayScriptValue) (words : List (List ℕ)) →
+    IsReplayInstanceLine limits all before words after
     → after_replay_words limits all before words ≡ Some after
 Some-from_instance limits all before after words h =
     let made = h.made in
@@ -239,16 +273,20 @@ Some-from_instance limits all before after words h =
     let free = h.room in
     let room : nat_lt (length before.configs) instance_limit ≡ true = grind (arith, nat_tests) in
     let read : option_and_then (config_if_good all before.configs) (config_of limits h.arguments) ≡ Some made =
-    ap (option_and_then (config_if_good all before.configs)) (subst (λ (l : LimitsValue). config_of l h.arguments ≡ Some made) h.chosen (words_config made.limits h.arguments made.name made.quota made.slots made.parent h.config_words))
+    ap (option_and_then (config_if_good all before.configs))
+    (subst (λ (l : LimitsValue). config_of l h.arguments ≡ Some made) h.chosen
+    (words_config made.limits h.arguments made.name made.quota made.slots made.parent h.config_words))
     ∙ ap (λ b. cond ((b && is_none (own_fault before.configs made)) && may_build all made) (Some made) None) room
     ∙ ap (λ r. cond (is_none r && may_build all made) (Some made) None) own
     ∙ ap (λ b. cond b (Some made) None) (builds_on all made h.parent) in
     ap (after_replay_words limits all before) h.form
-    ∙ ap (λ events. cond (length events == 0) (option_map (with_config before) (option_and_then (config_if_good all before.configs) (config_of limits h.arguments))) None) h.first
+    ∙ ap (λ events. cond (length events == 0) (option_map (with_config before)
+    (option_and_then (config_if_good all before.configs) (config_of limits h.arguments))) None) h.first
     ∙ ap (option_map (with_config before)) read ∙ ap Some (sym h.adds)
 
 -- no line of an event begins as an instance's does
-other_kind : (kind : List ℕ) (arguments : List (List ℕ)) (what : WhatValue) → Tells kind arguments what → bytes_eq kind (codes "instance") ≡ false
+other_kind : (kind : List ℕ) (arguments : List (List ℕ)) (what : WhatValue) → Tells kind arguments what →
+    bytes_eq kind (codes "instance") ≡ false
 other_kind kind arguments (opened connection) h = rw (h.0) refl
 other_kind kind arguments (received connection bytes) h = rw (h.0) refl
 other_kind kind arguments (took connection count) h = rw (h.0) refl
@@ -257,18 +295,26 @@ other_kind kind arguments tick h = rw (h.0) refl
 other_kind kind arguments (ended job failed) h = rw (h.0) refl
 other_kind kind arguments (ended job (exited run)) h = rw (h.0) refl
 
-Some-from_event : (limits : LimitsValue) → (all : List ConfigValue) (before after : ReplayScriptValue) (words : List (List ℕ)) → IsEventLine before words after
+Some-from_event : (limits : LimitsValue) → (all : List ConfigValue) (before after : ReplayScriptValue) (words : List (List ℕ)) →
+    IsEventLine before words after
     → after_replay_words limits all before words ≡ Some after
 Some-from_event limits all before after words h =
     let read : event_of h.kind (h.moment ∷ h.instance ∷ h.arguments) ≡ Some (event_at h.at h.number h.what) =
-    ap (option_and_then (λ at. option_and_then (λ number. option_map (event_at at number) (what_of h.kind h.arguments)) (number_of h.instance))) h.moment_number
-    ∙ ap (option_and_then (λ number. option_map (event_at h.at number) (what_of h.kind h.arguments))) (decimal_below-IsNumber (2 ^ 32) h.instance h.number h.instance_number)
+    ap (option_and_then (λ at. option_and_then (λ number. option_map (event_at at number) (what_of h.kind h.arguments))
+    (number_of h.instance))) h.moment_number
+    ∙ ap (option_and_then (λ number. option_map (event_at h.at number) (what_of h.kind h.arguments)))
+    (decimal_below-IsNumber (2 ^ 32) h.instance h.number h.instance_number)
     ∙ ap (option_map (event_at h.at h.number)) (Some-from_Tells h.kind h.arguments h.what h.tells) in
     ap (after_replay_words limits all before) h.form
-    ∙ ap (λ b. cond b (cond (length before.events == 0) (option_map (with_config before) (option_and_then (config_if_good all before.configs) (config_of limits (h.moment ∷ h.instance ∷ h.arguments)))) None) (option_map (with_event before) (event_of h.kind (h.moment ∷ h.instance ∷ h.arguments)))) (other_kind h.kind h.arguments h.what h.tells)
+    ∙ ap (λ b. cond b (cond (length before.events == 0)
+    (option_map (with_config before) (option_and_then (config_if_good all before.configs)
+    (config_of limits (h.moment ∷ h.instance ∷ h.arguments)))) None)
+    (option_map (with_event before) (event_of h.kind (h.moment ∷ h.instance ∷ h.arguments))))
+    (other_kind h.kind h.arguments h.what h.tells)
     ∙ ap (option_map (with_event before)) read ∙ ap Some (sym h.adds)
 
-Some-from_words : (limits : LimitsValue) → (all : List ConfigValue) (before after : ReplayScriptValue) (words : List (List ℕ)) → IsReplayInstanceLine limits all before words after ⊎ IsEventLine before words after
+Some-from_words : (limits : LimitsValue) → (all : List ConfigValue) (before after : ReplayScriptValue) (words : List (List ℕ)) →
+    IsReplayInstanceLine limits all before words after ⊎ IsEventLine before words after
     → after_replay_words limits all before words ≡ Some after
 Some-from_words limits all before after words (inl h) = Some-from_instance limits all before after words h
 Some-from_words limits all before after words (inr h) = Some-from_event limits all before after words h
@@ -276,7 +322,8 @@ Some-from_words limits all before after words (inr h) = Some-from_event limits a
 -- ---- whole lines
 
 -- an empty line has one empty word, which begins no line
-words_alone : (limits : LimitsValue) → (all : List ConfigValue) (before after : ReplayScriptValue) (line : List ℕ) → after_replay_words limits all before (words_of line) ≡ Some after
+words_alone : (limits : LimitsValue) → (all : List ConfigValue) (before after : ReplayScriptValue) (line : List ℕ) →
+    after_replay_words limits all before (words_of line) ≡ Some after
     → after_replay_line limits all before line ≡ Some after
 words_alone limits all before after [] h = cc
 words_alone limits all before after (byte ∷ line) h = h
@@ -285,7 +332,8 @@ words_of-spelled : (line : List ℕ) (words : List (List ℕ)) → IsSpelled lin
 words_of-spelled line [] h some = absurd (some refl)
 words_of-spelled line (word ∷ words) h some = ap words_of h.form ∙ parts_of-join 32 word words h.apart
 
-some_words : (limits : LimitsValue) → (all : List ConfigValue) (before after : ReplayScriptValue) (words : List (List ℕ)) → after_replay_words limits all before words ≡ Some after → words ≡ [] → ⊥
+some_words : (limits : LimitsValue) → (all : List ConfigValue) (before after : ReplayScriptValue) (words : List (List ℕ)) →
+    after_replay_words limits all before words ≡ Some after → words ≡ [] → ⊥
 some_words limits all before after words h e = let none : None ≡ Some after = sym (ap (after_replay_words limits all before) e) ∙ h in cc
 
 pub good_line_has_form : (limits : LimitsValue) → (all : List ConfigValue) (before after : ReplayScriptValue) (line : List ℕ)
@@ -295,10 +343,19 @@ good_line_has_form limits all before after line = (there line, back)
     there : (line : List ℕ) → after_replay_line limits all before line ≡ Some after → IsGoodReplayLine limits all before line after
     there [] h = inl (refl, cc)
     there (byte ∷ line) h =
-        inr (words_of (byte ∷ line), record { form = sym (join_with_byte-slice_split 32 (byte ∷ line)); apart = Lacks-parts_of 32 (byte ∷ line) }, words_form limits all before after (words_of (byte ∷ line)) h)
+        inr (
+          words_of (byte ∷ line),
+          record {
+            form = sym (join_with_byte-slice_split 32 (byte ∷ line));
+            apart =
+                Lacks-parts_of 32 (byte ∷ line);
+          },
+          words_form limits all before after (words_of (byte ∷ line)) h,
+        )
 
     back : IsGoodReplayLine limits all before line after → after_replay_line limits all before line ≡ Some after
     back (inl empty) = ap (after_replay_line limits all before) empty.0 ∙ ap Some (sym empty.1)
     back (inr form) =
         let read = Some-from_words limits all before after form.0 form.2 in
-        words_alone limits all before after line (ap (after_replay_words limits all before) (words_of-spelled line form.0 form.1 (some_words limits all before after form.0 read)) ∙ read)
+        words_alone limits all before after line (ap (after_replay_words limits all before)
+        (words_of-spelled line form.0 form.1 (some_words limits all before after form.0 read)) ∙ read)

@@ -45,14 +45,17 @@ pub Lacks-parts_of : (separator : ℕ) (text : List ℕ) → All (Lacks separato
 Lacks-parts_of separator [] = All-cons (Lacks separator) [] [] (All-nil _) (All-nil _)
 Lacks-parts_of separator (byte ∷ text) =
     elim (cases_Bool (byte == separator)) [
-      | inl same ↦ rw (slice_split-cons_yes (λ b. b == separator) byte text same) (All-cons (Lacks separator) [] _ (All-nil _) (Lacks-parts_of separator text))
+      | inl same ↦ rw (slice_split-cons_yes (λ b. b == separator) byte text same)
+          (All-cons (Lacks separator) [] _ (All-nil _) (Lacks-parts_of separator text))
       | inr other ↦
           let differs : byte ≢ separator = grind (arith, nat_tests) in
-          rw (slice_split-cons_no (λ b. b == separator) byte text other) (Lacks-onto_first separator byte _ differs (Lacks-parts_of separator text))
+          rw (slice_split-cons_no (λ b. b == separator) byte text other)
+          (Lacks-onto_first separator byte _ differs (Lacks-parts_of separator text))
     ]
 
 -- where each byte passes a test that the separator fails
-pub Lacks-passing : (test : ℕ → Bool) (separator : ℕ) → test separator ≡ false → (part : List ℕ) → list_all test part ≡ true → Lacks separator part
+pub Lacks-passing : (test : ℕ → Bool) (separator : ℕ) → test separator ≡ false → (part : List ℕ) → list_all test part ≡ true →
+    Lacks separator part
 Lacks-passing test separator fails part passes k d lt same =
     let here = AllPass-from_list_all test part passes k d lt in
     let clash : true ≡ false = sym here ∙ ap test same ∙ fails in

@@ -29,7 +29,8 @@ use Rattle.script.proofs.WellFormedLemmas.{instance_of-made}
 
 method_named-is : (word : List ℕ) (method : Method) → method_named word ≡ Some method → word ≡ method_name method
 method_named-is word method h =
-    go (bytes_eq word (method_name FindMissingBlobs)) refl (bytes_eq word (method_name BatchUpdateBlobs)) refl (bytes_eq word (method_name BatchReadBlobs)) refl h
+    go (bytes_eq word (method_name FindMissingBlobs)) refl (bytes_eq word (method_name BatchUpdateBlobs)) refl
+    (bytes_eq word (method_name BatchReadBlobs)) refl h
   where
     go : (find : Bool) → bytes_eq word (method_name FindMissingBlobs) ≡ find
         → (update : Bool) → bytes_eq word (method_name BatchUpdateBlobs) ≡ update
@@ -96,7 +97,8 @@ call_form before after line (a ∷ []) form h = cc
 call_form before after line (a ∷ b ∷ []) form h = cc
 call_form before after line (name ∷ method ∷ word ∷ []) form h =
     let added = mapped (with_command before) (call_of before.instances (name ∷ method ∷ word ∷ [])) after h in
-    let placed = chained (λ place. option_and_then (λ called. option_map (call place called) (bytes_of_hex word)) (method_named method)) (instance_index before.instances name) added.0 added.1 in
+    let placed = chained (λ place. option_and_then (λ called. option_map (call place called) (bytes_of_hex word)) (method_named method))
+    (instance_index before.instances name) added.0 added.1 in
     let named = chained (λ called. option_map (call placed.0 called) (bytes_of_hex word)) (method_named method) added.0 placed.2 in
     let read = mapped (call placed.0 named.0) (bytes_of_hex word) added.0 named.2 in
     record {
@@ -124,24 +126,29 @@ words_form before after line kind arguments form h =
     go : (configures : Bool) → bytes_eq kind (codes "instance") ≡ configures
         → (puts : Bool) → bytes_eq kind (codes "put") ≡ puts
         → (calls : Bool) → bytes_eq kind (codes "call") ≡ calls
-        → cond configures (cond (length before.commands == 0) (option_map (with_instance before) (instance_of before.instances arguments)) None)
+        → cond configures (cond (length before.commands == 0)
+        (option_map (with_instance before) (instance_of before.instances arguments)) None)
         (cond puts (option_map (with_command before) (put_of before.instances arguments))
         (cond calls (option_map (with_command before) (call_of before.instances arguments)) None)) ≡ Some after
         → IsGoodUnaryLine before line after
     go true i puts p calls c h =
-        let early = if_some (length before.commands == 0) (option_map (with_instance before) (instance_of before.instances arguments)) after h in
+        let early = if_some (length before.commands == 0)
+        (option_map (with_instance before) (instance_of before.instances arguments)) after h in
         let added = mapped (with_instance before) (instance_of before.instances arguments) after early.1 in
-        inr (inl (instance_form before after line arguments added.0 (spelled (codes "instance") i) (nothing_left before.commands early.0) added.1 added.2))
+        inr (inl (instance_form before after line arguments added.0 (spelled (codes "instance") i)
+        (nothing_left before.commands early.0) added.1 added.2))
     go false i true p calls c h = inr (inr (inl (put_form before after line arguments (spelled (codes "put") p) h)))
     go false i false p true c h = inr (inr (inr (call_form before after line arguments (spelled (codes "call") c) h)))
     go false i false p false c h = cc
 
-split_form : (before after : UnaryScriptValue) (line : List ℕ) (words : List (List ℕ)) → line ≡ spaced_line words → after_unary_words before words ≡ Some after
+split_form : (before after : UnaryScriptValue) (line : List ℕ) (words : List (List ℕ)) → line ≡ spaced_line words →
+    after_unary_words before words ≡ Some after
     → IsGoodUnaryLine before line after
 split_form before after line [] form h = cc
 split_form before after line (kind ∷ arguments) form h = words_form before after line kind arguments form h
 
-pub IsGoodUnaryLine-from_Some : (before after : UnaryScriptValue) (line : List ℕ) → after_unary_line before line ≡ Some after → IsGoodUnaryLine before line after
+pub IsGoodUnaryLine-from_Some : (before after : UnaryScriptValue) (line : List ℕ) → after_unary_line before line ≡ Some after →
+    IsGoodUnaryLine before line after
 IsGoodUnaryLine-from_Some before after [] h = inl (refl, cc)
 IsGoodUnaryLine-from_Some before after (byte ∷ line) h =
     split_form before after (byte ∷ line) (words_of (byte ∷ line)) (sym (join_with_byte-slice_split 32 (byte ∷ line))) h
@@ -175,45 +182,56 @@ no_instance : InstanceValue
 no_instance = record { name = []; quota = 0 }
 
 -- the name of a known instance has no space
-Lacks-known : (known : List InstanceValue) (name : List ℕ) (place : ℕ) → HasGoodInstances known → instance_index known name ≡ Some place → Lacks 32 name
+Lacks-known : (known : List InstanceValue) (name : List ℕ) (place : ℕ) → HasGoodInstances known → instance_index known name ≡ Some place →
+    Lacks 32 name
 Lacks-known known name place good h =
     let p = λ (instance : InstanceValue). bytes_eq instance.name name in
     let found = chosen (nat_lt (position_or_len p known) (length known)) (position_or_len p known) place h in
     let test = found.0 in
     let within : position_or_len p known < length known = grind (arith, nat_tests) in
-    let same = (bytes_eq-Decides (get_or known (position_or_len p known) no_instance).name name).0 (passes_at_first p known no_instance within) in
-    rw (← same) (Lacks-name (get_or known (position_or_len p known) no_instance).name (good.names (position_or_len p known) no_instance within))
+    let same = (bytes_eq-Decides (get_or known (position_or_len p known) no_instance).name name).0
+    (passes_at_first p known no_instance within) in
+    rw (← same) (Lacks-name (get_or known (position_or_len p known) no_instance).name
+    (good.names (position_or_len p known) no_instance within))
 
 not_known : (b : Bool) (at : ℕ) → (b ≡ true → ⊥) → is_none (cond b (Some at) None) ≡ true
 not_known true at h = absurd (h refl)
 not_known false at h = refl
 
-is_none-instance_index : (known : List InstanceValue) (name : List ℕ) → All (λ other. name ≢ other.name) known → is_none (instance_index known name) ≡ true
+is_none-instance_index : (known : List InstanceValue) (name : List ℕ) → All (λ other. name ≢ other.name) known →
+    is_none (instance_index known name) ≡ true
 is_none-instance_index known name new =
     let p = λ (instance : InstanceValue). bytes_eq instance.name name in
     not_known (nat_lt (position_or_len p known) (length known)) (position_or_len p known)
     (λ test.
     let within : position_or_len p known < length known = grind (arith, nat_tests) in
-    let same = (bytes_eq-Decides (get_or known (position_or_len p known) no_instance).name name).0 (passes_at_first p known no_instance within) in
+    let same = (bytes_eq-Decides (get_or known (position_or_len p known) no_instance).name name).0
+    (passes_at_first p known no_instance within) in
     new (position_or_len p known) no_instance within (sym same))
 
-Some-from_instance : (before after : UnaryScriptValue) (line : List ℕ) → IsUnaryInstanceLine before line after → after_unary_line before line ≡ Some after
+Some-from_instance : (before after : UnaryScriptValue) (line : List ℕ) → IsUnaryInstanceLine before line after →
+    after_unary_line before line ≡ Some after
 Some-from_instance before after line h =
     let apart = Lacks-word (codes "instance") (Lacks-passing is_instance_name_byte 32 refl (codes "instance") refl) (h.name ∷ h.digits ∷ [])
-    (Lacks-word h.name (Lacks-name h.name h.good_name) (h.digits ∷ []) (Lacks-word h.digits (Lacks-digits h.digits h.quota h.number) [] (All-nil _))) in
+    (Lacks-word h.name (Lacks-name h.name h.good_name) (h.digits ∷ [])
+    (Lacks-word h.digits (Lacks-digits h.digits h.quota h.number) [] (All-nil _))) in
     let split = parts_of-join 32 (codes "instance") (h.name ∷ h.digits ∷ []) apart in
     let fits = h.good_quota in
     let small : nat_le h.quota quota_limit ≡ true = grind (arith, nat_tests) in
     let read : instance_of before.instances (h.name ∷ h.digits ∷ []) ≡ Some (record { name = h.name; quota = h.quota }) =
     ap (option_and_then (instance_if_good before.instances h.name)) h.number
-    ∙ ap (λ b. cond ((b && nat_le h.quota quota_limit) && is_none (instance_index before.instances h.name)) (Some (record { name = h.name; quota = h.quota })) None) (is_instance_name-true h.name h.good_name)
+    ∙ ap (λ b. cond ((b && nat_le h.quota quota_limit) && is_none (instance_index before.instances h.name))
+    (Some (record { name = h.name; quota = h.quota })) None) (is_instance_name-true h.name h.good_name)
     ∙ ap (λ b. cond (b && is_none (instance_index before.instances h.name)) (Some (record { name = h.name; quota = h.quota })) None) small
-    ∙ ap (λ b. cond b (Some (record { name = h.name; quota = h.quota })) None) (is_none-instance_index before.instances h.name h.new_name) in
+    ∙ ap (λ b. cond b (Some (record { name = h.name; quota = h.quota })) None)
+    (is_none-instance_index before.instances h.name h.new_name) in
     ap (after_unary_line before) h.form ∙ ap (after_unary_words before) split
-    ∙ ap (λ commands. cond (length commands == 0) (option_map (with_instance before) (instance_of before.instances (h.name ∷ h.digits ∷ []))) None) h.first
+    ∙ ap (λ commands. cond (length commands == 0)
+    (option_map (with_instance before) (instance_of before.instances (h.name ∷ h.digits ∷ []))) None) h.first
     ∙ ap (option_map (with_instance before)) read ∙ ap Some (sym h.adds)
 
-Some-from_put : (before after : UnaryScriptValue) (line : List ℕ) → HasGoodInstances before.instances → IsPutLine before line after → after_unary_line before line ≡ Some after
+Some-from_put : (before after : UnaryScriptValue) (line : List ℕ) → HasGoodInstances before.instances → IsPutLine before line after →
+    after_unary_line before line ≡ Some after
 Some-from_put before after line good h =
     let apart = Lacks-word (codes "put") (Lacks-passing is_instance_name_byte 32 refl (codes "put") refl) (h.name ∷ hex_word h.content ∷ [])
     (Lacks-word h.name (Lacks-known before.instances h.name h.place good h.known) (hex_word h.content ∷ [])
@@ -225,21 +243,26 @@ Some-from_put before after line good h =
     ap (after_unary_line before) h.form ∙ ap (after_unary_words before) split
     ∙ ap (option_map (with_command before)) read ∙ ap Some (sym h.adds)
 
-Some-from_call : (before after : UnaryScriptValue) (line : List ℕ) → HasGoodInstances before.instances → IsCallLine before line after → after_unary_line before line ≡ Some after
+Some-from_call : (before after : UnaryScriptValue) (line : List ℕ) → HasGoodInstances before.instances → IsCallLine before line after →
+    after_unary_line before line ≡ Some after
 Some-from_call before after line good h =
-    let apart = Lacks-word (codes "call") (Lacks-passing is_instance_name_byte 32 refl (codes "call") refl) (h.name ∷ method_name h.method ∷ hex_word h.message ∷ [])
+    let apart = Lacks-word (codes "call") (Lacks-passing is_instance_name_byte 32 refl (codes "call") refl)
+    (h.name ∷ method_name h.method ∷ hex_word h.message ∷ [])
     (Lacks-word h.name (Lacks-known before.instances h.name h.place good h.known) (method_name h.method ∷ hex_word h.message ∷ [])
     (Lacks-word (method_name h.method) (Lacks-method_name h.method) (hex_word h.message ∷ [])
     (Lacks-word (hex_word h.message) (Lacks_space-hex_word h.message h.bytes) [] (All-nil _)))) in
     let split = parts_of-join 32 (codes "call") (h.name ∷ method_name h.method ∷ hex_word h.message ∷ []) apart in
     let read : call_of before.instances (h.name ∷ method_name h.method ∷ hex_word h.message ∷ []) ≡ Some (call h.place h.method h.message) =
-    ap (option_and_then (λ place. option_and_then (λ called. option_map (call place called) (bytes_of_hex (hex_word h.message))) (method_named (method_name h.method)))) h.known
-    ∙ ap (option_and_then (λ called. option_map (call h.place called) (bytes_of_hex (hex_word h.message)))) (method_named-method_name h.method)
+    ap (option_and_then (λ place. option_and_then (λ called. option_map (call place called) (bytes_of_hex (hex_word h.message)))
+    (method_named (method_name h.method)))) h.known
+    ∙ ap (option_and_then (λ called. option_map (call h.place called) (bytes_of_hex (hex_word h.message))))
+    (method_named-method_name h.method)
     ∙ ap (option_map (call h.place h.method)) (bytes_of_hex-hex_word h.message h.bytes) in
     ap (after_unary_line before) h.form ∙ ap (after_unary_words before) split
     ∙ ap (option_map (with_command before)) read ∙ ap Some (sym h.adds)
 
-pub Some-from_IsGoodLine : (before after : UnaryScriptValue) (line : List ℕ) → HasGoodInstances before.instances → IsGoodUnaryLine before line after
+pub Some-from_IsGoodLine : (before after : UnaryScriptValue) (line : List ℕ) → HasGoodInstances before.instances →
+    IsGoodUnaryLine before line after
     → after_unary_line before line ≡ Some after
 Some-from_IsGoodLine before after line good (inl empty) = ap (after_unary_line before) empty.0 ∙ ap Some (sym empty.1)
 Some-from_IsGoodLine before after line good (inr (inl instance)) = Some-from_instance before after line instance

@@ -30,7 +30,8 @@ use Rattle.script.proofs.Somes.{mapped, chained, chosen, not_found}
 
 -- ---- instances
 
-pub instance_index-lt : (known : List InstanceValue) (name : List ℕ) (place : ℕ) → instance_index known name ≡ Some place → place < length known
+pub instance_index-lt : (known : List InstanceValue) (name : List ℕ) (place : ℕ) → instance_index known name ≡ Some place →
+    place < length known
 instance_index-lt known name place h =
     let p = λ (instance : InstanceValue). bytes_eq instance.name name in
     let found = chosen (nat_lt (position_or_len p known) (length known)) (position_or_len p known) place h in
@@ -70,10 +71,12 @@ IsNewInstance-from_test known name quota h =
 -- the instance of the words NAME QUOTA
 pub instance_of-made : (known : List InstanceValue) (name digits : List ℕ) (instance : InstanceValue)
     → instance_of known (name ∷ digits ∷ []) ≡ Some instance
-    → (quota : ℕ) × (decimal_of digits ≡ Some quota) × IsNewInstance known (record { name = name; quota = quota }) × (record { name = name; quota = quota } ≡ instance)
+    → (quota : ℕ) × (decimal_of digits ≡ Some quota) × IsNewInstance known (record { name = name; quota = quota })
+    × (record { name = name; quota = quota } ≡ instance)
 instance_of-made known name digits instance h =
     let read = chained (instance_if_good known name) (decimal_of digits) instance h in
-    let found = chosen ((is_instance_name name && nat_le read.0 quota_limit) && is_none (instance_index known name)) (record { name = name; quota = read.0 }) instance read.2 in
+    let found = chosen ((is_instance_name name && nat_le read.0 quota_limit) && is_none (instance_index known name))
+    (record { name = name; quota = read.0 }) instance read.2 in
     (read.0, read.1, IsNewInstance-from_test known name read.0 found.0, found.1)
 
 pub instance_of-is_new : (known : List InstanceValue) (words : List (List ℕ)) (instance : InstanceValue)
@@ -111,7 +114,8 @@ call_of-known known [] command h = cc
 call_of-known known (a ∷ []) command h = cc
 call_of-known known (a ∷ b ∷ []) command h = cc
 call_of-known known (name ∷ method ∷ message ∷ []) command h =
-    let placed = chained (λ place. option_and_then (λ called. option_map (call place called) (bytes_of_hex message)) (method_named method)) (instance_index known name) command h in
+    let placed = chained (λ place. option_and_then (λ called. option_map (call place called) (bytes_of_hex message)) (method_named method))
+    (instance_index known name) command h in
     let named = chained (λ called. option_map (call placed.0 called) (bytes_of_hex message)) (method_named method) command placed.2 in
     let made = mapped (call placed.0 named.0) (bytes_of_hex message) command named.2 in
     rw (← made.2) (instance_index-lt known name placed.0 placed.1)
@@ -123,14 +127,17 @@ pub record IsWellFormed (script : UnaryScriptValue) : Type 0 where
   pub instances : HasGoodInstances script.instances
   pub commands : KnowsInstances script
 
-IsWellFormed-with_instance : (script : UnaryScriptValue) (instance : InstanceValue) → IsWellFormed script → IsNewInstance script.instances instance
+IsWellFormed-with_instance : (script : UnaryScriptValue) (instance : InstanceValue) → IsWellFormed script →
+    IsNewInstance script.instances instance
     → IsWellFormed (with_instance script instance)
 IsWellFormed-with_instance script instance h new = record {
   instances = HasGoodInstances-push script.instances instance h.instances new;
-  commands = λ k d lt. let before = h.commands k d lt in let longer = length_push script.instances instance in omega (arith, before, longer);
+  commands = λ k d lt. let before = h.commands k d lt in let longer = length_push script.instances instance in
+      omega (arith, before, longer);
 }
 
-IsWellFormed-with_command : (script : UnaryScriptValue) (command : CommandValue) → IsWellFormed script → instance_place command < length script.instances
+IsWellFormed-with_command : (script : UnaryScriptValue) (command : CommandValue) → IsWellFormed script →
+    instance_place command < length script.instances
     → IsWellFormed (with_command script command)
 IsWellFormed-with_command script command h known = record {
   instances = h.instances;
@@ -144,7 +151,8 @@ answer_of configures early puts calls script arguments =
     (cond puts (option_map (with_command script) (put_of script.instances arguments))
     (cond calls (option_map (with_command script) (call_of script.instances arguments)) None))
 
-IsWellFormed-answer_of : (configures early puts calls : Bool) (script next : UnaryScriptValue) (arguments : List (List ℕ)) → IsWellFormed script
+IsWellFormed-answer_of : (configures early puts calls : Bool) (script next : UnaryScriptValue) (arguments : List (List ℕ)) →
+    IsWellFormed script
     → answer_of configures early puts calls script arguments ≡ Some next → IsWellFormed next
 unfolding answer_of
 IsWellFormed-answer_of true true puts calls script next arguments h e =
@@ -159,17 +167,21 @@ IsWellFormed-answer_of false early false true script next arguments h e =
     rw (← made.2) (IsWellFormed-with_command script made.0 h (call_of-known script.instances arguments made.0 made.1))
 IsWellFormed-answer_of false early false false script next arguments h e = cc
 
-IsWellFormed-after_unary_words : (script next : UnaryScriptValue) (words : List (List ℕ)) → IsWellFormed script → after_unary_words script words ≡ Some next → IsWellFormed next
+IsWellFormed-after_unary_words : (script next : UnaryScriptValue) (words : List (List ℕ)) → IsWellFormed script →
+    after_unary_words script words ≡ Some next → IsWellFormed next
 unfolding answer_of
 IsWellFormed-after_unary_words script next [] h e = cc
 IsWellFormed-after_unary_words script next (kind ∷ arguments) h e =
-    IsWellFormed-answer_of (bytes_eq kind (codes "instance")) (length script.commands == 0) (bytes_eq kind (codes "put")) (bytes_eq kind (codes "call")) script next arguments h e
+    IsWellFormed-answer_of (bytes_eq kind (codes "instance")) (length script.commands == 0) (bytes_eq kind (codes "put"))
+    (bytes_eq kind (codes "call")) script next arguments h e
 
-IsWellFormed-after_unary_line : (script next : UnaryScriptValue) (line : List ℕ) → IsWellFormed script → after_unary_line script line ≡ Some next → IsWellFormed next
+IsWellFormed-after_unary_line : (script next : UnaryScriptValue) (line : List ℕ) → IsWellFormed script →
+    after_unary_line script line ≡ Some next → IsWellFormed next
 IsWellFormed-after_unary_line script next [] h e = let same : script ≡ next = cc in rw (← same) h
 IsWellFormed-after_unary_line script next (byte ∷ line) h e = IsWellFormed-after_unary_words script next (words_of (byte ∷ line)) h e
 
-IsWellFormed-Leads : (from to : UnaryScriptValue) (lines : List (List ℕ)) → IsWellFormed from → Leads after_unary_line from lines to → IsWellFormed to
+IsWellFormed-Leads : (from to : UnaryScriptValue) (lines : List (List ℕ)) → IsWellFormed from → Leads after_unary_line from lines to →
+    IsWellFormed to
 IsWellFormed-Leads from to [] h leads = rw (← leads) h
 IsWellFormed-Leads from to (line ∷ lines) h leads =
     IsWellFormed-Leads leads.0 to lines (IsWellFormed-after_unary_line from leads.0 line h leads.1) leads.2
@@ -182,17 +194,20 @@ IsWellFormed-empty_unary_script = record {
 
 pub IsWellFormed-unary_script_of : (text : List ℕ) (script : UnaryScriptValue) → unary_script_of text ≡ Ok script → IsWellFormed script
 IsWellFormed-unary_script_of text script read =
-    IsWellFormed-Leads empty_unary_script script (lines_of text) IsWellFormed-empty_unary_script (Leads-from_Ok after_unary_line 1 empty_unary_script script (lines_of text) read)
+    IsWellFormed-Leads empty_unary_script script (lines_of text) IsWellFormed-empty_unary_script
+    (Leads-from_Ok after_unary_line 1 empty_unary_script script (lines_of text) read)
 
 -- the same of commands and instances as their types show them
-pub KnowsInstances-read : (lines : UnaryLines) (instances : Vec Instance Global) → map instance_value instances.items ≡ map entry_value lines.quotas.entries
+pub KnowsInstances-read : (lines : UnaryLines) (instances : Vec Instance Global) →
+    map instance_value instances.items ≡ map entry_value lines.quotas.entries
     → KnowsInstances (lines_value lines) → All (λ command. instance_place (command_value command) < vec_len instances) lines.commands.items
 KnowsInstances-read lines instances same h k d lt =
     let commands = lines.commands.items in
     let within : k < length (map command_value commands) = rw length-map lt in
     let shown = h k (command_value d) within in
     let here = get_or-map command_value commands k d (command_value d) lt in
-    let many : length instances.items ≡ length (map entry_value lines.quotas.entries) = sym (length-map instances.items instance_value) ∙ ap length same in
+    let many : length instances.items ≡ length (map entry_value lines.quotas.entries) =
+    sym (length-map instances.items instance_value) ∙ ap length same in
     let known = rw here at shown in
     let counted = instances.ok in
     omega (arith, known, many, counted)

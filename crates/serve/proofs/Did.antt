@@ -349,7 +349,8 @@ event_led ps m e x w v rs os good event no_order faithful empty t at =
             led.there,
             faithful i s.lone (lone_at rs w.instances i s at.lones at_s),
             subst
-                (λ (o : Option EventValue). IsRun (beside rs p s) (marked x.1 (option_map_or (family_event i p) o [])) (beside qs p led.now))
+                (λ (o : Option EventValue). IsRun (beside rs p s) (marked x.1 (option_map_or (family_event i p) o []))
+                (beside qs p led.now))
                 (sym event) led.ran,
           ));
     }

@@ -1,18 +1,19 @@
 -- What a server has open, as more happens.
-use Rattle.std.proofs.Common.{◌≡◌, ◌≢◌, ℕ, ◌<◌, ◌≤◌, ◌+◌, List, [], ◌∷◌, ◌++◌, map, length, take, drop, get_or, refl, ap, ◌∙◌, sym, subst, arith, add-one, inl, inr, append-nil}
-use Rattle.std.specs.Prelude.{◌==◌, ◌||◌, min, fold, Bool, true, false, Option, Some, None, IfSome}
+use Rattle.std.proofs.Common.{◌≡◌, ◌≢◌, ℕ, ◌<◌, ◌≤◌, ◌+◌, List, [], ◌∷◌, ◌++◌, map, length, take, drop, take-append-drop, get_or, refl, ap, ◌∙◌, sym, subst, arith, add-one, inl, inr, append-nil}
+use Rattle.std.specs.Prelude.{◌==◌, ◌||◌, Contains, min, fold, Bool, true, false, Option, Some, None, IfSome}
 use Rattle.std.specs.List.{AllByRecursion, list_any}
 use Rattle.std.proofs.Math.ListN.{set}
 use Rattle.std.proofs.lemmas.Bool.{cases_lt, eq-eqb, ne_eqb, true≢false}
 use Rattle.std.proofs.lemmas.Bool.Decides.{eqb_tells}
 use Rattle.std.proofs.lemmas.List.{map-append, set-get_or, set_split}
+use Rattle.std.proofs.lemmas.List.Elements.{Contains-append_cases, Contains-append_left, Contains-append_right, Contains-push, Contains-push_cases}
 use Rattle.std.proofs.lemmas.List.Folds.{list_any-append}
 use Rattle.std.proofs.lemmas.List.Sums.{fold_push}
 use Rattle.serve.specs.declared.open_socket.OpenSocket.{OpenSocket}
 use Rattle.serve.specs.declared.sockets.Socket.{Socket}
 use Rattle.serve.specs.SocketEvents.{SocketEvent, clock, port, failed, accepted, read, written, shut, moment_after, moment_of, Adds, AddsAll}
 use Rattle.serve.specs.Numbers.{NumbersAreApart}
-use Rattle.serve.specs.KeepsOpen.{AreApart, AreOpenAt, AreWithin, HasOpen, IsKept, IsNext, StayOpen, StayOpenAs, StayOpenBut, StayOpenWithout, client_at, is_taken, sockets_of}
+use Rattle.serve.specs.KeepsOpen.{AreApart, AreOpenAt, AreWithin, HasOpen, IsKept, IsNext, IsPutAmong, StayOpen, StayOpenAs, StayOpenBut, StayOpenWithout, client_at, is_taken, sockets_of}
 use Rattle.serve.specs.KeepsServing.{most_counted}
 use Rattle.serve.proofs.Clients.{Leaves, accepted_kept, accepted_leaves, all_leave, all_on, clock_leaves, failed_leaves, or_false, others_leave, read_kept, read_leaves, shut_leaves, written_leaves}
 use Rattle.serve.proofs.Numbers.{AllStay, accepted_among, at, clock_stays, failed_stays, none_at_first, none_stays, read_stays, shut_closes, written_stays}
@@ -298,9 +299,81 @@ accepted_by old new i n c count cs held seen was next m same heard received lt i
     (subst (λ (l : List OpenSocket). HasOpen count l was m old) (sym reserved) has)
 
 -- .. and it is put among them
+free_moved : (n : ℕ) (xs ys : List Socket) (y : Socket) → is_taken n ((xs ++ ys) ++ y ∷ []) ≡ false → is_taken n (xs ++ y ∷ ys) ≡ false
+free_moved n xs ys y is =
+    let p : Socket → Bool = λ s. s.connection == n in
+    let last = free_parts n (xs ++ ys) y [] is in
+    let both = or_false (list_any p xs) (list_any p ys) (sym (list_any-append p xs ys) ∙ last.0) in
+    free_both n xs (y ∷ ys) both.0 (ap (λ (b : Bool). b || is_taken n ys) last.1 ∙ both.1)
+
+next_moved : (next : Option ℕ) (xs ys : List Socket) (y : Socket) → IfSome next (λ n. is_taken n ((xs ++ ys) ++ y ∷ []) ≡ false) →
+    IfSome next (λ n. is_taken n (xs ++ y ∷ ys) ≡ false)
+next_moved None xs ys y is = tt
+next_moved (Some n) xs ys y is = free_moved n xs ys y is
+
+apart_moved : (xs ys : List Socket) (y : Socket) → AreApart ((xs ++ ys) ++ y ∷ []) → AreApart (xs ++ y ∷ ys)
+apart_moved [] ys y a =
+    let parts = apart_parts ys y [] a in (parts.0, subst AreApart (append-nil ys) parts.2)
+apart_moved (x ∷ xs) ys y a = (free_moved x.connection xs ys y a.0, apart_moved xs ys y a.1)
+
+all_moved : {A : Type 0} (P : A → Type 0) (xs ys : List A) (y : A) → AllByRecursion P ((xs ++ ys) ++ y ∷ []) → AllByRecursion P (xs ++ y ∷ ys)
+all_moved P [] ys y all = let parts = all_split P ys y [] all in (parts.1, parts.0)
+all_moved P (x ∷ xs) ys y all = (all.0, all_moved P xs ys y all.1)
+
+contains_moved : {A : Type 0} (a y : A) (xs ys : List A) → Contains ((xs ++ ys) ++ y ∷ []) a → Contains (xs ++ y ∷ ys) a
+contains_moved {A} a y xs ys is = elim (Contains-push_cases (xs ++ ys) y a is) [
+  | inl either ↦ elim (Contains-append_cases xs ys a either) [
+    | inl before ↦ Contains-append_left xs (y ∷ ys) a before
+    | inr behind ↦ Contains-append_right xs (y ∷ ys) a (Contains-append_right (y ∷ []) ys a behind)
+  ]
+  | inr same ↦ Contains-append_right xs (y ∷ ys) a
+      (Contains-append_left (y ∷ []) ys a (subst (λ (b : A). Contains (y ∷ []) b) same (Contains-push [] y)))
+]
+
+among_moved : (xs ys : List Socket) (y : Socket) (known : Option (List SocketEvent)) → AreOpenAt ((xs ++ ys) ++ y ∷ []) known →
+    AreOpenAt (xs ++ y ∷ ys) known
+among_moved xs ys y None is = tt
+among_moved xs ys y (Some h) is = (
+  is.0,
+  λ i c before after same. elim (is.1 i c before after same) [
+    | inl gone ↦ inl gone
+    | inr there ↦ inr (contains_moved _ y xs ys there)
+  ],
+)
+
+moved_in : (known : Option (List SocketEvent)) (c : OpenSocket) (count : ℕ) (xs ys : List OpenSocket) (next : Option ℕ) (m : ℕ) →
+    HasOpen count ((xs ++ ys) ++ c ∷ []) next m known → HasOpen count (xs ++ c ∷ ys) next m known
+moved_in known c count xs ys next m has =
+    let last : sockets_of ((xs ++ ys) ++ c ∷ []) ≡ (sockets_of xs ++ sockets_of ys) ++ c.socket ∷ [] =
+    sockets_parts (xs ++ ys) c [] ∙ ap (λ (l : List Socket). l ++ c.socket ∷ []) (sockets_join xs ys) in
+    let whole : sockets_of xs ++ c.socket ∷ sockets_of ys ≡ sockets_of (xs ++ c ∷ ys) = sym (sockets_parts xs c ys) in
+    record {
+      within = subst (λ (l : List Socket). AreWithin count l) whole
+          (all_moved (λ (b : Socket). b.instance < count) (sockets_of xs) (sockets_of ys) c.socket
+          (subst (λ (l : List Socket). AreWithin count l) last has.within));
+      at_sockets = subst (λ (l : List Socket). AreOpenAt l known) whole
+          (among_moved (sockets_of xs) (sockets_of ys) c.socket known
+          (subst (λ (l : List Socket). AreOpenAt l known) last has.at_sockets));
+      apart = subst AreApart whole
+          (apart_moved (sockets_of xs) (sockets_of ys) c.socket (subst AreApart last has.apart));
+      free = subst (λ (l : List Socket). IfSome next (λ k. is_taken k l ≡ false)) whole
+          (next_moved next (sockets_of xs) (sockets_of ys) c.socket
+          (subst (λ (l : List Socket). IfSome next (λ k. is_taken k l ≡ false)) last has.free));
+      kept = all_kept known has.kept;
+      moment = has.moment;
+    }
+  where
+    all_kept : (o : Option (List SocketEvent)) → IfSome o (λ h. AllByRecursion (IsKept h) ((xs ++ ys) ++ c ∷ [])) →
+        IfSome o (λ h. AllByRecursion (IsKept h) (xs ++ c ∷ ys))
+    all_kept None is = tt
+    all_kept (Some h) is = all_moved (IsKept h) xs ys c is
+
 pub added_by : (known : Option (List SocketEvent)) (c : OpenSocket) (count : ℕ) (held now : List OpenSocket) (next : Option ℕ) (m : ℕ) →
-    now ≡ held ++ c ∷ [] → HasOpen count (held ++ c ∷ []) next m known → HasOpen count now next m known
-added_by known c count held now next m is has = subst (λ (l : List OpenSocket). HasOpen count l next m known) (sym is) has
+    IsPutAmong c held now → HasOpen count (held ++ c ∷ []) next m known → HasOpen count now next m known
+added_by known c count held now next m put has =
+    subst (λ (l : List OpenSocket). HasOpen count l next m known) (sym put.1)
+    (moved_in known c count (take put.0 held) (drop put.0 held) next m
+    (subst (λ (l : List OpenSocket). HasOpen count (l ++ c ∷ []) next m known) (sym (take-append-drop put.0 held)) has))
 
 -- .. or is closed at once
 pub refused_open : (old mid new : Option (List SocketEvent)) (i n count : ℕ) (cs held seen : List OpenSocket) (was next : Option ℕ)

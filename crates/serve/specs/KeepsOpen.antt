@@ -1,6 +1,6 @@
 -- Which sockets are open while a server serves, under which numbers, and what is known of their
 -- clients. For the code alone: `Numbers.antt` and `Closings.antt` say what comes of it.
-use Rattle.std.specs.Prelude.{◌≡◌, ◌≢◌, ◌<◌, ◌==◌, ◌⊎◌, ◌^◌, ℕ, min, Bool, true, false, List, [], ◌∷◌, ◌++◌, map, Contains, Option, Some, None, IfSome}
+use Rattle.std.specs.Prelude.{◌≡◌, ◌≢◌, ◌<◌, ◌==◌, ◌⊎◌, ◌^◌, ℕ, min, Bool, true, false, List, [], ◌∷◌, ◌++◌, map, Contains, insert, Option, Some, None, IfSome}
 use Rattle.std.specs.List.{AllByRecursion, list_any}
 use Rattle.served_instance.specs.Lone.{LoneInstance}
 use Rattle.server_core.specs.StandsFor.{ServerState, StandsAt}
@@ -70,6 +70,10 @@ pub record HasOpen (count : ℕ) (connections : List OpenSocket) (next : Option 
 -- .. of a server
 abbrev pub HasAllOpen : Serving → Option (List SocketEvent) → Type 0
 HasAllOpen s known = HasOpen s.instances s.connections.items s.next s.moment known
+
+-- this one is put among these, somewhere
+abbrev pub IsPutAmong : OpenSocket → List OpenSocket → List OpenSocket → Type 0
+IsPutAmong s old new = (n : ℕ) × (new ≡ insert old n s)
 
 -- whatever is open, it stays so
 abbrev pub StayOpen : Option (List SocketEvent) → Option (List SocketEvent) → Type 0

@@ -3,12 +3,14 @@
 
 mod absence;
 mod asking;
+mod calm;
 mod carrying;
 mod copies;
 mod counts;
 mod error_lines;
 mod exchange;
 mod frame_course;
+mod groups;
 mod laws;
 mod logged;
 mod logged_runs;

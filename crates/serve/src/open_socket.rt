@@ -69,12 +69,19 @@ impl OpenSocket {
         moment.saturating_sub(self.moved) <= BUSY_TIME || moment != self.tried
     }
 
-    /// Whether it need not be tried now, with these news: nothing moved on it for long,
-    /// and nothing was told there since it was tried.
+    /// Until when it need not be tried, where these are the news and stay so: nothing moved on it
+    /// for long, and nothing was told there since it was tried. 0 where it is to be tried.
+    pub(crate) fn quiet_until(&self, moment: u64, news: u64) -> u64 {
+        if self.news == Some(news) && moment.saturating_sub(self.moved) > BUSY_TIME {
+            self.tried.saturating_add(QUIET_TIME)
+        } else {
+            0
+        }
+    }
+
+    /// Whether it need not be tried now, with these news.
     pub(crate) fn is_quiet(&self, moment: u64, news: u64) -> bool {
-        self.news == Some(news)
-            && moment.saturating_sub(self.moved) > BUSY_TIME
-            && moment.saturating_sub(self.tried) < QUIET_TIME
+        moment < self.quiet_until(moment, news)
     }
 
     /// How many bytes came, or 2^64 - 1 where more came.

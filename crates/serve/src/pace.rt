@@ -90,7 +90,8 @@ pub(crate) struct Pace {
     has_gone_on: bool,
     /// Whether anything came of one.
     has_told: bool,
-    /// How many runs there were when none could go on at once, where that was found last.
+    /// How many runs there were when it was found that none could go on at once, if that was found
+    /// since one was asked, and since those were due that wait.
     idle_runs: Option<usize>,
     /// How many connections were tried at which nothing was ready.
     in_vain: u64,
@@ -137,6 +138,7 @@ impl Pace {
         self.passed = sockets.passed();
         if is_due {
             self.processor = sockets.processor();
+            self.idle_runs = None;
         }
         self.chosen = None;
         self.is_passed_over = false;
@@ -312,14 +314,12 @@ impl Pace {
         self.runs_first
     }
 
-    /// From now on the chosen instance alone has its slice, if there is one: the place of the
-    /// connection from which on its are tried.
-    pub(crate) fn begin_heavy(&mut self) -> Option<usize> {
+    /// From now on the chosen instance alone has its slice, if there is one: its number, and the place
+    /// of the connection from which on its are tried.
+    pub(crate) fn begin_heavy(&mut self) -> Option<(u32, usize)> {
         self.is_heavy_now = true;
-        match self.chosen {
-            Some(_) => Some(self.from),
-            None => None,
-        }
+        let chosen = self.chosen?;
+        Some((chosen, self.from))
     }
 
     /// Whether the connections of an instance are tried now.
@@ -375,11 +375,13 @@ impl Pace {
         match doing {
             Doing::Goes => {
                 self.has_gone_on = true;
+                self.idle_runs = None;
                 true
             }
             Doing::Waits => {
                 if self.is_due {
                     self.waiting = self.waiting.saturating_sub(1);
+                    self.idle_runs = None;
                 }
                 self.is_due
             }
@@ -402,12 +404,12 @@ impl Pace {
     }
 
     /// Whether a run can go on at once. Where none could, none can until one comes, is asked, or is
-    /// ended: the last is noticed when those are due that wait. So not each turn looks at all.
+    /// ended: the last is noticed when those are due that wait. So not each turn looks at all, and
+    /// none looks at all again where it asked none.
     pub(crate) fn is_busy<R: Runs>(&mut self, runs: &R) -> bool
         ensures shares { self.new.shares ≡ self.old.shares }
     {
-        let is_known = !self.is_due && !self.has_gone_on;
-        if is_known && self.idle_runs == Some(runs.count()) {
+        if self.idle_runs == Some(runs.count()) {
             return false;
         }
         let is_busy = runs.is_busy();

@@ -9,14 +9,18 @@ ghost use Rattle.serve.specs.SocketEvents.{Adds};
 ghost use Rattle.serve.specs.Served.{WasServed};
 ghost use Rattle.serve.specs.KeepsServing.{IsServing, KeepsServing};
 
+mod exchanging;
+
 use crate::absence::Absence;
 use crate::asking::ask_all;
+use crate::calm::Calms;
 use crate::carrying::{Counting, tell};
 use crate::counts::{Occurrence, ServeCounts};
 use crate::error_lines::ErrorLines;
-use crate::exchange::{Rooms, Tried, close, exchange};
+use crate::exchange::{Rooms, close};
+use crate::groups::put;
 use crate::numbering::number_after;
-use crate::open_socket::{OpenSocket, longest_silent, news_of};
+use crate::open_socket::{OpenSocket, longest_silent};
 use crate::pace::Pace;
 use crate::runs::Runs;
 use crate::sockets::{Socket, Sockets};
@@ -42,8 +46,9 @@ struct Serving {
     absence: Absence,
     /// When the ports were tried last.
     tried: Option<u64>,
-    /// In order of opening.
+    /// In the order of their instances, and those of one in order of opening.
     connections: Vec<OpenSocket>,
+    calms: Calms,
     /// The number for the next connection, which no open socket has.
     next: Option<u32>,
     rooms: Rooms,
@@ -72,6 +77,7 @@ impl Serving {
             absence: Absence::none(),
             tried: None,
             connections: Vec::new(alloc),
+            calms: Calms::new(alloc, configs.instances().len())?,
             next: Some(0),
             rooms: Rooms::new(alloc)?,
             pace: Pace::new(alloc, configs.instances().len())?,
@@ -229,12 +235,13 @@ impl Serving {
             return false;
         };
         self.pace.note_active(instance);
+        self.calms.end(instance);
         self.next = number_after(&self.connections, connection);
         let what = What::Open(connection);
         match tell(&mut self.counting, runs, self.moment, instance, what) {
             Ok(()) => {
                 let opened = OpenSocket::new(socket, self.moment);
-                self.connections.push_reserved(opened);
+                put(&mut self.connections, opened);
             }
             Err(refusal) => {
                 close(&mut self.counting, sockets, runs, self.moment, socket);
@@ -284,141 +291,6 @@ impl Serving {
             self.moment,
             silent.socket,
         );
-    }
-
-    /// Receives and sends on each connection of the quick instances that is due, and lets go of
-    /// those that are over. Then it is chosen whose turn it is of the others. It says whether
-    /// anything moved.
-    fn exchange_quick<S: Sockets, R: Runs>(
-        &mut self,
-        sockets: &mut S,
-        runs: &mut R,
-        is_due: bool,
-    ) -> bool
-        requires opened { HasAllOpen self.old (S.happened sockets.old) }
-        ensures serving { KeepsServing self.old.instances
-            (S.happened sockets.old) (R.happened runs.old)
-            self.old.counting self.old.moment
-            (S.happened sockets.new) (R.happened runs.new)
-            self.new.counting self.new.moment }
-        ensures no_fault { R.faulted runs.new ≡ R.faulted runs.old }
-        ensures instances { self.new.instances ≡ self.old.instances }
-        ensures opened { HasAllOpen self.new (S.happened sockets.new) }
-    {
-        self.pace.begin(sockets, is_due);
-        let end = self.connections.len();
-        let moved = self.exchange_part(sockets, runs, 0, end);
-        self.pace.choose();
-        moved
-    }
-
-    /// The same for the instance whose turn it is, where that is now.
-    fn exchange_heavy<S: Sockets, R: Runs>(
-        &mut self,
-        sockets: &mut S,
-        runs: &mut R,
-        is_now: bool,
-    ) -> bool
-        requires opened { HasAllOpen self.old (S.happened sockets.old) }
-        ensures serving { KeepsServing self.old.instances
-            (S.happened sockets.old) (R.happened runs.old)
-            self.old.counting self.old.moment
-            (S.happened sockets.new) (R.happened runs.new)
-            self.new.counting self.new.moment }
-        ensures no_fault { R.faulted runs.new ≡ R.faulted runs.old }
-        ensures instances { self.new.instances ≡ self.old.instances }
-        ensures opened { HasAllOpen self.new (S.happened sockets.new) }
-        ensures moment { self.new.moment ≡ self.old.moment }
-    {
-        if !is_now {
-            return false;
-        }
-        let Some(from) = self.pace.begin_heavy() else {
-            return false;
-        };
-        let end = self.connections.len();
-        let behind = self.exchange_part(sockets, runs, from, end);
-        let before = self.exchange_part(sockets, runs, 0, from);
-        behind || before
-    }
-
-    /// Whether the connection at this place is tried now.
-    fn is_tried<S: Sockets>(&self, sockets: &S, at: usize) -> bool {
-        let Some(open) = self.connections.get(at) else {
-            return false;
-        };
-        let instance = open.socket.instance;
-        open.is_due(self.moment)
-            && self.pace.goes(instance)
-            && !open.is_quiet(
-                self.moment,
-                news_of(&self.counting.counts, sockets, instance),
-            )
-    }
-
-    /// The same of those that stand from one place on, and before another.
-    fn exchange_part<S: Sockets, R: Runs>(
-        &mut self,
-        sockets: &mut S,
-        runs: &mut R,
-        first: usize,
-        end: usize,
-    ) -> bool
-        requires opened { HasAllOpen self.old (S.happened sockets.old) }
-        ensures serving { KeepsServing self.old.instances
-            (S.happened sockets.old) (R.happened runs.old)
-            self.old.counting self.old.moment
-            (S.happened sockets.new) (R.happened runs.new)
-            self.new.counting self.new.moment }
-        ensures no_fault { R.faulted runs.new ≡ R.faulted runs.old }
-        ensures instances { self.new.instances ≡ self.old.instances }
-        ensures opened { HasAllOpen self.new (S.happened sockets.new) }
-        ensures moment { self.new.moment ≡ self.old.moment }
-    {
-        let alloc = *self.connections.allocator();
-        let mut moved = false;
-        let mut at = first;
-        while at < end && at < self.connections.len() {
-            if !self.is_tried(sockets, at) {
-                at += 1;
-                continue;
-            }
-            let mut open = self.connections[at];
-            let instance = open.socket.instance;
-            let news = news_of(&self.counting.counts, sockets, instance);
-            self.rooms.until = self.pace.until();
-            self.rooms.is_long = self.pace.is_long(instance);
-            let (counting, rooms) = (&mut self.counting, &mut self.rooms);
-            let tried = exchange(
-                alloc,
-                counting,
-                sockets,
-                runs,
-                self.moment,
-                &mut open,
-                rooms,
-            );
-            self.pace.note(sockets, instance, at, tried);
-            match tried {
-                Tried::Over => {
-                    self.connections.remove(at);
-                    moved = true;
-                }
-                Tried::Moved => {
-                    open.moved = self.moment;
-                    self.connections[at] = open;
-                    at += 1;
-                    moved = true;
-                }
-                Tried::NotReady => {
-                    open.tried = self.moment;
-                    open.news = Some(news);
-                    self.connections[at] = open;
-                    at += 1;
-                }
-            }
-        }
-        moved
     }
 }
 

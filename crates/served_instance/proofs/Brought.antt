@@ -61,40 +61,50 @@ end_short : (s : ℕ) (rest : List ℕ) → AllByRecursion IsShortCall (events_a
 end_short s [] = (tt, tt)
 end_short s (b ∷ bs) = (tt, tt)
 
-behind_short : (s : ℕ) (end_stream : Bool) (end : Result (List ℕ) MessagesError) → AllByRecursion IsShortCall (events_behind_messages s end_stream end)
+behind_short : (s : ℕ) (end_stream : Bool) (end : Result (List ℕ) MessagesError) →
+    AllByRecursion IsShortCall (events_behind_messages s end_stream end)
 behind_short s true (Ok rest) = end_short s rest
 behind_short s false (Ok rest) = tt
 behind_short s end_stream (Err e) = (tt, tt)
 
-front_short : (s : ℕ) (end_stream : Bool) (count : ℕ) (bytes : List ℕ) → AllByRecursion IsShortCall (events_behind_front s end_stream count (messages_of bytes))
+front_short : (s : ℕ) (end_stream : Bool) (count : ℕ) (bytes : List ℕ) →
+    AllByRecursion IsShortCall (events_behind_front s end_stream count (messages_of bytes))
 front_short s end_stream count bytes =
     let ms : List (List ℕ) = drop count (messages_of bytes).items in
     all_append IsShortCall (map (Seen.Message s) ms) (events_behind_messages s end_stream (messages_of bytes).end)
-    (all_messages s ms (all_drop (λ (m : List ℕ). length m ≤ message_limit) count (messages_of bytes).items (split_short message_limit bytes)))
+    (all_messages s ms (all_drop (λ (m : List ℕ). length m ≤ message_limit) count (messages_of bytes).items
+    (split_short message_limit bytes)))
     (behind_short s end_stream (messages_of bytes).end)
 
-by_end_short : (end : Result (List ℕ) MessagesError) (events : List CallEvent) → AllByRecursion IsShortCall events → AllByRecursion IsShortCall (events_by_end end events)
+by_end_short : (end : Result (List ℕ) MessagesError) (events : List CallEvent) → AllByRecursion IsShortCall events →
+    AllByRecursion IsShortCall (events_by_end end events)
 by_end_short (Ok rest) events short = short
 by_end_short (Err e) events short = tt
 
-text_short : (s : ℕ) (before content : List ℕ) (end_stream : Bool) → AllByRecursion IsShortCall (events_of_content s before content end_stream)
+text_short : (s : ℕ) (before content : List ℕ) (end_stream : Bool) →
+    AllByRecursion IsShortCall (events_of_content s before content end_stream)
 text_short s before content end_stream =
-    by_end_short (messages_of before).end (events_behind_front s end_stream (length (messages_of before).items) (messages_of (before ++ content)))
+    by_end_short (messages_of before).end (events_behind_front s end_stream (length (messages_of before).items)
+    (messages_of (before ++ content)))
     (front_short s end_stream (length (messages_of before).items) (before ++ content))
 
 request_short : (s : ℕ) (end_stream : Bool) (r : Result Method HeadFault) → AllByRecursion IsShortCall (events_of_request s end_stream r)
 request_short s end_stream (Ok method) = (tt, text_short s [] [] end_stream)
 request_short s end_stream (Err fault) = tt
 
-either_short : (b : Bool) (these those : List CallEvent) → AllByRecursion IsShortCall these → AllByRecursion IsShortCall those → AllByRecursion IsShortCall (cond b these those)
+either_short : (b : Bool) (these those : List CallEvent) → AllByRecursion IsShortCall these → AllByRecursion IsShortCall those →
+    AllByRecursion IsShortCall (cond b these those)
 either_short true these those a b = a
 either_short false these those a b = b
 
 event_short : (d : List Entry) (e : Event) → AllByRecursion IsShortCall (call_events_of d e)
 event_short d Nothing = tt
 event_short d (Request s fields end_stream) = request_short s end_stream (head_of fields)
-event_short d (Content s content end_stream) = either_short (is_call d s) (events_of_content s (stream_text d s) content end_stream) [] (text_short s (stream_text d s) content end_stream) tt
-event_short d (Trailers s) = either_short (is_call d s) (events_of_content s (stream_text d s) [] true) [] (text_short s (stream_text d s) [] true) tt
+event_short d (Content s content end_stream) =
+    either_short (is_call d s) (events_of_content s (stream_text d s) content end_stream) []
+    (text_short s (stream_text d s) content end_stream) tt
+event_short d (Trailers s) = either_short (is_call d s) (events_of_content s (stream_text d s) [] true) []
+    (text_short s (stream_text d s) [] true) tt
 event_short d (Cancel s) = either_short (is_call d s) (Seen.Cancel s ∷ []) [] (tt, tt) tt
 
 all_cancels : (ss : List ℕ) → AllByRecursion IsShortCall (map Seen.Cancel ss)
@@ -102,7 +112,8 @@ all_cancels [] = tt
 all_cancels (s ∷ ss) = (tt, all_cancels ss)
 
 pub cancels_short : (d : List Entry) → AllByRecursion IsShortCall (cancels d)
-cancels_short d = either_short (has_failed d) [] (map Seen.Cancel (filter (is_call d) (live_streams d))) tt (all_cancels (filter (is_call d) (live_streams d)))
+cancels_short d = either_short (has_failed d) [] (map Seen.Cancel (filter (is_call d) (live_streams d))) tt
+    (all_cancels (filter (is_call d) (live_streams d)))
 
 -- ---- what is due on a connection
 
@@ -111,8 +122,10 @@ DueShort p = AllByRecursion IsShortCall p.due
 
 pub frame_short : (f : RawFrame) (p : Past) → DueShort p → DueShort (with_frame p f)
 frame_short f p short =
-    all_append IsShortCall p.due (cond (outcome p.history f).fails (cancels p.history) (call_events_of p.history (outcome p.history f).event)) short
-    (either_short (outcome p.history f).fails (cancels p.history) (call_events_of p.history (outcome p.history f).event) (cancels_short p.history) (event_short p.history (outcome p.history f).event))
+    all_append IsShortCall p.due (cond (outcome p.history f).fails (cancels p.history)
+    (call_events_of p.history (outcome p.history f).event)) short
+    (either_short (outcome p.history f).fails (cancels p.history) (call_events_of p.history (outcome p.history f).event)
+    (cancels_short p.history) (event_short p.history (outcome p.history f).event))
 
 pub fault_short : (e : FrameError) (code : ErrorCode) (p : Past) → DueShort p → DueShort (with_fault p e code)
 fault_short e code p short = all_append IsShortCall p.due (cancels p.history) short (cancels_short p.history)

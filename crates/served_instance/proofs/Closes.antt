@@ -34,22 +34,27 @@ use Rattle.conn_core.proofs.Left.{left_calls, left_cancels}
 
 -- ---- one comes
 
-served_push : (texts : SourceTexts) (vs : List ServedConnection) (ls : List LoneConnection) (v : ServedConnection) (l : LoneConnection) → AreServed texts vs ls → v.number ≡ l.number → IsConnection texts v.connection l.past → AreServed texts (vs ++ v ∷ []) (ls ++ l ∷ [])
+served_push : (texts : SourceTexts) (vs : List ServedConnection) (ls : List LoneConnection) (v : ServedConnection) (l : LoneConnection) →
+    AreServed texts vs ls → v.number ≡ l.number → IsConnection texts v.connection l.past → AreServed texts (vs ++ v ∷ []) (ls ++ l ∷ [])
 served_push texts [] [] v l s e h = (e, h, tt)
 served_push texts [] (k ∷ ls) v l s e h = absurd s
 served_push texts (x ∷ vs) [] v l s e h = absurd s
 served_push texts (x ∷ vs) (k ∷ ls) v l s e h = (s.0, s.1, served_push texts vs ls v l s.2 e h)
 
-map_push : (os : List OpenConnection) (o : OpenConnection) → map connection_shown (os ++ o ∷ []) ≡ map connection_shown os ++ connection_shown o ∷ []
+map_push : (os : List OpenConnection) (o : OpenConnection) →
+    map connection_shown (os ++ o ∷ []) ≡ map connection_shown os ++ connection_shown o ∷ []
 map_push [] o = refl
 map_push (x ∷ os) o = ap (λ (vs : List ServedConnection). connection_shown x ∷ vs) (map_push os o)
 
-pub opens : (window c : ℕ) (v : ConnectionValue) (s : InstanceState) (os : List OpenConnection) → s.limits.window ≡ window → ((texts : SourceTexts) → IsConnection texts v (new_past window)) → Acts s os s (os ++ record { number = c; connection = v } ∷ []) (after_opening c)
+pub opens : (window c : ℕ) (v : ConnectionValue) (s : InstanceState) (os : List OpenConnection) → s.limits.window ≡ window →
+    ((texts : SourceTexts) → IsConnection texts v (new_past window)) →
+    Acts s os s (os ++ record { number = c; connection = v } ∷ []) (after_opening c)
 opens window c v s os is h = λ texts l st.
     let o : OpenConnection = record { number = c; connection = v } in
     let k : LoneConnection = record { number = c; past = new_past l.state.limits.window; is_open = true } in
     let same : window ≡ l.state.limits.window = sym is ∙ ap (λ (t : InstanceState). t.limits.window) st.state in
-    let stands : IsConnection texts v (new_past l.state.limits.window) = subst (λ (n : ℕ). IsConnection texts v (new_past n)) same (h texts) in
+    let stands : IsConnection texts v (new_past l.state.limits.window) =
+    subst (λ (n : ℕ). IsConnection texts v (new_past n)) same (h texts) in
     let pushed = served_push texts (map connection_shown os) (open_ones l.connections) (connection_shown o) k st.connections refl stands in
     let P : List ServedConnection → Type 0 = λ vs. AreServed texts vs (open_ones l.connections ++ k ∷ []) in
     let Q : List LoneConnection → Type 0 = λ ls. AreServed texts (map connection_shown (os ++ o ∷ [])) ls in
@@ -60,24 +65,30 @@ opens window c v s os is h = λ texts l st.
 
 -- ---- one goes
 
-removed_serves : (texts : SourceTexts) (c : ℕ) (os : List OpenConnection) (ls : List LoneConnection) (k : ℕ) → IsPlace c os k → AreServed texts (map connection_shown os) ls → AreServed texts (map connection_shown (take k os ++ drop (suc k) os)) (without_at c ls)
+removed_serves : (texts : SourceTexts) (c : ℕ) (os : List OpenConnection) (ls : List LoneConnection) (k : ℕ) → IsPlace c os k →
+    AreServed texts (map connection_shown os) ls → AreServed texts (map connection_shown (take k os ++ drop (suc k) os)) (without_at c ls)
 removed_serves texts c [] ls k h s = absurd h
 removed_serves texts c (o ∷ os) [] k h s = absurd s
 removed_serves texts c (o ∷ os) (l ∷ ls) zero h s =
     let here : (l.number == c) ≡ true = ap (λ (n : ℕ). n == c) (sym s.0) ∙ h in
-    subst (λ (xs : List LoneConnection). AreServed texts (map connection_shown os) xs) (sym (cond-true (l.number == c) ls (l ∷ without_at c ls) here)) s.2
+    subst (λ (xs : List LoneConnection). AreServed texts (map connection_shown os) xs)
+    (sym (cond-true (l.number == c) ls (l ∷ without_at c ls) here)) s.2
 removed_serves texts c (o ∷ os) (l ∷ ls) (suc k) h s =
     let there : (l.number == c) ≡ false = ap (λ (n : ℕ). n == c) (sym s.0) ∙ h.0 in
-    subst (λ (xs : List LoneConnection). AreServed texts (map connection_shown (o ∷ (take k os ++ drop (suc k) os))) xs) (sym (cond-false (l.number == c) ls (l ∷ without_at c ls) there)) (s.0, s.1, removed_serves texts c os ls k h.1 s.2)
+    subst (λ (xs : List LoneConnection). AreServed texts (map connection_shown (o ∷ (take k os ++ drop (suc k) os))) xs)
+    (sym (cond-false (l.number == c) ls (l ∷ without_at c ls) there)) (s.0, s.1, removed_serves texts c os ls k h.1 s.2)
 
-pub closes : (c : ℕ) (s t : InstanceState) (os ns : List OpenConnection) (k : ℕ) (d : OpenConnection) → position (is_numbered c) os ≡ Some k → Acts s (take k os ++ drop (suc k) os) t ns (after_call_events c (cancels_of (get_or os k d).connection)) → Acts s os t ns (after_closing c)
+pub closes : (c : ℕ) (s t : InstanceState) (os ns : List OpenConnection) (k : ℕ) (d : OpenConnection) →
+    position (is_numbered c) os ≡ Some k → Acts s (take k os ++ drop (suc k) os) t ns
+    (after_call_events c (cancels_of (get_or os k d).connection)) → Acts s os t ns (after_closing c)
 closes c s t os ns k d h act = λ texts l st.
     let v = (get_or os k d).connection in
     let past = open_past texts c os l.connections v (sym (place_some c os k d h)) st.connections in
     let left : LoneInstance = record l { connections = with_closed c l.connections } in
     let gone : StandsBy texts s (take k os ++ drop (suc k) os) left = record {
       state = st.state;
-      connections = subst (λ (xs : List LoneConnection). AreServed texts (map connection_shown (take k os ++ drop (suc k) os)) xs) (sym (closed_at_is c l.connections)) (removed_serves texts c os (open_ones l.connections) k (is_place c os k h) st.connections);
+      connections = subst (λ (xs : List LoneConnection). AreServed texts (map connection_shown (take k os ++ drop (suc k) os)) xs)
+          (sym (closed_at_is c l.connections)) (removed_serves texts c os (open_ones l.connections) k (is_place c os k h) st.connections);
     } in
     let same : cancels_of v ≡ option_map_or (λ (p : Past). cancels p.history) (open_at c l.connections) [] =
     ap (map Cancel) (left_calls texts v past.0 past.2) ∙ sym (left_cancels past.0.history)
@@ -87,14 +98,16 @@ closes c s t os ns k d h act = λ texts l st.
 -- ---- its calls
 
 -- a call is given up, which owes nothing to any connection
-pub cancel_acts : (s t : InstanceState) (id : CallId) (os : List OpenConnection) → t ≡ state_after s (cancel id) → Acts s os t os (after_call_event (cancel id))
+pub cancel_acts : (s t : InstanceState) (id : CallId) (os : List OpenConnection) → t ≡ state_after s (cancel id) →
+    Acts s os t os (after_call_event (cancel id))
 cancel_acts s t id os e = λ texts l st. record {
   state = e ∙ ap (λ (x : InstanceState). state_after x (cancel id)) st.state;
   connections = st.connections;
 }
 
 -- time passes, which owes nothing either
-pub tick_acts : (s t : InstanceState) (os : List OpenConnection) → t ≡ state_after s time_passes → Acts s os t os (after_call_event time_passes)
+pub tick_acts : (s t : InstanceState) (os : List OpenConnection) → t ≡ state_after s time_passes →
+    Acts s os t os (after_call_event time_passes)
 tick_acts s t os e = λ texts l st. record {
   state = e ∙ ap (λ (x : InstanceState). state_after x time_passes) st.state;
   connections = st.connections;
@@ -104,29 +117,41 @@ first_of : (xs ys : List ℕ) (x : ℕ) → x ∷ [] ≡ take 1 xs → ys ≡ dr
 first_of [] ys x h e = cc
 first_of (y ∷ xs) ys x h e = cc
 
-pub cancel_leads : (c stream : ℕ) (s0 s t : InstanceState) (os0 os ns : List OpenConnection) (v w : ConnectionValue) (before : LoneInstance → LoneInstance) → LeadsOn s0 os0 s os before (after_call_events c (cancels_of v)) →
-    stream ∷ [] ≡ take 1 (live_calls v) → live_calls w ≡ drop 1 (live_calls v) → Acts s os t ns (after_call_event (call_event_on c (Cancel stream))) → LeadsOn s0 os0 t ns before (after_call_events c (cancels_of w))
+pub cancel_leads : (c stream : ℕ) (s0 s t : InstanceState) (os0 os ns : List OpenConnection) (v w : ConnectionValue)
+    (before : LoneInstance → LoneInstance) → LeadsOn s0 os0 s os before (after_call_events c (cancels_of v)) →
+    stream ∷ [] ≡ take 1 (live_calls v) → live_calls w ≡ drop 1 (live_calls v) →
+    Acts s os t ns (after_call_event (call_event_on c (Cancel stream))) →
+    LeadsOn s0 os0 t ns before (after_call_events c (cancels_of w))
 cancel_leads c stream s0 s t os0 os ns v w before h first rest act = λ texts l st.
     let a = h texts l st in
-    let calls = first_of (live_calls v) (live_calls w) stream first rest in
-    (after_call_event (call_event_on c (Cancel stream)) a.0, act texts a.0 a.1, sym (ap (λ (xs : List ℕ). after_call_events c (map Cancel xs) a.0) calls) ∙ a.2)
+    let calls = first_of (live_calls v) (live_calls w) stream first rest in (
+      after_call_event (call_event_on c (Cancel stream)) a.0,
+      act texts a.0 a.1,
+      sym
+          (ap (λ (xs : List ℕ). after_call_events c (map Cancel xs) a.0) calls) ∙ a.2,
+    )
 
 none_of : (xs : List ℕ) → [] ≡ take 1 xs → xs ≡ []
 none_of [] h = refl
 none_of (x ∷ xs) h = cc
 
-pub cancel_done : (c : ℕ) (s0 s : InstanceState) (os0 os : List OpenConnection) (v : ConnectionValue) (before : LoneInstance → LoneInstance) → LeadsOn s0 os0 s os before (after_call_events c (cancels_of v)) → [] ≡ take 1 (live_calls v) → Acts s0 os0 s os before
+pub cancel_done : (c : ℕ) (s0 s : InstanceState) (os0 os : List OpenConnection) (v : ConnectionValue)
+    (before : LoneInstance → LoneInstance) → LeadsOn s0 os0 s os before (after_call_events c (cancels_of v)) → [] ≡ take 1 (live_calls v) →
+    Acts s0 os0 s os before
 cancel_done c s0 s os0 os v before h none =
     leads_acts s0 s s os0 os os before (after_call_events c (cancels_of v)) h
-    (λ texts l st. subst (λ (xs : List ℕ). StandsBy texts s os (after_call_events c (map Cancel xs) l)) (sym (none_of (live_calls v) none)) st)
+    (λ texts l st. subst (λ (xs : List ℕ). StandsBy texts s os (after_call_events c (map Cancel xs) l))
+    (sym (none_of (live_calls v) none)) st)
 
 -- ---- what an event asks for
 
-untaken_by : (n : ℕ) (v : ConnectionValue) (b : Bool) → nat_lt (length v.sending.pending) n ≡ b → (if b then Some TookTooMuch else None) ≡ None → n ≤ length v.sending.pending
+untaken_by : (n : ℕ) (v : ConnectionValue) (b : Bool) → nat_lt (length v.sending.pending) n ≡ b →
+    (if b then Some TookTooMuch else None) ≡ None → n ≤ length v.sending.pending
 untaken_by n v true e h = cc
 untaken_by n v false e h = omega (arith, ltb-false (length v.sending.pending) n e)
 
-pub can_take : (n : ℕ) (o : Option ConnectionValue) (v : ConnectionValue) → Some v ≡ o → option_map_or (unless_more n) o (Some NoSuchConnection) ≡ None → n ≤ length v.sending.pending
+pub can_take : (n : ℕ) (o : Option ConnectionValue) (v : ConnectionValue) → Some v ≡ o →
+    option_map_or (unless_more n) o (Some NoSuchConnection) ≡ None → n ≤ length v.sending.pending
 can_take n None v e h = cc
 can_take n (Some u) v e h =
     let same : v ≡ u = cc in
@@ -141,7 +166,8 @@ written_back n xs ys e f =
     let whole : length xs ≤ n = omega arith in
     ap (λ (zs : List OpenConnection). take n (xs ++ zs)) (drop_of_length-le ys le) ∙ ap (take n) (append-nil xs) ∙ take_all n xs whole
 
-pub closes_by : (c : ℕ) (s t : InstanceState) (os xs : List OpenConnection) (k : ℕ) (o : OpenConnection) → position (is_numbered c) os ≡ Some k → o ≡ get_or os k o → xs ≡ take k os ++ drop (k + 1) os →
+pub closes_by : (c : ℕ) (s t : InstanceState) (os xs : List OpenConnection) (k : ℕ) (o : OpenConnection) →
+    position (is_numbered c) os ≡ Some k → o ≡ get_or os k o → xs ≡ take k os ++ drop (k + 1) os →
     Acts s xs t xs (after_call_events c (cancels_of o.connection)) → Acts s os t xs (after_closing c)
 closes_by c s t os xs k o h here e act =
     let left : xs ≡ take k os ++ drop (suc k) os = e ∙ ap (λ (n : ℕ). take k os ++ drop n os) (add-one k) in

@@ -23,13 +23,15 @@ for_live texts v p st s (inr dead) = elim (cases_Bool (has_failed p.history)) [
   | inr alive ↦ (st.alive alive).live s dead
 ]
 
-held_by : (texts : SourceTexts) (v : ConnectionValue) (p : Past) → IsTidy v.sending → QueuesEndWithin texts v.sending.queues → IsConnection texts v p → map texts (sources_of v.sending) ≡ ranges_left p.history p.owed
+held_by : (texts : SourceTexts) (v : ConnectionValue) (p : Past) → IsTidy v.sending → QueuesEndWithin texts v.sending.queues →
+    IsConnection texts v p → map texts (sources_of v.sending) ≡ ranges_left p.history p.owed
 held_by texts v p tidy fit st =
     ap (λ (ns : List ℕ). map texts (sources_held v.sending.queues ++ ns)) tidy.0
     ∙ ap (map texts) (append-nil (sources_held v.sending.queues))
     ∙ held_is_left texts v.sending p.history p.owed tidy.1 fit (for_live texts v p st) st.sending
 
-pub held_by_all : (texts : SourceTexts) (vs : List ServedConnection) (ls : List LoneConnection) → AreTidy vs → RangesEndWithin texts vs → AreServed texts vs ls → map texts (sources_at vs) ≡ flat_map ranges_left_of ls
+pub held_by_all : (texts : SourceTexts) (vs : List ServedConnection) (ls : List LoneConnection) → AreTidy vs → RangesEndWithin texts vs →
+    AreServed texts vs ls → map texts (sources_at vs) ≡ flat_map ranges_left_of ls
 held_by_all texts [] [] tidy fit st = refl
 held_by_all texts [] (l ∷ ls) tidy fit st = absurd st
 held_by_all texts (v ∷ vs) [] tidy fit st = absurd st

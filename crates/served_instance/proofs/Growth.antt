@@ -56,7 +56,12 @@ frame_grows : (f : RawFrame) (p : Past) → Grows p (with_frame p f)
 frame_grows f p = record { more = frame_entries p.history f; history = refl; quiet = out_quiet (outcome p.history f).put }
 
 fault_grows : (e : FrameError) (code : ErrorCode) (p : Past) → Grows p (with_fault p e code)
-fault_grows e code p = record { more = fault_entries p.history e code; history = refl; quiet = out_quiet (fault_frames (has_failed p.history) (highest_stream p.history) code) }
+fault_grows e code p = record {
+  more = fault_entries p.history e code;
+  history = refl;
+  quiet =
+      out_quiet (fault_frames (has_failed p.history) (highest_stream p.history) code);
+}
 
 pump_grows : (p : Past) → Grows p (with_pumped p)
 pump_grows p =
@@ -65,7 +70,8 @@ pump_grows p =
 
 items_grow : (s : ℕ) (items : List Item) (p : Past) → Grows p (with_items s items p)
 items_grow s [] p = grows_same p p refl
-items_grow s (item ∷ items) p = grows_trans p (with_item p s item) (with_items s items (with_item p s item)) (grows_same p (with_item p s item) refl) (items_grow s items (with_item p s item))
+items_grow s (item ∷ items) p = grows_trans p (with_item p s item) (with_items s items (with_item p s item))
+    (grows_same p (with_item p s item) refl) (items_grow s items (with_item p s item))
 
 -- ---- all connections
 
@@ -104,8 +110,15 @@ all_trans (k ∷ ks) [] ms a b = absurd a
 all_trans (k ∷ ks) (l ∷ ls) [] a b = absurd b
 all_trans (k ∷ ks) (l ∷ ls) (m ∷ ms) a b = (grown_trans k l m a.0 b.0, all_trans ks ls ms a.1 b.1)
 
-stepped_grown : (step : Past → Past) → ((p : Past) → Grows p (step p)) → (k : LoneConnection) → k.is_open ≡ true → HasGrown k (record k { past = step k.past })
-stepped_grown step grows k at = record { number = refl; is_open = refl; past = grows k.past; closed = λ is. absurd (true≢false (sym at ∙ is)) }
+stepped_grown : (step : Past → Past) → ((p : Past) → Grows p (step p)) → (k : LoneConnection) → k.is_open ≡ true →
+    HasGrown k (record k { past = step k.past })
+stepped_grown step grows k at = record {
+  number = refl;
+  is_open = refl;
+  past = grows k.past;
+  closed =
+      λ is. absurd (true≢false (sym at ∙ is));
+}
 
 pub at_is_open : (c : ℕ) (k : LoneConnection) → is_open_at c k ≡ true → k.is_open ≡ true
 at_is_open c k at = elim (cases_Bool k.is_open) [
@@ -113,14 +126,16 @@ at_is_open c k at = elim (cases_Bool k.is_open) [
   | inr is ↦ let f : is_open_at c k ≡ false = rw is refl in absurd (true≢false (sym at ∙ f))
 ]
 
-at_open_grows : (c : ℕ) (step : Past → Past) → ((p : Past) → Grows p (step p)) → (ks : List LoneConnection) → AreGrown ks (at_open c step ks)
+at_open_grows : (c : ℕ) (step : Past → Past) → ((p : Past) → Grows p (step p)) → (ks : List LoneConnection) →
+    AreGrown ks (at_open c step ks)
 at_open_grows c step grows [] = tt
 at_open_grows c step grows (k ∷ ks) = elim (cases_Bool (is_open_at c k)) [
   | inl at ↦ rw at (stepped_grown step grows k (at_is_open c k at), all_same ks)
   | inr off ↦ rw off (same_grown k, at_open_grows c step grows ks)
 ]
 
-if_open_grown : (step : Past → Past) → ((p : Past) → Grows p (step p)) → (k : LoneConnection) (b : Bool) → k.is_open ≡ b → HasGrown k (cond b (record k { past = step k.past }) k)
+if_open_grown : (step : Past → Past) → ((p : Past) → Grows p (step p)) → (k : LoneConnection) (b : Bool) → k.is_open ≡ b →
+    HasGrown k (cond b (record k { past = step k.past }) k)
 if_open_grown step grows k true at = stepped_grown step grows k at
 if_open_grown step grows k false off = same_grown k
 
@@ -140,13 +155,17 @@ more_trans : (l m n : LoneInstance) → HasMore l m → HasMore m n → HasMore 
 more_trans l m n a b = all_trans l.connections m.connections n.connections a b
 
 abbrev with_reply : ReplyValue → LoneInstance → LoneInstance
-with_reply reply l = record l { connections = at_open reply.call.connection (with_items reply.call.stream (owed_items reply.items)) l.connections }
+with_reply reply l = record l {
+  connections = at_open reply.call.connection
+      (with_items reply.call.stream (owed_items reply.items)) l.connections;
+}
 
 replied_more : (replies : List ReplyValue) (l : LoneInstance) → HasMore l (after_replies replies l)
 replied_more [] l = more_same l
 replied_more (reply ∷ replies) l =
     more_trans l (with_reply reply l) (after_replies replies (with_reply reply l))
-    (at_open_grows reply.call.connection (with_items reply.call.stream (owed_items reply.items)) (items_grow reply.call.stream (owed_items reply.items)) l.connections)
+    (at_open_grows reply.call.connection (with_items reply.call.stream (owed_items reply.items))
+    (items_grow reply.call.stream (owed_items reply.items)) l.connections)
     (replied_more replies (with_reply reply l))
 
 happened_more : (event : CallEventValue) (l : LoneInstance) → HasMore l (after_call_event event l)
@@ -161,7 +180,8 @@ all_happened_more c (event ∷ events) l =
 due_more : (c : ℕ) (l : LoneInstance) → HasMore l (after_due_on c l)
 due_more c l =
     let m : LoneInstance = record l { connections = at_open c without_due l.connections } in
-    more_trans l m (after_due_on c l) (at_open_grows c without_due (λ p. grows_same p (without_due p) refl) l.connections) (all_happened_more c (due_at c l) m)
+    more_trans l m (after_due_on c l) (at_open_grows c without_due (λ p. grows_same p (without_due p) refl) l.connections)
+    (all_happened_more c (due_at c l) m)
 
 frame_more : (c : ℕ) (f : RawFrame) (l : LoneInstance) → HasMore l (after_frame_on c f l)
 frame_more c f l =
@@ -172,7 +192,8 @@ frames_more : (c : ℕ) (fs : List RawFrame) (l : LoneInstance) → HasMore l (a
 frames_more c [] l = more_same l
 frames_more c (f ∷ fs) l = elim (cases_Bool (is_over c l)) [
   | inl over ↦ rw over (more_same l)
-  | inr goes_on ↦ rw goes_on (more_trans l (after_frame_on c f l) (after_frames_on c fs (after_frame_on c f l)) (frame_more c f l) (frames_more c fs (after_frame_on c f l)))
+  | inr goes_on ↦ rw goes_on (more_trans l (after_frame_on c f l) (after_frames_on c fs (after_frame_on c f l)) (frame_more c f l)
+      (frames_more c fs (after_frame_on c f l)))
 ]
 
 fault_more : (c : ℕ) (e : FrameError) (l : LoneInstance) (code : Option ErrorCode) → HasMore l (after_fault_on c e l code)
@@ -197,7 +218,8 @@ read_more c l (Some p) =
 bytes_more : (c : ℕ) (bytes : List ℕ) (l : LoneInstance) → HasMore l (after_bytes_on c bytes l)
 bytes_more c bytes l =
     let m : LoneInstance = record l { connections = at_open c (with_bytes bytes) l.connections } in
-    more_trans l m (after_bytes_on c bytes l) (at_open_grows c (with_bytes bytes) (λ p. grows_same p (with_bytes bytes p) refl) l.connections) (read_more c m (open_at c m.connections))
+    more_trans l m (after_bytes_on c bytes l) (at_open_grows c (with_bytes bytes)
+    (λ p. grows_same p (with_bytes bytes p) refl) l.connections) (read_more c m (open_at c m.connections))
 
 -- ---- an event
 
@@ -208,19 +230,23 @@ connections_after window (took c n) ks = at_open c (λ p. with_taken p n) ks
 connections_after window (closed c) ks = with_closed c ks
 connections_after window _ ks = ks
 
-acted_more : (what : WhatValue) (l : LoneInstance) → AreGrown (connections_after l.state.limits.window what l.connections) (effect_of what l).connections
+acted_more : (what : WhatValue) (l : LoneInstance) →
+    AreGrown (connections_after l.state.limits.window what l.connections) (effect_of what l).connections
 acted_more (opened c) l = all_same (after_opening c l).connections
 acted_more (received c bytes) l =
     let m = after_bytes_on c bytes l in
     more_trans l m (after_call_event start_jobs m) (bytes_more c bytes l) (happened_more start_jobs m)
 acted_more (took c n) l = all_same (at_open c (λ p. with_taken p n) l.connections)
-acted_more (closed c) l = all_happened_more c (option_map_or (λ p. cancels p.history) (open_at c l.connections) []) (record l { connections = with_closed c l.connections })
+acted_more (closed c) l = all_happened_more c (option_map_or (λ p. cancels p.history) (open_at c l.connections) [])
+    (record l { connections = with_closed c l.connections })
 acted_more tick l =
     let m = after_call_event time_passes l in
     more_trans l m (after_call_event end_late_jobs m) (happened_more time_passes l) (happened_more end_late_jobs m)
 acted_more (ended job outcome) l = happened_more (end_job job outcome) l
 
-pub accepted_more : (parent : List Blob) (e : LoneEvent) (l : LoneInstance) → AreGrown (connections_after l.state.limits.window e.what l.connections) (after_event parent e l).connections
+pub accepted_more : (parent : List Blob) (e : LoneEvent) (l : LoneInstance) →
+    AreGrown (connections_after l.state.limits.window e.what l.connections) (after_event parent e l).connections
 accepted_more parent e l =
     let m : LoneInstance = effect_of e.what (lone_at_moment e.moment parent l) in
-    all_trans (connections_after l.state.limits.window e.what l.connections) m.connections (after_pump m).connections (acted_more e.what (lone_at_moment e.moment parent l)) (all_open_grow with_pumped pump_grows m.connections)
+    all_trans (connections_after l.state.limits.window e.what l.connections) m.connections (after_pump m).connections
+    (acted_more e.what (lone_at_moment e.moment parent l)) (all_open_grow with_pumped pump_grows m.connections)

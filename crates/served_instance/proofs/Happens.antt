@@ -54,7 +54,8 @@ replies_same q (r ∷ rs) =
     ap (λ (items : List ReplyItemValue). reply_of r items ∷ map (reply_by (text_at q)) rs) (items_same q r.items.items)
     ∙ ap (λ (xs : List ReplyValue). reply_shown q r ∷ xs) (replies_same q rs)
 
-items_owed : (q : Slots) (items : List ReplyItem) → AllByRecursion IsShortReplyItem (map (item_shown q) items) → AllByRecursion CanBeOwed items
+items_owed : (q : Slots) (items : List ReplyItem) → AllByRecursion IsShortReplyItem (map (item_shown q) items) →
+    AllByRecursion CanBeOwed items
 items_owed q [] h = tt
 items_owed q (Begins ∷ items) h = (tt, items_owed q items h.1)
 items_owed q (Says bytes ∷ items) h = (h.0, items_owed q items h.1)
@@ -67,7 +68,8 @@ pub replies_owed : (q : Slots) (rs : List Reply) → AllByRecursion IsShortReply
 replies_owed q [] h = tt
 replies_owed q (r ∷ rs) h = (items_owed q r.items.items h.0, replies_owed q rs h.1)
 
-items_end : (q : Slots) (items : List ReplyItem) → AllByRecursion IsShortReplyItem (map (item_shown q) items) → ItemsEndWithin items (text_at q)
+items_end : (q : Slots) (items : List ReplyItem) → AllByRecursion IsShortReplyItem (map (item_shown q) items) →
+    ItemsEndWithin items (text_at q)
 items_end q [] h = tt
 items_end q (Begins ∷ items) h = (tt, items_end q items h.1)
 items_end q (Says bytes ∷ items) h = (tt, items_end q items h.1)
@@ -84,26 +86,32 @@ replies_end q (r ∷ rs) h = (items_end q r.items.items h.0, replies_end q rs h.
 
 -- the instance did something in a pool, and gives what is held so often; connections took that, or
 -- it was released
-pub record IsAnswered (given : Holders) (IsGood : SourceTexts → Type 0) (p q r : Slots) (i j : InstanceSlots) (vs ws : List ServedConnection) : Type 0 where
+pub record IsAnswered (given : Holders) (IsGood : SourceTexts → Type 0) (p q r : Slots) (i j : InstanceSlots)
+    (vs ws : List ServedConnection) : Type 0 where
   pub kept : IsServedInPool p (slots_at i vs)
   pub moves : Moves p q (holders_of_instance i) (λ k. holders_of_instance j k + given k)
   pub takes : AllTakeRanges given IsGood q vs r ws
   pub within : IsInstanceWithin (state_in q j)
   pub good : IsGood (text_at q)
 
-pub given_counted : (given : Holders) (p q : Slots) (i j : InstanceSlots) (vs : List ServedConnection) → IsServedInPool p (slots_at i vs) → Moves p q (holders_of_instance i) (λ k. holders_of_instance j k + given k) →
+pub given_counted : (given : Holders) (p q : Slots) (i j : InstanceSlots) (vs : List ServedConnection) → IsServedInPool p (slots_at i vs) →
+    Moves p q (holders_of_instance i) (λ k. holders_of_instance j k + given k) →
     (k : ℕ) → holders_of_instance j k + range_holders vs k + given k ≤ count_at q k
 given_counted given p q i j vs kept m k = omega (arith, m.counts k, kept.counted k)
 
-pub asked_finds : (given : Holders) (p q : Slots) (i j : InstanceSlots) (vs : List ServedConnection) → IsServedInPool p (slots_at i vs) → Moves p q (holders_of_instance i) (λ k. holders_of_instance j k + given k) → AgreeOn (sources_at vs) (text_at p) (text_at q)
+pub asked_finds : (given : Holders) (p q : Slots) (i j : InstanceSlots) (vs : List ServedConnection) → IsServedInPool p (slots_at i vs) →
+    Moves p q (holders_of_instance i) (λ k. holders_of_instance j k + given k) → AgreeOn (sources_at vs) (text_at p) (text_at q)
 asked_finds given p q i j vs kept m k some = sym (m.texts k (omega (arith, some, kept.counted k)))
 
-pub taken_finds : (given : Holders) (IsGood : SourceTexts → Type 0) (p q r : Slots) (i j : InstanceSlots) (vs ws : List ServedConnection) → IsAnswered given IsGood p q r i j vs ws → AgreeOn (sources_at ws) (text_at q) (text_at r)
+pub taken_finds : (given : Holders) (IsGood : SourceTexts → Type 0) (p q r : Slots) (i j : InstanceSlots) (vs ws : List ServedConnection) →
+    IsAnswered given IsGood p q r i j vs ws → AgreeOn (sources_at ws) (text_at q) (text_at r)
 taken_finds given IsGood p q r i j vs ws a k some =
     let held = given_counted given p q i j vs a.kept a.moves k in
     sym (a.takes.moves.texts k (omega (arith, some, held, a.takes.sources k)))
 
-pub answered_moves : (given : Holders) (IsGood : SourceTexts → Type 0) (p q r : Slots) (i j : InstanceSlots) (vs ws : List ServedConnection) → IsAnswered given IsGood p q r i j vs ws → Moves p r (holders_of (slots_at i vs)) (holders_of (slots_at j ws))
+pub answered_moves : (given : Holders) (IsGood : SourceTexts → Type 0) (p q r : Slots) (i j : InstanceSlots)
+    (vs ws : List ServedConnection) → IsAnswered given IsGood p q r i j vs ws →
+    Moves p r (holders_of (slots_at i vs)) (holders_of (slots_at j ws))
 answered_moves given IsGood p q r i j vs ws a = record {
   counts = λ k. omega (arith, a.moves.counts k, a.takes.moves.counts k, a.takes.sources k);
   texts = λ k few.
@@ -111,37 +119,49 @@ answered_moves given IsGood p q r i j vs ws a = record {
       ∙ a.moves.texts k (omega (arith, few));
 }
 
-pub answered_state : (given : Holders) (IsGood : SourceTexts → Type 0) (p q r : Slots) (i j : InstanceSlots) (vs ws : List ServedConnection) → IsAnswered given IsGood p q r i j vs ws → state_in r j ≡ state_in q j
+pub answered_state : (given : Holders) (IsGood : SourceTexts → Type 0) (p q r : Slots) (i j : InstanceSlots)
+    (vs ws : List ServedConnection) → IsAnswered given IsGood p q r i j vs ws → state_in r j ≡ state_in q j
 answered_state given IsGood p q r i j vs ws a =
     own_same q r j a.takes.gone no_holders
     (λ k. let held = given_counted given p q i j vs a.kept a.moves k in omega (arith, held, a.takes.fewer k)) a.takes.moves
 
-pub answered_beside : (given : Holders) (IsGood : SourceTexts → Type 0) (parent : ViewValue) (p q r : Slots) (i j : InstanceSlots) (vs ws : List ServedConnection) → IsAnswered given IsGood p q r i j vs ws → IsServedBeside p parent (slots_at i vs) → state_beside r parent j ≡ state_beside q parent j
+pub answered_beside : (given : Holders) (IsGood : SourceTexts → Type 0) (parent : ViewValue) (p q r : Slots) (i j : InstanceSlots)
+    (vs ws : List ServedConnection) → IsAnswered given IsGood p q r i j vs ws → IsServedBeside p parent (slots_at i vs) →
+    state_beside r parent j ≡ state_beside q parent j
 answered_beside given IsGood parent p q r i j vs ws a beside =
-    both_same q r parent j (parent_same q r parent a.takes.gone no_holders a.takes.moves (λ k. omega (arith, a.moves.counts k, beside.counted k, a.takes.fewer k))) (answered_state given IsGood p q r i j vs ws a)
+    both_same q r parent j (parent_same q r parent a.takes.gone no_holders a.takes.moves
+    (λ k. omega (arith, a.moves.counts k, beside.counted k, a.takes.fewer k))) (answered_state given IsGood p q r i j vs ws a)
 
-pub answered_kept : (given : Holders) (IsGood : SourceTexts → Type 0) (p q r : Slots) (i j : InstanceSlots) (vs ws : List ServedConnection) → IsAnswered given IsGood p q r i j vs ws → length ws ≤ 64 → IsServedInPool r (slots_at j ws)
+pub answered_kept : (given : Holders) (IsGood : SourceTexts → Type 0) (p q r : Slots) (i j : InstanceSlots)
+    (vs ws : List ServedConnection) → IsAnswered given IsGood p q r i j vs ws → length ws ≤ 64 → IsServedInPool r (slots_at j ws)
 answered_kept given IsGood p q r i j vs ws a short =
     let find = taken_finds given IsGood p q r i j vs ws a in
     record {
-      counted = λ k. let held = given_counted given p q i j vs a.kept a.moves k in omega (arith, held, a.takes.moves.counts k, a.takes.sources k);
+      counted = λ k. let held = given_counted given p q i j vs a.kept a.moves k in
+          omega (arith, held, a.takes.moves.counts k, a.takes.sources k);
       others = λ k. omega (arith, a.moves.counts k, a.takes.moves.counts k, a.takes.sources k, a.kept.others k);
       within = record {
         instance = subst IsInstanceWithin (sym (answered_state given IsGood p q r i j vs ws a)) a.within;
         connections = omega (arith, short, length-map ws (seen_with (text_at r)));
       };
       fit = fit_agreed_each (text_at q) (text_at r) ws find
-          (a.takes.fit (text_at q) a.good (fit_agreed_each (text_at p) (text_at q) vs (asked_finds given p q i j vs a.kept a.moves) a.kept.fit));
+          (a.takes.fit (text_at q) a.good (fit_agreed_each (text_at p) (text_at q) vs
+          (asked_finds given p q i j vs a.kept a.moves) a.kept.fit));
       few = a.takes.few a.kept.few;
     }
 
 -- what a call event answered was given to its connections
-pub answers_given : (p q r : Slots) (i j : InstanceSlots) (os ns : List OpenConnection) (rs ys : List Reply) → rs ≡ ys → IsServedInPool p (slots_of i os) →
-    Moves p q (holders_of_instance i) (λ k. holders_of_instance j k + replies_holders ys k) → AllTakeRanges (replies_holders rs) (RepliesEndWithin rs) q (map connection_shown os) r (map connection_shown ns) → IsInstanceWithin (state_in q j) →
-    AllByRecursion IsShortReply (map (reply_shown q) ys) → IsAnswered (replies_holders rs) (RepliesEndWithin rs) p q r i j (map connection_shown os) (map connection_shown ns)
+pub answers_given : (p q r : Slots) (i j : InstanceSlots) (os ns : List OpenConnection) (rs ys : List Reply) → rs ≡ ys →
+    IsServedInPool p (slots_of i os) →
+    Moves p q (holders_of_instance i) (λ k. holders_of_instance j k + replies_holders ys k) →
+    AllTakeRanges (replies_holders rs) (RepliesEndWithin rs) q (map connection_shown os) r (map connection_shown ns) →
+    IsInstanceWithin (state_in q j) →
+    AllByRecursion IsShortReply (map (reply_shown q) ys) →
+    IsAnswered (replies_holders rs) (RepliesEndWithin rs) p q r i j (map connection_shown os) (map connection_shown ns)
 answers_given p q r i j os ns rs ys is kept moves takes within short = record {
   kept = kept;
-  moves = subst (λ (xs : List Reply). Moves p q (holders_of_instance i) (λ k. holders_of_instance j k + replies_holders xs k)) (sym is) moves;
+  moves = subst (λ (xs : List Reply). Moves p q (holders_of_instance i) (λ k. holders_of_instance j k + replies_holders xs k))
+      (sym is) moves;
   takes = takes;
   within = within;
   good = replies_end q rs (subst (λ (xs : List Reply). AllByRecursion IsShortReply (map (reply_shown q) xs)) (sym is) short);
@@ -152,8 +172,12 @@ answers_given p q r i j os ns rs ys is kept moves takes within short = record {
 pub replied_at : (rs : List ReplyValue) (l : LoneInstance) → (after_replies rs l).connections ≡ given rs l.connections
 replied_at rs l = ap (λ (k : LoneInstance). k.connections) (replied_is rs l)
 
-pub happens : {T E : Type 0} (result : Result T E) (parent : ViewValue) (p q r : Slots) (i j : InstanceSlots) (os ns : List OpenConnection) (what : CallEventValue) (rs : List Reply) → IsAnswered (replies_holders rs) (RepliesEndWithin rs) p q r i j (map connection_shown os) (map connection_shown ns) → IsServedBeside p parent (slots_of i os) →
-    map (reply_shown q) rs ≡ (answer (state_beside p parent i) what).replies → state_beside q parent j ≡ state_after (state_beside p parent i) what → OnOk result (AreGiven rs os ns) → OnOk result (ActsIn parent p i os r j ns (after_call_event what))
+pub happens : {T E : Type 0} (result : Result T E) (parent : ViewValue) (p q r : Slots) (i j : InstanceSlots) (os ns : List OpenConnection)
+    (what : CallEventValue) (rs : List Reply) → IsAnswered (replies_holders rs) (RepliesEndWithin rs) p q r i j (map connection_shown os)
+    (map connection_shown ns) → IsServedBeside p parent (slots_of i os) →
+    map (reply_shown q) rs ≡ (answer (state_beside p parent i) what).replies →
+    state_beside q parent j ≡ state_after (state_beside p parent i) what → OnOk result (AreGiven rs os ns) →
+    OnOk result (ActsIn parent p i os r j ns (after_call_event what))
 happens (Ok x) parent p q r i j os ns what rs a beside e f h = λ l st.
     let vs = map connection_shown os in
     let ws = map connection_shown ns in
@@ -161,13 +185,17 @@ happens (Ok x) parent p q r i j os ns what rs a beside e f h = λ l st.
     let asked : AreServed (text_at q) vs (open_ones l.connections) =
     served_agreed (text_at p) (text_at q) vs (open_ones l.connections) (asked_finds held p q i j vs a.kept a.moves) st.connections in
     let same : given (map (reply_by (text_at q)) rs) l.connections ≡ given (answer l.state what).replies l.connections =
-    ap (λ (ys : List ReplyValue). given ys l.connections) (replies_same q rs ∙ (e ∙ ap (λ (y : InstanceState). (answer y what).replies) st.state)) in
+    ap (λ (ys : List ReplyValue). given ys l.connections)
+    (replies_same q rs ∙ (e ∙ ap (λ (y : InstanceState). (answer y what).replies) st.state)) in
     let taken : AreServed (text_at q) ws (open_ones (given (answer l.state what).replies l.connections)) =
-    subst (λ (ks : List LoneConnection). AreServed (text_at q) ws (open_ones ks)) (replied_at (map (reply_by (text_at q)) rs) l ∙ same) (h (text_at q) l asked) in
+    subst (λ (ks : List LoneConnection). AreServed (text_at q) ws (open_ones ks)) (replied_at (map (reply_by (text_at q)) rs) l ∙ same)
+    (h (text_at q) l asked) in
     let k : LoneInstance = record l { state = state_after l.state what; connections = given (answer l.state what).replies l.connections } in
     let now : StandsBy (text_at r) (state_beside r parent j) ns k = record {
-      state = answered_beside held (RepliesEndWithin rs) parent p q r i j vs ws a beside ∙ (f ∙ ap (λ (y : InstanceState). state_after y what) st.state);
-      connections = served_agreed (text_at q) (text_at r) ws (open_ones k.connections) (taken_finds held (RepliesEndWithin rs) p q r i j vs ws a) taken;
+      state = answered_beside held (RepliesEndWithin rs) parent p q r i j vs ws a beside
+          ∙ (f ∙ ap (λ (y : InstanceState). state_after y what) st.state);
+      connections = served_agreed (text_at q) (text_at r) ws (open_ones k.connections)
+          (taken_finds held (RepliesEndWithin rs) p q r i j vs ws a) taken;
     } in
     subst (λ (x : LoneInstance). StandsBy (text_at r) (state_beside r parent j) ns x) (sym (happened_is what l)) now
 happens (Err x) parent p q r i j os ns what rs a beside e f h = tt

@@ -37,7 +37,8 @@ unchanged old new same = record { changes = []; so = same }
 changed : (change : JobChange JobValue) (jobs : Jobs JobValue) → Become jobs (jobs_after change jobs)
 changed change jobs = record { changes = change ∷ []; so = refl }
 
-after_both : (xs ys : List (JobChange JobValue)) (jobs : Jobs JobValue) → jobs_after_all (xs ++ ys) jobs ≡ jobs_after_all ys (jobs_after_all xs jobs)
+after_both : (xs ys : List (JobChange JobValue)) (jobs : Jobs JobValue) →
+    jobs_after_all (xs ++ ys) jobs ≡ jobs_after_all ys (jobs_after_all xs jobs)
 after_both [] ys jobs = refl
 after_both (x ∷ xs) ys jobs = after_both xs ys (jobs_after x jobs)
 
@@ -78,7 +79,8 @@ same_state s t u is h = become_both s.jobs t.jobs u.jobs h (unchanged t.jobs u.j
 -- ---- events
 
 happened_becomes : (event : CallEventValue) (l : LoneInstance) → Become l.state.jobs (after_call_event event l).state.jobs
-happened_becomes event l = same_state l.state (state_after l.state event) (after_call_event event l).state (happened_state event l) (changes_become (answer l.state event).changes l.state)
+happened_becomes event l = same_state l.state (state_after l.state event) (after_call_event event l).state (happened_state event l)
+    (changes_become (answer l.state event).changes l.state)
 
 cut_becomes : (es : List CallEventValue) (s t : InstanceState) → IsCutShort es s t → Become s.jobs t.jobs
 cut_becomes [] s t same = same_state s s t same (unchanged s.jobs s.jobs refl)
@@ -91,10 +93,12 @@ calls_become : (c : ℕ) (es : List CallEvent) (l : LoneInstance) → Become l.s
 calls_become c [] l = unchanged l.state.jobs l.state.jobs refl
 calls_become c (e ∷ es) l =
     let next : LoneInstance = after_call_event (call_event_on c e) l in
-    become_both l.state.jobs next.state.jobs (after_call_events c es next).state.jobs (happened_becomes (call_event_on c e) l) (calls_become c es next)
+    become_both l.state.jobs next.state.jobs (after_call_events c es next).state.jobs (happened_becomes (call_event_on c e) l)
+    (calls_become c es next)
 
 -- one thing happens, and then another
-two_become : (one other : CallEventValue) (l : LoneInstance) → Become l.state.jobs (after_call_event other (after_call_event one l)).state.jobs
+two_become : (one other : CallEventValue) (l : LoneInstance) →
+    Become l.state.jobs (after_call_event other (after_call_event one l)).state.jobs
 two_become one other l =
     let next : LoneInstance = after_call_event one l in
     become_both l.state.jobs next.state.jobs (after_call_event other next).state.jobs (happened_becomes one l) (happened_becomes other next)
@@ -103,10 +107,12 @@ effect_becomes : (what : WhatValue) (l : LoneInstance) → Become l.state.jobs (
 effect_becomes (opened c) l = unchanged l.state.jobs l.state.jobs refl
 effect_becomes (received c bytes) l =
     let next : LoneInstance = after_bytes_on c bytes l in
-    become_both l.state.jobs next.state.jobs (after_call_event start_jobs next).state.jobs (cut_becomes (bytes_events c bytes l) l.state next.state (all_done c bytes l)) (happened_becomes start_jobs next)
+    become_both l.state.jobs next.state.jobs (after_call_event start_jobs next).state.jobs
+    (cut_becomes (bytes_events c bytes l) l.state next.state (all_done c bytes l)) (happened_becomes start_jobs next)
 effect_becomes (took c count) l = unchanged l.state.jobs l.state.jobs refl
 effect_becomes (closed c) l =
-    calls_become c (option_map_or (λ p. cancels p.history) (open_at c l.connections) []) (record l { connections = with_closed c l.connections })
+    calls_become c (option_map_or (λ p. cancels p.history) (open_at c l.connections) [])
+    (record l { connections = with_closed c l.connections })
 effect_becomes tick l = two_become time_passes end_late_jobs l
 effect_becomes (ended number outcome) l = happened_becomes (end_job number outcome) l
 
@@ -118,7 +124,8 @@ stepped_become parent e l = go (refusal_of e l) where
 
 -- ---- what want of memory leaves
 
-ended_becomes : (n : ℕ) (l m : LoneInstance) (left : InstanceState) → m.state.jobs ≡ jobs_after (Queue.forgets n) left.jobs → Become l.state.jobs left.jobs → Become l.state.jobs m.state.jobs
+ended_becomes : (n : ℕ) (l m : LoneInstance) (left : InstanceState) → m.state.jobs ≡ jobs_after (Queue.forgets n) left.jobs →
+    Become l.state.jobs left.jobs → Become l.state.jobs m.state.jobs
 ended_becomes n l m left gone h =
     become_both l.state.jobs left.jobs m.state.jobs h (record { changes = Queue.forgets n ∷ []; so = gone })
 

@@ -35,7 +35,8 @@ instance_kept p v w same kept =
     }
 
 -- it finds its own texts where those of others come and go
-pub own_same : (p q : Slots) (i : InstanceSlots) (h g : Holders) → ((k : ℕ) → h k + holders_of_instance i k ≤ count_at p k) → Moves p q h g → state_in q i ≡ state_in p i
+pub own_same : (p q : Slots) (i : InstanceSlots) (h g : Holders) → ((k : ℕ) → h k + holders_of_instance i k ≤ count_at p k) →
+    Moves p q h g → state_in q i ≡ state_in p i
 own_same p q i h g held m =
     let texts : visible_in q i.view ≡ visible_in p i.view = view_same p q i.view h g (λ k. omega (arith, held k)) m in
     let jobs : jobs_in q i.jobs ≡ jobs_in p i.jobs = jobs_same p q i.jobs h g (λ k. omega (arith, held k)) m in
@@ -43,20 +44,25 @@ own_same p q i h g held m =
 
 -- ---- sources of ranges are released
 
-pub release_finds : (p q : Slots) (i : InstanceSlots) (vs ws : List ServedConnection) → IsServedInPool p (slots_at i vs) → Releases p vs q ws → AgreeOn (sources_at ws) (text_at p) (text_at q)
+pub release_finds : (p q : Slots) (i : InstanceSlots) (vs ws : List ServedConnection) → IsServedInPool p (slots_at i vs) →
+    Releases p vs q ws → AgreeOn (sources_at ws) (text_at p) (text_at q)
 release_finds p q i vs ws kept r k some = sym (r.moves.texts k (omega (arith, some, r.sources k, kept.counted k)))
 
-pub same_state : (p q : Slots) (i : InstanceSlots) (vs ws : List ServedConnection) → IsServedInPool p (slots_at i vs) → Releases p vs q ws → state_in q i ≡ state_in p i
+pub same_state : (p q : Slots) (i : InstanceSlots) (vs ws : List ServedConnection) → IsServedInPool p (slots_at i vs) → Releases p vs q ws →
+    state_in q i ≡ state_in p i
 same_state p q i vs ws kept r = own_same p q i _ no_holders (λ k. omega (arith, r.sources k, kept.counted k)) r.moves
 
-pub instance_after : (p q : Slots) (i : InstanceSlots) (vs ws : List ServedConnection) → IsServedInPool p (slots_at i vs) → Releases p vs q ws → IsInstanceInPool q i
+pub instance_after : (p q : Slots) (i : InstanceSlots) (vs ws : List ServedConnection) → IsServedInPool p (slots_at i vs) →
+    Releases p vs q ws → IsInstanceInPool q i
 instance_after p q i vs ws kept r = record {
   counted = λ k. omega (arith, r.moves.counts k, r.sources k, kept.counted k);
   others = λ k. omega (arith, r.moves.counts k, r.sources k, kept.others k, few_ranges p (slots_at i vs) k kept);
   within = subst IsInstanceWithin (sym (same_state p q i vs ws kept r)) kept.within.instance;
 }
 
-pub release_keeps : (p q : Slots) (i j : InstanceSlots) (vs ws : List ServedConnection) → IsServedInPool p (slots_at i vs) → Releases p vs q ws → ((k : ℕ) → holders_of_instance j k ≡ holders_of_instance i k) → IsInstanceInPool q j → length ws ≤ 64 → IsServedInPool q (slots_at j ws)
+pub release_keeps : (p q : Slots) (i j : InstanceSlots) (vs ws : List ServedConnection) → IsServedInPool p (slots_at i vs) →
+    Releases p vs q ws → ((k : ℕ) → holders_of_instance j k ≡ holders_of_instance i k) → IsInstanceInPool q j → length ws ≤ 64 →
+    IsServedInPool q (slots_at j ws)
 release_keeps p q i j vs ws kept r same new few = record {
   counted = λ k. omega (arith, r.moves.counts k, r.sources k, same k, kept.counted k);
   others = λ k. omega (arith, r.moves.counts k, r.sources k, same k, kept.others k);
@@ -66,7 +72,8 @@ release_keeps p q i j vs ws kept r same new few = record {
 }
 
 -- the connections alone are others, which hold the same
-pub alike_keeps : (p : Slots) (i : InstanceSlots) (vs ws : List ServedConnection) → IsServedInPool p (slots_at i vs) → AllKeepRanges vs ws → length ws ≤ 64 → IsServedInPool p (slots_at i ws)
+pub alike_keeps : (p : Slots) (i : InstanceSlots) (vs ws : List ServedConnection) → IsServedInPool p (slots_at i vs) → AllKeepRanges vs ws →
+    length ws ≤ 64 → IsServedInPool p (slots_at i ws)
 alike_keeps p i vs ws kept alike few = record {
   counted = λ k. omega (arith, alike.sources k, kept.counted k);
   others = λ k. omega (arith, alike.sources k, kept.others k);
@@ -75,11 +82,13 @@ alike_keeps p i vs ws kept alike few = record {
   few = alike.few kept.few;
 }
 
-pub alike_moves : (p : Slots) (i : InstanceSlots) (vs ws : List ServedConnection) → AllKeepRanges vs ws → Moves p p (holders_of (slots_at i vs)) (holders_of (slots_at i ws))
+pub alike_moves : (p : Slots) (i : InstanceSlots) (vs ws : List ServedConnection) → AllKeepRanges vs ws →
+    Moves p p (holders_of (slots_at i vs)) (holders_of (slots_at i ws))
 alike_moves p i vs ws alike = moves_none p (holders_of (slots_at i vs)) (holders_of (slots_at i ws)) (λ k. omega (arith, alike.sources k))
 
 -- the instance's moment is another, or its calls
-pub moment_keeps : (p : Slots) (i j : InstanceSlots) (vs : List ServedConnection) → IsServedInPool p (slots_at i vs) → ((k : ℕ) → holders_of_instance j k ≡ holders_of_instance i k) → IsInstanceInPool p j → IsServedInPool p (slots_at j vs)
+pub moment_keeps : (p : Slots) (i j : InstanceSlots) (vs : List ServedConnection) → IsServedInPool p (slots_at i vs) →
+    ((k : ℕ) → holders_of_instance j k ≡ holders_of_instance i k) → IsInstanceInPool p j → IsServedInPool p (slots_at j vs)
 moment_keeps p i j vs kept same new = record {
   counted = λ k. omega (arith, same k, kept.counted k);
   others = λ k. omega (arith, same k, kept.others k);

@@ -68,7 +68,8 @@ change_keeps (Does operation) s h = record { running = refl; more = []; waiting 
 change_keeps (Pushes job) s h = record { running = refl; more = (s.jobs.next, job) ∷ []; waiting = refl }
 change_keeps (Settles steps) s h = absurd h
 
-front_keeps : (made left : List InstanceChange) (s : InstanceState) → AreNoTurns (made ++ left) → KeepsJobs s.jobs (state_after_changes made s).jobs
+front_keeps : (made left : List InstanceChange) (s : InstanceState) → AreNoTurns (made ++ left) →
+    KeepsJobs s.jobs (state_after_changes made s).jobs
 front_keeps [] left s h = same_kept s.jobs
 front_keeps (x ∷ made) left s h =
     let next = state_after_change x s in
@@ -76,7 +77,8 @@ front_keeps (x ∷ made) left s h =
 
 -- ---- the changes of an event of a call
 
-mapped : {A : Type 0} (P : InstanceChange → Type 0) (f : A → InstanceChange) → ((x : A) → P (f x)) → (xs : List A) → AllByRecursion P (map f xs)
+mapped : {A : Type 0} (P : InstanceChange → Type 0) (f : A → InstanceChange) → ((x : A) → P (f x)) → (xs : List A) →
+    AllByRecursion P (map f xs)
 mapped P f h [] = tt
 mapped P f h (x ∷ xs) = (h x, mapped P f h xs)
 
@@ -88,37 +90,47 @@ and_then : (xs : List InstanceChange) (x : InstanceChange) → AreNoTurns xs →
 and_then xs x h k = all_append IsNoTurn xs (x ∷ []) h (k, tt)
 
 -- a text is used, or a part taken
-use_or_part : {A : Type 0} (f : A → InstanceChange) → ((x : A) → IsNoTurn (f x)) → (b : Bool) (x : A) (s : InstanceState) (part : PartValue) → AreNoTurns (cond b (f x ∷ []) (part_changes true s part))
+use_or_part : {A : Type 0} (f : A → InstanceChange) → ((x : A) → IsNoTurn (f x)) →
+    (b : Bool) (x : A) (s : InstanceState) (part : PartValue) → AreNoTurns (cond b (f x ∷ []) (part_changes true s part))
 use_or_part f h true x s part = (h x, tt)
 use_or_part f h false x s part = (tt, (tt, tt))
 
 first_changes_no_turn : (s : InstanceState) (bytes : List ℕ) → AreNoTurns (first_changes s bytes)
-first_changes_no_turn s bytes = on_result (λ r. AreNoTurns (changes_asked (first_part_changes s) r)) (λ asked. use_or_part Text (λ t. tt) _ _ s asked.part) (λ refusal. tt) _
+first_changes_no_turn s bytes = on_result (λ r. AreNoTurns (changes_asked (first_part_changes s) r))
+    (λ asked. use_or_part Text (λ t. tt) _ _ s asked.part) (λ refusal. tt) _
 
 next_changes_no_turn : (s : InstanceState) (write : OpenWriteValue) (bytes : List ℕ) → AreNoTurns (next_changes s write bytes)
-next_changes_no_turn s write bytes = on_result (λ r. AreNoTurns (changes_asked (part_changes false s) r)) (λ part. (tt, (tt, tt))) (λ refusal. tt) _
+next_changes_no_turn s write bytes = on_result (λ r. AreNoTurns (changes_asked (part_changes false s) r)) (λ part. (tt, (tt, tt)))
+    (λ refusal. tt) _
 
-first_no_turn : (id : CallId) (method : Method) (xs : List InstanceChange) (r : Result WrittenValue Refusal) → AreNoTurns xs → AreNoTurns (first_write_answer id method xs r).changes
+first_no_turn : (id : CallId) (method : Method) (xs : List InstanceChange) (r : Result WrittenValue Refusal) → AreNoTurns xs →
+    AreNoTurns (first_write_answer id method xs r).changes
 first_no_turn id method xs (Ok (Writing.Goes write)) h = and_then xs (Goes id (record { method = method; progress = writes write })) h tt
 first_no_turn id method xs (Ok (Writing.Answered reply)) h = and_then xs (Ends id) h tt
 first_no_turn id method xs (Err refusal) h = and_then xs (Ends id) h tt
 
-next_no_turn : (id : CallId) (xs : List InstanceChange) (r : Result (Option (List ℕ)) Refusal) → AreNoTurns xs → AreNoTurns (next_write_answer id xs r).changes
+next_no_turn : (id : CallId) (xs : List InstanceChange) (r : Result (Option (List ℕ)) Refusal) → AreNoTurns xs →
+    AreNoTurns (next_write_answer id xs r).changes
 next_no_turn id xs (Ok None) h = h
 next_no_turn id xs (Ok (Some reply)) h = and_then xs (Ends id) h tt
 next_no_turn id xs (Err refusal) h = and_then xs (Ends id) h tt
 
-first_message_no_turn : (s : InstanceState) (id : CallId) (method : Method) (bytes : List ℕ) → AreNoTurns (first_message_answer s id method bytes).changes
-first_message_no_turn s id Called.Write bytes = first_no_turn id Called.Write (first_changes s bytes) (first_outcome s bytes) (first_changes_no_turn s bytes)
+first_message_no_turn : (s : InstanceState) (id : CallId) (method : Method) (bytes : List ℕ) →
+    AreNoTurns (first_message_answer s id method bytes).changes
+first_message_no_turn s id Called.Write bytes =
+    first_no_turn id Called.Write (first_changes s bytes) (first_outcome s bytes) (first_changes_no_turn s bytes)
 first_message_no_turn s id method bytes = (tt, tt)
 
-by_progress_no_turn : (s : InstanceState) (id : CallId) (method : Method) (bytes : List ℕ) (p : ProgressValue) → AreNoTurns (answer_by_progress s id method bytes p).changes
+by_progress_no_turn : (s : InstanceState) (id : CallId) (method : Method) (bytes : List ℕ) (p : ProgressValue) →
+    AreNoTurns (answer_by_progress s id method bytes p).changes
 by_progress_no_turn s id method bytes waits = first_message_no_turn s id method bytes
 by_progress_no_turn s id method bytes (has first) = (tt, tt)
-by_progress_no_turn s id method bytes (writes write) = next_no_turn id (next_changes s write bytes) (next_outcome s write bytes) (next_changes_no_turn s write bytes)
+by_progress_no_turn s id method bytes (writes write) =
+    next_no_turn id (next_changes s write bytes) (next_outcome s write bytes) (next_changes_no_turn s write bytes)
 by_progress_no_turn s id method bytes (watches n) = tt
 
-message_no_turn : (s : InstanceState) (id : CallId) (bytes : List ℕ) (o : Option CallValue) → AreNoTurns (message_answer s id bytes o).changes
+message_no_turn : (s : InstanceState) (id : CallId) (bytes : List ℕ) (o : Option CallValue) →
+    AreNoTurns (message_answer s id bytes o).changes
 message_no_turn s id bytes None = tt
 message_no_turn s id bytes (Some call) = by_progress_no_turn s id call.method bytes call.progress
 
@@ -142,7 +154,8 @@ execution_no_turn (Executor.Does operation) = tt
 execution_no_turn (Executor.Pushes job) = tt
 
 execute_no_turn : (s : InstanceState) (request : List ℕ) → AreNoTurns (request_changes Called.Execute s request)
-execute_no_turn s request = on_result (λ r. AreNoTurns (execution_changes s r)) (λ asked. mapped IsNoTurn execution_change execution_no_turn (executed s asked).changes) (λ refusal. tt) _
+execute_no_turn s request = on_result (λ r. AreNoTurns (execution_changes s r))
+    (λ asked. mapped IsNoTurn execution_change execution_no_turn (executed s asked).changes) (λ refusal. tt) _
 
 request_no_turn : (s : InstanceState) (method : Method) (request : List ℕ) → AreNoTurns (request_changes method s request)
 request_no_turn s Called.FindMissingBlobs request = mapped IsNoTurn Text (λ t. tt) _
@@ -169,7 +182,8 @@ end_no_turn s id (Some call) = go call.progress where
   go waits = (tt, tt)
   go (has request) =
       let r = answer_to call.method s request in
-      and_then (request_changes call.method s request) (call_change id call.method r) (request_no_turn s call.method request) (last_no_turn id call.method r)
+      and_then (request_changes call.method s request) (call_change id call.method r) (request_no_turn s call.method request)
+      (last_no_turn id call.method r)
   go (writes write) = (tt, tt)
   go (watches n) = tt
 
@@ -187,7 +201,8 @@ event_no_turn c s (end_job n outcome) on = absurd on
 -- ---- received bytes
 
 -- a front of the changes of an event of a call was made
-made_keeps : (c : ℕ) (s t : InstanceState) (event : CallEventValue) → IsCallOn c event → MadeInPart (answer s event).changes s t → KeepsJobs s.jobs t.jobs
+made_keeps : (c : ℕ) (s t : InstanceState) (event : CallEventValue) → IsCallOn c event → MadeInPart (answer s event).changes s t →
+    KeepsJobs s.jobs t.jobs
 made_keeps c s t event on h =
     subst (λ (x : InstanceState). KeepsJobs s.jobs x.jobs) (sym h.so_far)
     (front_keeps h.made h.left s (subst AreNoTurns h.front (event_no_turn c s event on)))
@@ -197,7 +212,8 @@ event_keeps c s event on =
     let xs = (answer s event).changes in
     made_keeps c s (state_after s event) event on (record { made = xs; left = []; front = sym (append-nil xs); so_far = refl })
 
-cut_keeps : (c : ℕ) (events : List CallEventValue) (s t : InstanceState) → AllByRecursion (IsCallOn c) events → IsCutShort events s t → KeepsJobs s.jobs t.jobs
+cut_keeps : (c : ℕ) (events : List CallEventValue) (s t : InstanceState) → AllByRecursion (IsCallOn c) events → IsCutShort events s t →
+    KeepsJobs s.jobs t.jobs
 cut_keeps c [] s t on same = subst (λ (x : InstanceState). KeepsJobs s.jobs x.jobs) (sym same) (same_kept s.jobs)
 cut_keeps c (event ∷ events) s t on (inl part) = made_keeps c s t event on.0 part
 cut_keeps c (event ∷ events) s t on (inr rest) =
@@ -209,13 +225,15 @@ cut_keeps c (event ∷ events) s t on (inr rest) =
 effect_keeps : (what : WhatValue) (l m : LoneInstance) → IsNoOutcome what → IsCutEffect what l m → KeepsJobs l.state.jobs m.state.jobs
 effect_keeps (opened c) l m other is = subst (λ (k : LoneInstance). KeepsJobs l.state.jobs k.state.jobs) (sym is) (same_kept l.state.jobs)
 effect_keeps (received c bytes) l m other h =
-    subst (λ (k : LoneInstance). KeepsJobs l.state.jobs k.state.jobs) (sym h.gone) (cut_keeps c (bytes_events c bytes l) l.state h.left (bytes_on c bytes l) h.cut)
+    subst (λ (k : LoneInstance). KeepsJobs l.state.jobs k.state.jobs) (sym h.gone)
+    (cut_keeps c (bytes_events c bytes l) l.state h.left (bytes_on c bytes l) h.cut)
 effect_keeps (took c n) l m other h = absurd h
 effect_keeps (closed c) l m other h = absurd h
 effect_keeps tick l m other is = subst (λ (k : LoneInstance). KeepsJobs l.state.jobs k.state.jobs) (sym is) (same_kept l.state.jobs)
 effect_keeps (ended job outcome) l m other h = absurd other
 
-pub short_keeps : (parent : List Blob) (e : LoneEvent) (l m : LoneInstance) → IsNoOutcome e.what → Short parent e l m → KeepsJobs l.state.jobs m.state.jobs
+pub short_keeps : (parent : List Blob) (e : LoneEvent) (l m : LoneInstance) → IsNoOutcome e.what → Short parent e l m →
+    KeepsJobs l.state.jobs m.state.jobs
 short_keeps parent e l m other h = effect_keeps e.what (lone_at_moment e.moment parent l) m other h
 
 -- ---- the outcome of a job
@@ -226,7 +244,8 @@ IsStored (Text t) = Unit {0}
 IsStored (Keeps results) = Unit {0}
 IsStored other = ⊥
 
-stored_same : (made left : List InstanceChange) (s : InstanceState) → AllByRecursion IsStored (made ++ left) → (state_after_changes made s).jobs ≡ s.jobs
+stored_same : (made left : List InstanceChange) (s : InstanceState) → AllByRecursion IsStored (made ++ left) →
+    (state_after_changes made s).jobs ≡ s.jobs
 stored_same [] left s h = refl
 stored_same (Text t ∷ made) left s h = stored_same made left (state_after_change (Text t) s) h.1
 stored_same (Keeps results ∷ made) left s h = stored_same made left (state_after_change (Keeps results) s) h.1
@@ -238,20 +257,24 @@ stored_same (Does operation ∷ made) left s h = absurd h.0
 stored_same (Pushes job ∷ made) left s h = absurd h.0
 stored_same (Settles steps ∷ made) left s h = absurd h.0
 
-admitted_stored : {A : Type 0} (f : A → InstanceChange) → ((x : A) → IsStored (f x)) → (xs : List A) (results : List Blob) → AllByRecursion IsStored (map f xs ++ Keeps results ∷ [])
+admitted_stored : {A : Type 0} (f : A → InstanceChange) → ((x : A) → IsStored (f x)) → (xs : List A) (results : List Blob) →
+    AllByRecursion IsStored (map f xs ++ Keeps results ∷ [])
 admitted_stored f h xs results = all_append IsStored (map f xs) (Keeps results ∷ []) (mapped IsStored f h xs) (tt, tt)
 
 ending_stored : (s : InstanceState) (outcome : OutcomeValue) (o : Option JobValue) → AllByRecursion IsStored (ending_changes s outcome o)
 ending_stored s outcome None = tt
 ending_stored s outcome (Some job) = admitted_stored Text (λ t. tt) _ _
 
-ended_without : (n : ℕ) (outcome : OutcomeValue) (l m : LoneInstance) → IsEndedInPart n outcome l m → m.state.jobs ≡ jobs_without n l.state.jobs
+ended_without : (n : ℕ) (outcome : OutcomeValue) (l m : LoneInstance) → IsEndedInPart n outcome l m →
+    m.state.jobs ≡ jobs_without n l.state.jobs
 ended_without n outcome l m h =
     let all = subst (AllByRecursion IsStored) h.made.front (ending_stored l.state outcome (running_job n l.state.jobs)) in
-    let same : h.left.jobs ≡ l.state.jobs = ap (λ (x : InstanceState). x.jobs) h.made.so_far ∙ stored_same h.made.made h.made.left l.state all in
+    let same : h.left.jobs ≡ l.state.jobs = ap (λ (x : InstanceState). x.jobs) h.made.so_far
+    ∙ stored_same h.made.made h.made.left l.state all in
     ap (λ (k : LoneInstance). k.state.jobs) h.gone ∙ ap (jobs_without n) same
 
-pub short_ends : (parent : List Blob) (e : LoneEvent) (l m : LoneInstance) (n : ℕ) (outcome : OutcomeValue) → e.what ≡ ended n outcome → Short parent e l m → m.state.jobs ≡ jobs_without n l.state.jobs
+pub short_ends : (parent : List Blob) (e : LoneEvent) (l m : LoneInstance) (n : ℕ) (outcome : OutcomeValue) → e.what ≡ ended n outcome →
+    Short parent e l m → m.state.jobs ≡ jobs_without n l.state.jobs
 short_ends parent e l m n outcome is h =
     let at = lone_at_moment e.moment parent l in
     ended_without n outcome at m (subst (λ (w : WhatValue). IsCutEffect w at m) is h)

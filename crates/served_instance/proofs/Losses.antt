@@ -25,7 +25,8 @@ cut_by_rule (event ∷ events) s t (inr rest) =
     inr (made_by_rule event s (state_after s event) (all_made s event), cut_by_rule events (state_after s event) t rest)
 
 -- a front of what the job left is a front of all that its outcome changes
-front_made : (n : ℕ) (outcome : OutcomeValue) (s t : InstanceState) → MadeInPart (ending_changes s outcome (running_job n s.jobs)) s t → MadeInPart (answer s (end_job n outcome)).changes s t
+front_made : (n : ℕ) (outcome : OutcomeValue) (s t : InstanceState) → MadeInPart (ending_changes s outcome (running_job n s.jobs)) s t →
+    MadeInPart (answer s (end_job n outcome)).changes s t
 front_made n outcome s t h =
     let rest : List InstanceChange = Settles (steps_at s (end_job n outcome)) ∷ [] in
     record {
@@ -67,5 +68,6 @@ effect_loses (ended n outcome) l m h = record {
   uploads = ap (λ (k : LoneInstance). k.state.uploads) h.gone;
 }
 
-pub short_loses : (parent : List Blob) (e : LoneEvent) (l m : LoneInstance) → Short parent e l m → LosesByRules (events_of e.what (lone_at_moment e.moment parent l)) (lone_at_moment e.moment parent l).state m.state
+pub short_loses : (parent : List Blob) (e : LoneEvent) (l m : LoneInstance) → Short parent e l m →
+    LosesByRules (events_of e.what (lone_at_moment e.moment parent l)) (lone_at_moment e.moment parent l).state m.state
 short_loses parent e l m h = effect_loses e.what (lone_at_moment e.moment parent l) m h

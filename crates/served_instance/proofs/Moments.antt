@@ -43,7 +43,8 @@ changed_moment (Settles steps ∷ changes) s = changed_moment changes (state_aft
 
 replied_moment : (replies : List ReplyValue) (l : LoneInstance) → (after_replies replies l).state.moment ≡ l.state.moment
 replied_moment [] l = refl
-replied_moment (reply ∷ replies) l = replied_moment replies (record l { connections = at_open reply.call.connection (with_items reply.call.stream (owed_items reply.items)) l.connections })
+replied_moment (reply ∷ replies) l = replied_moment replies
+    (record l { connections = at_open reply.call.connection (with_items reply.call.stream (owed_items reply.items)) l.connections })
 
 happened_moment : (event : CallEventValue) (l : LoneInstance) → (after_call_event event l).state.moment ≡ l.state.moment
 happened_moment event l =
@@ -62,10 +63,12 @@ frames_moment : (c : ℕ) (fs : List RawFrame) (l : LoneInstance) → (after_fra
 frames_moment c [] l = refl
 frames_moment c (f ∷ fs) l = elim (cases_Bool (is_over c l)) [
   | inl over ↦ rw over refl
-  | inr goes_on ↦ rw goes_on (frames_moment c fs (after_frame_on c f l) ∙ due_moment c (record l { connections = at_open c (λ p. with_frame p f) l.connections }))
+  | inr goes_on ↦ rw goes_on (frames_moment c fs (after_frame_on c f l)
+      ∙ due_moment c (record l { connections = at_open c (λ p. with_frame p f) l.connections }))
 ]
 
-fault_moment : (c : ℕ) (e : FrameError) (l : LoneInstance) (code : Option ErrorCode) → (after_fault_on c e l code).state.moment ≡ l.state.moment
+fault_moment : (c : ℕ) (e : FrameError) (l : LoneInstance) (code : Option ErrorCode) →
+    (after_fault_on c e l code).state.moment ≡ l.state.moment
 fault_moment c e l None = refl
 fault_moment c e l (Some code) = due_moment c (record l { connections = at_open c (λ p. with_fault p e code) l.connections })
 
@@ -87,16 +90,19 @@ acted_moment (received c bytes) l =
     let m : LoneInstance = record l { connections = at_open c (with_bytes bytes) l.connections } in
     happened_moment start_jobs (after_bytes_on c bytes l) ∙ read_moment c m (open_at c m.connections)
 acted_moment (took c n) l = refl
-acted_moment (closed c) l = all_happened_moment c (option_map_or (λ p. cancels p.history) (open_at c l.connections) []) (record l { connections = with_closed c l.connections })
+acted_moment (closed c) l = all_happened_moment c (option_map_or (λ p. cancels p.history) (open_at c l.connections) [])
+    (record l { connections = with_closed c l.connections })
 acted_moment tick l = happened_moment end_late_jobs (after_call_event time_passes l) ∙ happened_moment time_passes l
 acted_moment (ended job outcome) l = happened_moment (end_job job outcome) l
 
-stepped_within : (parent : List Blob) (e : LoneEvent) (l : LoneInstance) (m : ℕ) (refusal : Option EventRefusal) → e.moment ≤ m → l.state.moment ≤ m → (after_event_unless parent e l refusal).state.moment ≤ m
+stepped_within : (parent : List Blob) (e : LoneEvent) (l : LoneInstance) (m : ℕ) (refusal : Option EventRefusal) → e.moment ≤ m →
+    l.state.moment ≤ m → (after_event_unless parent e l refusal).state.moment ≤ m
 stepped_within parent e l m None le late = subst (λ (n : ℕ). n ≤ m) (sym (acted_moment e.what (lone_at_moment e.moment parent l))) le
 stepped_within parent e l m (Some refusal) le late = late
 
 -- after an event an instance is not later than the event and than it was
-pub step_within : (parent : List Blob) (e : LoneEvent) (l : LoneInstance) (m : ℕ) → e.moment ≤ m → l.state.moment ≤ m → (lone_step parent e l).state.moment ≤ m
+pub step_within : (parent : List Blob) (e : LoneEvent) (l : LoneInstance) (m : ℕ) → e.moment ≤ m → l.state.moment ≤ m →
+    (lone_step parent e l).state.moment ≤ m
 step_within parent e l m le late = stepped_within parent e l m (refusal_of e l) le late
 
 -- ---- that bytes were taken is not refused
@@ -104,13 +110,17 @@ step_within parent e l m le late = stepped_within parent e l m (refusal_of e l) 
 off : {A : Type 0} (b : Bool) (x y : A) → b ≡ false → cond b x y ≡ y
 off b x y is = ap (λ (t : Bool). cond t x y) is
 
-taken_by : (n : ℕ) (bytes : List ℕ) (o : Option Past) → n ≤ length bytes → Some bytes ≡ option_map (λ (p : Past). pending_bytes p.history) o → option_map_or (λ (p : Past). cond (nat_lt (untaken_count p.history) n) (Some TookTooMuch) None) o (Some NoSuchConnection) ≡ None
+taken_by : (n : ℕ) (bytes : List ℕ) (o : Option Past) → n ≤ length bytes →
+    Some bytes ≡ option_map (λ (p : Past). pending_bytes p.history) o →
+    option_map_or (λ (p : Past). cond (nat_lt (untaken_count p.history) n) (Some TookTooMuch) None) o (Some NoSuchConnection) ≡ None
 taken_by n bytes None le is = absurd (none-some bytes (sym is))
 taken_by n bytes (Some p) le is =
     let same : length bytes ≡ untaken_count p.history = ap length (same_Some bytes (pending_bytes p.history) is) in
     off (nat_lt (untaken_count p.history) n) (Some TookTooMuch) None (le-ltb (untaken_count p.history) n (subst (λ (k : ℕ). n ≤ k) same le))
 
-pub took_taken : (m c n : ℕ) (bytes : List ℕ) (l : LoneInstance) → l.state.moment ≤ m → n ≤ length bytes → Some bytes ≡ option_map (λ (p : Past). pending_bytes p.history) (open_at c l.connections) → refusal_of (record { moment = m; what = took c n }) l ≡ None
+pub took_taken : (m c n : ℕ) (bytes : List ℕ) (l : LoneInstance) → l.state.moment ≤ m → n ≤ length bytes →
+    Some bytes ≡ option_map (λ (p : Past). pending_bytes p.history) (open_at c l.connections) →
+    refusal_of (record { moment = m; what = took c n }) l ≡ None
 took_taken m c n bytes l late le is =
     off (nat_lt m l.state.moment) (Some TimeWentBack) (refusal_of_what (took c n) l) (le-ltb m l.state.moment late)
     ∙ taken_by n bytes (open_at c l.connections) le is

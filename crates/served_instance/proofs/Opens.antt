@@ -24,7 +24,8 @@ one n p b = record { number = n; past = p; is_open = b }
 
 -- ---- the past of one
 
-past_at : (c n : ℕ) (p : Past) (b : Bool) (ks : List LoneConnection) → open_at c ks ≡ first_past c (open_ones ks) → open_at c (one n p b ∷ ks) ≡ first_past c (open_ones (one n p b ∷ ks))
+past_at : (c n : ℕ) (p : Past) (b : Bool) (ks : List LoneConnection) → open_at c ks ≡ first_past c (open_ones ks) →
+    open_at c (one n p b ∷ ks) ≡ first_past c (open_ones (one n p b ∷ ks))
 past_at c n p true ks h = ap (λ (r : Option Past). if n == c then Some p else r) h
 past_at c n p false ks h = h
 
@@ -34,12 +35,15 @@ open_at_is c (k ∷ ks) = past_at c k.number k.past k.is_open ks (open_at_is c k
 
 -- ---- a step of one
 
-changed_by : (c : ℕ) (step : Past → Past) (n : ℕ) (p : Past) (m : Bool) (ks : List LoneConnection) → open_ones (at_open c step ks) ≡ changed_at c step (open_ones ks) →
-    open_ones (if m then one n (step p) true ∷ ks else one n p true ∷ at_open c step ks) ≡ (if m then one n (step p) true ∷ open_ones ks else one n p true ∷ changed_at c step (open_ones ks))
+changed_by : (c : ℕ) (step : Past → Past) (n : ℕ) (p : Past) (m : Bool) (ks : List LoneConnection) →
+    open_ones (at_open c step ks) ≡ changed_at c step (open_ones ks) →
+    open_ones (if m then one n (step p) true ∷ ks else one n p true ∷ at_open c step ks)
+    ≡ (if m then one n (step p) true ∷ open_ones ks else one n p true ∷ changed_at c step (open_ones ks))
 changed_by c step n p true ks h = refl
 changed_by c step n p false ks h = ap (λ (r : List LoneConnection). one n p true ∷ r) h
 
-changed_more : (c : ℕ) (step : Past → Past) (n : ℕ) (p : Past) (b : Bool) (ks : List LoneConnection) → open_ones (at_open c step ks) ≡ changed_at c step (open_ones ks) →
+changed_more : (c : ℕ) (step : Past → Past) (n : ℕ) (p : Past) (b : Bool) (ks : List LoneConnection) →
+    open_ones (at_open c step ks) ≡ changed_at c step (open_ones ks) →
     open_ones (at_open c step (one n p b ∷ ks)) ≡ changed_at c step (open_ones (one n p b ∷ ks))
 changed_more c step n p true ks h = changed_by c step n p (n == c) ks h
 changed_more c step n p false ks h = h
@@ -51,7 +55,8 @@ at_open_is c step (k ∷ ks) = changed_more c step k.number k.past k.is_open ks 
 -- ---- the end of one
 
 closed_by : (c n : ℕ) (p : Past) (m : Bool) (ks : List LoneConnection) → open_ones (with_closed c ks) ≡ without_at c (open_ones ks) →
-    open_ones (if m then one n p false ∷ ks else one n p true ∷ with_closed c ks) ≡ (if m then open_ones ks else one n p true ∷ without_at c (open_ones ks))
+    open_ones (if m then one n p false ∷ ks else one n p true ∷ with_closed c ks)
+    ≡ (if m then open_ones ks else one n p true ∷ without_at c (open_ones ks))
 closed_by c n p true ks h = refl
 closed_by c n p false ks h = ap (λ (r : List LoneConnection). one n p true ∷ r) h
 
@@ -66,11 +71,13 @@ closed_at_is c (k ∷ ks) = closed_more c k.number k.past k.is_open ks (closed_a
 
 -- ---- a step of each
 
-all_more : (step : Past → Past) (n : ℕ) (p : Past) (b : Bool) (ks : List LoneConnection) → open_ones (at_all_open step ks) ≡ map (stepped_by step) (open_ones ks) →
+all_more : (step : Past → Past) (n : ℕ) (p : Past) (b : Bool) (ks : List LoneConnection) →
+    open_ones (at_all_open step ks) ≡ map (stepped_by step) (open_ones ks) →
     open_ones (at_all_open step (one n p b ∷ ks)) ≡ map (stepped_by step) (open_ones (one n p b ∷ ks))
 all_more step n p true ks h = ap (λ (r : List LoneConnection). one n (step p) true ∷ r) h
 all_more step n p false ks h = h
 
-pub at_all_open_is : (step : Past → Past) (ks : List LoneConnection) → open_ones (at_all_open step ks) ≡ map (stepped_by step) (open_ones ks)
+pub at_all_open_is : (step : Past → Past) (ks : List LoneConnection) →
+    open_ones (at_all_open step ks) ≡ map (stepped_by step) (open_ones ks)
 at_all_open_is step [] = refl
 at_all_open_is step (k ∷ ks) = all_more step k.number k.past k.is_open ks (at_all_open_is step ks)

@@ -19,7 +19,8 @@ later : (i : ℕ) (r : Option ℕ) → option_map (λ (j : ℕ). (i + 1) + j) r 
 later i None = refl
 later i (Some j) = ap Some (omega arith)
 
-place_by : (i : ℕ) (b : Bool) (r s : Option ℕ) → r ≡ option_map (λ (j : ℕ). (i + 1) + j) s → (if b then Some i else r) ≡ option_map (λ (j : ℕ). i + j) (if b then Some 0 else option_map suc s)
+place_by : (i : ℕ) (b : Bool) (r s : Option ℕ) → r ≡ option_map (λ (j : ℕ). (i + 1) + j) s →
+    (if b then Some i else r) ≡ option_map (λ (j : ℕ). i + j) (if b then Some 0 else option_map suc s)
 place_by i true r s h = ap Some (omega arith)
 place_by i false r s h = h ∙ later i s
 
@@ -40,7 +41,8 @@ IsPlace c [] k = ⊥
 IsPlace c (o ∷ os) zero = (o.number == c) ≡ true
 IsPlace c (o ∷ os) (suc k) = ((o.number == c) ≡ false) × IsPlace c os k
 
-found_by : (c : ℕ) (o : OpenConnection) (os : List OpenConnection) (r : Option ℕ) (k : ℕ) (b : Bool) → o.number == c ≡ b → ((j : ℕ) → r ≡ Some j → IsPlace c os j) → (if b then Some 0 else option_map suc r) ≡ Some k → IsPlace c (o ∷ os) k
+found_by : (c : ℕ) (o : OpenConnection) (os : List OpenConnection) (r : Option ℕ) (k : ℕ) (b : Bool) → o.number == c ≡ b →
+    ((j : ℕ) → r ≡ Some j → IsPlace c os j) → (if b then Some 0 else option_map suc r) ≡ Some k → IsPlace c (o ∷ os) k
 found_by c o os r zero true e h f = e
 found_by c o os r (suc k) true e h f = let same : 0 ≡ suc k = cc in absurd (omega arith)
 found_by c o os (Some j) zero false e h f = let same : suc j ≡ 0 = cc in absurd (omega arith)
@@ -62,22 +64,27 @@ later_by : (b : Bool) (v : ConnectionValue) (r s : Option ConnectionValue) → b
 later_by true v r s e h = cc
 later_by false v r s e h = h
 
-connection_of : (c : ℕ) (os : List OpenConnection) (k : ℕ) (d : OpenConnection) → IsPlace c os k → Some (get_or os k d).connection ≡ connection_at c (map connection_shown os)
+connection_of : (c : ℕ) (os : List OpenConnection) (k : ℕ) (d : OpenConnection) → IsPlace c os k →
+    Some (get_or os k d).connection ≡ connection_at c (map connection_shown os)
 connection_of c [] k d h = absurd h
 connection_of c (o ∷ os) zero d h = at_by (o.number == c) o.connection (connection_at c (map connection_shown os)) h
-connection_of c (o ∷ os) (suc k) d h = later_by (o.number == c) o.connection (connection_at c (map connection_shown os)) (Some (get_or os k d).connection) h.0 (connection_of c os k d h.1)
+connection_of c (o ∷ os) (suc k) d h = later_by (o.number == c) o.connection (connection_at c (map connection_shown os))
+    (Some (get_or os k d).connection) h.0 (connection_of c os k d h.1)
 
-pub place_some : (c : ℕ) (os : List OpenConnection) (k : ℕ) (d : OpenConnection) → position (is_numbered c) os ≡ Some k → Some (get_or os k d).connection ≡ connection_at c (map connection_shown os)
+pub place_some : (c : ℕ) (os : List OpenConnection) (k : ℕ) (d : OpenConnection) → position (is_numbered c) os ≡ Some k →
+    Some (get_or os k d).connection ≡ connection_at c (map connection_shown os)
 place_some c os k d h = connection_of c os k d (is_place c os k h)
 
-none_by : (b : Bool) (r : Option ℕ) (v : ConnectionValue) (s : Option ConnectionValue) → (r ≡ None → None ≡ s) → (if b then Some 0 else option_map suc r) ≡ None → None ≡ (if b then Some v else s)
+none_by : (b : Bool) (r : Option ℕ) (v : ConnectionValue) (s : Option ConnectionValue) → (r ≡ None → None ≡ s) →
+    (if b then Some 0 else option_map suc r) ≡ None → None ≡ (if b then Some v else s)
 none_by true r v s h f = cc
 none_by false None v s h f = h refl
 none_by false (Some j) v s h f = cc
 
 none_at : (c : ℕ) (os : List OpenConnection) → place_of c os ≡ None → None ≡ connection_at c (map connection_shown os)
 none_at c [] h = refl
-none_at c (o ∷ os) h = none_by (o.number == c) (place_of c os) o.connection (connection_at c (map connection_shown os)) (λ e. none_at c os e) h
+none_at c (o ∷ os) h = none_by (o.number == c) (place_of c os) o.connection (connection_at c (map connection_shown os))
+    (λ e. none_at c os e) h
 
 pub place_none : (c : ℕ) (os : List OpenConnection) → position (is_numbered c) os ≡ None → None ≡ connection_at c (map connection_shown os)
 place_none c os h = none_at c os (sym (place_is c os) ∙ h)
@@ -105,14 +112,18 @@ there c [] k h n = absurd h
 there c (o ∷ os) zero h n = there_by (o.number == c) o.connection (connection_at c (map connection_shown os)) h n
 there c (o ∷ os) (suc k) h n = there c os k h.1 (not_here (o.number == c) o.connection (connection_at c (map connection_shown os)) h.0 n)
 
-pub place_there : (c k : ℕ) (os : List OpenConnection) → position (is_numbered c) os ≡ Some k → connection_at c (map connection_shown os) ≡ None → ⊥
+pub place_there : (c k : ℕ) (os : List OpenConnection) → position (is_numbered c) os ≡ Some k →
+    connection_at c (map connection_shown os) ≡ None → ⊥
 place_there c k os h n = there c os k (is_place c os k h) n
 
 -- one becomes another of its number
-stays : (c : ℕ) (os : List OpenConnection) (k : ℕ) (d : OpenConnection) (w : ConnectionValue) → place_of c (set os k (record { number = (get_or os k d).number; connection = w })) ≡ place_of c os
+stays : (c : ℕ) (os : List OpenConnection) (k : ℕ) (d : OpenConnection) (w : ConnectionValue) →
+    place_of c (set os k (record { number = (get_or os k d).number; connection = w })) ≡ place_of c os
 stays c [] k d w = refl
 stays c (o ∷ os) zero d w = refl
 stays c (o ∷ os) (suc k) d w = ap (λ (r : Option ℕ). if o.number == c then Some 0 else option_map suc r) (stays c os k d w)
 
-pub places_kept : (os : List OpenConnection) (k : ℕ) (d : OpenConnection) (w : ConnectionValue) → StayInPlace os (set os k (record { number = (get_or os k d).number; connection = w }))
-places_kept os k d w = λ c. place_is c (set os k (record { number = (get_or os k d).number; connection = w })) ∙ stays c os k d w ∙ sym (place_is c os)
+pub places_kept : (os : List OpenConnection) (k : ℕ) (d : OpenConnection) (w : ConnectionValue) →
+    StayInPlace os (set os k (record { number = (get_or os k d).number; connection = w }))
+places_kept os k d w = λ c. place_is c (set os k (record { number = (get_or os k d).number; connection = w })) ∙ stays c os k d w
+    ∙ sym (place_is c os)

@@ -15,7 +15,8 @@ use Rattle.served_instance.specs.Acts.{slots_of}
 use Rattle.served_instance.proofs.Kept.{few_connections, instance_after, release_finds, release_keeps, same_state}
 use Rattle.served_instance.proofs.Ranges.{served_agreed}
 
-pub counted_ranges : (p : Slots) (i : InstanceSlots) (os : List OpenConnection) → IsServedInPool p (slots_of i os) → (k : ℕ) → range_holders (map connection_shown os) k ≤ count_at p k
+pub counted_ranges : (p : Slots) (i : InstanceSlots) (os : List OpenConnection) → IsServedInPool p (slots_of i os) → (k : ℕ) →
+    range_holders (map connection_shown os) k ≤ count_at p k
 counted_ranges p i os kept k = omega (arith, kept.counted k)
 
 -- what the instance is afterwards
@@ -26,26 +27,31 @@ pub record IsPumped (p q : Slots) (i : InstanceSlots) (os ns : List OpenConnecti
 
 -- the connections put all that can be put, and released what no range is left of
 pub record PumpsAll (p q : Slots) (os ns : List OpenConnection) : Type 0 where
-  pub stands : (ks : List LoneConnection) → AreServed (text_at p) (map connection_shown os) (open_ones ks) → AreServed (text_at p) (map connection_shown ns) (open_ones (at_all_open with_pumped ks))
+  pub stands : (ks : List LoneConnection) → AreServed (text_at p) (map connection_shown os) (open_ones ks) →
+      AreServed (text_at p) (map connection_shown ns) (open_ones (at_all_open with_pumped ks))
   pub tidy : AreTidy (map connection_shown ns)
   pub releases : Releases p (map connection_shown os) q (map connection_shown ns)
   pub count : length ns ≡ length os
 
-is_pumped : (p q : Slots) (i : InstanceSlots) (os ns : List OpenConnection) → IsServedInPool p (slots_of i os) → PumpsAll p q os ns → IsPumped p q i os ns
+is_pumped : (p q : Slots) (i : InstanceSlots) (os ns : List OpenConnection) → IsServedInPool p (slots_of i os) → PumpsAll p q os ns →
+    IsPumped p q i os ns
 is_pumped p q i os ns kept pumped = record {
   stands = λ l st.
       let vs = map connection_shown ns in
       record {
         state = same_state p q i (map connection_shown os) vs kept pumped.releases ∙ st.state;
-        connections = served_agreed (text_at p) (text_at q) vs (open_ones (after_pump l).connections) (release_finds p q i (map connection_shown os) vs kept pumped.releases) (pumped.stands l.connections st.connections);
+        connections = served_agreed (text_at p) (text_at q) vs (open_ones (after_pump l).connections)
+            (release_finds p q i (map connection_shown os) vs kept pumped.releases) (pumped.stands l.connections st.connections);
       };
   tidy = pumped.tidy;
-  kept = release_keeps p q i i (map connection_shown os) (map connection_shown ns) kept pumped.releases (λ k. refl) (instance_after p q i (map connection_shown os) (map connection_shown ns) kept pumped.releases)
+  kept = release_keeps p q i i (map connection_shown os) (map connection_shown ns) kept pumped.releases (λ k. refl)
+      (instance_after p q i (map connection_shown os) (map connection_shown ns) kept pumped.releases)
       (omega (arith, pumped.count, few_connections p (slots_of i os) kept, length-map os connection_shown, length-map ns connection_shown));
 }
 
 -- through a slice: os were seen as xs, which became ns, and are zs now
-pub pumped_written : (p q : Slots) (i : InstanceSlots) (os xs ns zs : List OpenConnection) → xs ≡ os → zs ≡ ns → IsServedInPool p (slots_of i os) → PumpsAll p q xs ns → IsPumped p q i os zs
+pub pumped_written : (p q : Slots) (i : InstanceSlots) (os xs ns zs : List OpenConnection) → xs ≡ os → zs ≡ ns →
+    IsServedInPool p (slots_of i os) → PumpsAll p q xs ns → IsPumped p q i os zs
 pumped_written p q i os xs ns zs seen back kept pumped =
     subst (λ (ys : List OpenConnection). IsPumped p q i os ys) (sym back)
     (is_pumped p q i os ns kept (subst (λ (ys : List OpenConnection). PumpsAll p q ys ns) seen pumped))

@@ -36,42 +36,68 @@ no_pieces texts [] fit none = refl
 no_pieces texts (Encoded block ∷ ps) fit none = let no : Block block ∷ flat_map (pieces_in texts) ps ≡ [] = none in cc
 no_pieces texts (Framed bytes ∷ ps) fit none = let no : Part bytes [] ∷ flat_map (pieces_in texts) ps ≡ [] = none in cc
 no_pieces texts (Ranged s ∷ ps) fit none =
-    let first : span_pieces most_read s (texts s.source) ≡ Part (span_front most_read s (texts s.source)) (span_ends most_read s (texts s.source)) ∷ span_rest most_read s (texts s.source) = span_is most_read s (texts s.source) (omega arith) fit.0 in
-    let no : Part (span_front most_read s (texts s.source)) (span_ends most_read s (texts s.source)) ∷ (span_rest most_read s (texts s.source) ++ flat_map (pieces_in texts) ps) ≡ [] =
+    let first : span_pieces most_read s (texts s.source)
+    ≡ Part (span_front most_read s (texts s.source)) (span_ends most_read s (texts s.source)) ∷ span_rest most_read s (texts s.source) =
+    span_is most_read s (texts s.source) (omega arith) fit.0 in
+    let no : Part (span_front most_read s (texts s.source)) (span_ends most_read s (texts s.source)) ∷
+    (span_rest most_read s (texts s.source) ++ flat_map (pieces_in texts) ps) ≡ [] =
     sym (ap (λ (xs : List Piece). xs ++ flat_map (pieces_in texts) ps) first) ∙ none in
     cc
 
-plain_none : (texts : SourceTexts) (s : ℕ) (qs : List StoredQueue) → QueuesEndWithin texts qs → pieces_on s (map (queue_in texts) qs) ≡ [] → stored_on s qs ≡ []
+plain_none : (texts : SourceTexts) (s : ℕ) (qs : List StoredQueue) → QueuesEndWithin texts qs → pieces_on s (map (queue_in texts) qs) ≡ [] →
+    stored_on s qs ≡ []
 plain_none texts s qs fit none = no_pieces texts (stored_on s qs) (fit s) (sym (on_in texts s qs) ∙ none)
 
 -- what is seen of a connection stands for what it stands for by these texts
-seen_connection : (texts : SourceTexts) (s : ServedConnection) (p : Past) → IsConnection texts s.connection p → IsSeen (sending_in texts s.connection.sending) (seen_with texts s).connection p
+seen_connection : (texts : SourceTexts) (s : ServedConnection) (p : Past) → IsConnection texts s.connection p →
+    IsSeen (sending_in texts s.connection.sending) (seen_with texts s).connection p
 seen_connection texts s p h = record {
   ended = h.ended;
   streams = h.streams;
   sending = h.sending;
   due = h.due;
   over = λ failed t. seen_none texts t s.connection.sending.queues (h.over failed t);
-  alive = λ e. let a = h.alive e in record { reader = a.reader; calls = a.calls; order = a.order; live = λ t out. seen_none texts t s.connection.sending.queues (a.live t out); finished = λ t was. let k = a.finished t was in (k.0, seen_none texts t s.connection.sending.queues k.1); counted = a.counted };
+  alive = λ e. let a = h.alive e in record {
+    reader = a.reader;
+    calls = a.calls;
+    order = a.order;
+    live =
+        λ t out. seen_none texts t s.connection.sending.queues (a.live t out);
+    finished = λ t was. let k = a.finished t was in
+        (k.0, seen_none texts t s.connection.sending.queues k.1);
+    counted = a.counted;
+  };
 }
 
-plain_connection : (texts : SourceTexts) (s : ServedConnection) (p : Past) → QueuesEndWithin texts s.connection.sending.queues → IsSeen (sending_in texts s.connection.sending) (seen_with texts s).connection p → IsConnection texts s.connection p
+plain_connection : (texts : SourceTexts) (s : ServedConnection) (p : Past) → QueuesEndWithin texts s.connection.sending.queues →
+    IsSeen (sending_in texts s.connection.sending) (seen_with texts s).connection p → IsConnection texts s.connection p
 plain_connection texts s p fit h = record {
   ended = h.ended;
   streams = h.streams;
   sending = h.sending;
   due = h.due;
   over = λ failed t. plain_none texts t s.connection.sending.queues fit (h.over failed t);
-  alive = λ e. let a = h.alive e in record { reader = a.reader; calls = a.calls; order = a.order; live = λ t out. plain_none texts t s.connection.sending.queues fit (a.live t out); finished = λ t was. let k = a.finished t was in (k.0, plain_none texts t s.connection.sending.queues fit k.1); counted = a.counted };
+  alive = λ e. let a = h.alive e in record {
+    reader = a.reader;
+    calls = a.calls;
+    order = a.order;
+    live =
+        λ t out. plain_none texts t s.connection.sending.queues fit (a.live t out);
+    finished = λ t was. let k = a.finished t was in
+        (k.0, plain_none texts t s.connection.sending.queues fit k.1);
+    counted = a.counted;
+  };
 }
 
-pub seen_served : (texts : SourceTexts) (vs : List ServedConnection) (ls : List LoneConnection) → AreServed texts vs ls → AreSeen (map (seen_with texts) vs) ls
+pub seen_served : (texts : SourceTexts) (vs : List ServedConnection) (ls : List LoneConnection) → AreServed texts vs ls →
+    AreSeen (map (seen_with texts) vs) ls
 seen_served texts [] [] s = tt
 seen_served texts [] (l ∷ ls) s = absurd s
 seen_served texts (v ∷ vs) [] s = absurd s
 seen_served texts (v ∷ vs) (l ∷ ls) s = (s.0, seen_connection texts v l.past s.1, seen_served texts vs ls s.2)
 
-pub plain_served : (texts : SourceTexts) (vs : List ServedConnection) (ls : List LoneConnection) → RangesEndWithin texts vs → AreSeen (map (seen_with texts) vs) ls → AreServed texts vs ls
+pub plain_served : (texts : SourceTexts) (vs : List ServedConnection) (ls : List LoneConnection) → RangesEndWithin texts vs →
+    AreSeen (map (seen_with texts) vs) ls → AreServed texts vs ls
 plain_served texts [] [] fit s = tt
 plain_served texts [] (l ∷ ls) fit s = absurd s
 plain_served texts (v ∷ vs) [] fit s = absurd s
@@ -80,15 +106,18 @@ plain_served texts (v ∷ vs) (l ∷ ls) fit s = (s.0, plain_connection texts v 
 -- ---- only the texts of their sources matter
 
 -- of the first connection's ranges, and of the others
-agree_first : (t u : SourceTexts) (v : ServedConnection) (vs : List ServedConnection) → AgreeOn (sources_at (v ∷ vs)) t u → AgreeOn (sources_held v.connection.sending.queues) t u
+agree_first : (t u : SourceTexts) (v : ServedConnection) (vs : List ServedConnection) → AgreeOn (sources_at (v ∷ vs)) t u →
+    AgreeOn (sources_held v.connection.sending.queues) t u
 agree_first t u v vs h =
     agree_left t u (sources_held v.connection.sending.queues) v.connection.sending.spent
     (agree_left t u (sources_of v.connection.sending) (sources_at vs) h)
 
-agree_others : (t u : SourceTexts) (v : ServedConnection) (vs : List ServedConnection) → AgreeOn (sources_at (v ∷ vs)) t u → AgreeOn (sources_at vs) t u
+agree_others : (t u : SourceTexts) (v : ServedConnection) (vs : List ServedConnection) → AgreeOn (sources_at (v ∷ vs)) t u →
+    AgreeOn (sources_at vs) t u
 agree_others t u v vs h = agree_right t u (sources_of v.connection.sending) (sources_at vs) h
 
-connection_agreed : (t u : SourceTexts) (v : ConnectionValue) (p : Past) → AgreeOn (sources_held v.sending.queues) t u → IsConnection t v p → IsConnection u v p
+connection_agreed : (t u : SourceTexts) (v : ConnectionValue) (p : Past) → AgreeOn (sources_held v.sending.queues) t u →
+    IsConnection t v p → IsConnection u v p
 connection_agreed t u v p agree st = record {
   ended = st.ended;
   streams = st.streams;
@@ -98,14 +127,16 @@ connection_agreed t u v p agree st = record {
   alive = st.alive;
 }
 
-pub served_agreed : (t u : SourceTexts) (vs : List ServedConnection) (ls : List LoneConnection) → AgreeOn (sources_at vs) t u → AreServed t vs ls → AreServed u vs ls
+pub served_agreed : (t u : SourceTexts) (vs : List ServedConnection) (ls : List LoneConnection) → AgreeOn (sources_at vs) t u →
+    AreServed t vs ls → AreServed u vs ls
 served_agreed t u [] [] h s = tt
 served_agreed t u [] (l ∷ ls) h s = absurd s
 served_agreed t u (v ∷ vs) [] h s = absurd s
 served_agreed t u (v ∷ vs) (l ∷ ls) h s =
     (s.0, connection_agreed t u v.connection l.past (agree_first t u v vs h) s.1, served_agreed t u vs ls (agree_others t u v vs h) s.2)
 
-pub fit_agreed_each : (t u : SourceTexts) (vs : List ServedConnection) → AgreeOn (sources_at vs) t u → RangesEndWithin t vs → RangesEndWithin u vs
+pub fit_agreed_each : (t u : SourceTexts) (vs : List ServedConnection) → AgreeOn (sources_at vs) t u → RangesEndWithin t vs →
+    RangesEndWithin u vs
 fit_agreed_each t u [] h fit = fit
 fit_agreed_each t u (v ∷ vs) h fit =
     (fit_agreed t u v.connection.sending (agree_first t u v vs h) fit.0, fit_agreed_each t u vs (agree_others t u v vs h) fit.1)
@@ -125,28 +156,44 @@ alike_trans us vs ws a b = record {
 -- one more in front of them
 alike_behind : (v : ServedConnection) (vs ws : List ServedConnection) → AllKeepRanges vs ws → AllKeepRanges (v ∷ vs) (v ∷ ws)
 alike_behind v vs ws h = record {
-  sources = λ k. omega (arith, h.sources k, count_append k (sources_of v.connection.sending) (sources_at vs), count_append k (sources_of v.connection.sending) (sources_at ws));
+  sources = λ k. omega (
+    arith,
+    h.sources k,
+    count_append k (sources_of v.connection.sending) (sources_at vs),
+    count_append k
+        (sources_of v.connection.sending) (sources_at ws),
+  );
   few = λ f. (f.0, h.few f.1);
   fit = λ texts f. (f.0, h.fit texts f.1);
 }
 
-alike_first : (v w : ServedConnection) (vs : List ServedConnection) → KeepsRanges v.connection w.connection → AllKeepRanges (v ∷ vs) (w ∷ vs)
+alike_first : (v w : ServedConnection) (vs : List ServedConnection) → KeepsRanges v.connection w.connection →
+    AllKeepRanges (v ∷ vs) (w ∷ vs)
 alike_first v w vs h = record {
-  sources = λ k. omega (arith, h.sources k, count_append k (sources_of v.connection.sending) (sources_at vs), count_append k (sources_of w.connection.sending) (sources_at vs));
+  sources = λ k. omega (
+    arith,
+    h.sources k,
+    count_append k (sources_of v.connection.sending) (sources_at vs),
+    count_append k
+        (sources_of w.connection.sending) (sources_at vs),
+  );
   few = λ f. (λ k. omega (arith, h.sources k, f.0 k), f.1);
   fit = λ texts f. (h.fit texts f.0, f.1);
 }
 
 -- the connection at a place became another that holds the same sources
-pub alike_place : (os : List OpenConnection) (k : ℕ) (d : OpenConnection) (w : ConnectionValue) → KeepsRanges (get_or os k d).connection w → HoldAlike os (set os k (record { number = (get_or os k d).number; connection = w }))
+pub alike_place : (os : List OpenConnection) (k : ℕ) (d : OpenConnection) (w : ConnectionValue) → KeepsRanges (get_or os k d).connection w →
+    HoldAlike os (set os k (record { number = (get_or os k d).number; connection = w }))
 alike_place [] k d w h = alike_here []
-alike_place (o ∷ os) zero d w h = alike_first (connection_shown o) (connection_shown (record { number = o.number; connection = w })) (map connection_shown os) h
+alike_place (o ∷ os) zero d w h = alike_first (connection_shown o) (connection_shown (record { number = o.number; connection = w }))
+    (map connection_shown os) h
 alike_place (o ∷ os) (suc k) d w h = alike_behind (connection_shown o) (map connection_shown os) _ (alike_place os k d w h)
 
 -- other bytes wait, and the same is to be put
 pub keeps_queues : (v w : ConnectionValue) → w.sending.queues ≡ v.sending.queues → w.sending.spent ≡ v.sending.spent → KeepsRanges v w
 keeps_queues v w q s = record {
-  sources = λ k. ap (λ (qs : List StoredQueue). count_of k (sources_held qs ++ w.sending.spent)) q ∙ ap (λ (ns : List ℕ). count_of k (sources_held v.sending.queues ++ ns)) s;
+  sources = λ k. ap (λ (qs : List StoredQueue). count_of k (sources_held qs ++ w.sending.spent)) q
+      ∙ ap (λ (ns : List ℕ). count_of k (sources_held v.sending.queues ++ ns)) s;
   fit = λ texts h. subst (λ (qs : List StoredQueue). QueuesEndWithin texts qs) (sym q) h;
 }
 
@@ -162,28 +209,35 @@ keeps_trans u v w a b = record {
   fit = λ texts h. b.fit texts (a.fit texts h);
 }
 
-pub fit_at : (texts : SourceTexts) (os : List OpenConnection) (i : ℕ) (d : OpenConnection) → i < length os → RangesEndWithin texts (map connection_shown os) → QueuesEndWithin texts (get_or os i d).connection.sending.queues
+pub fit_at : (texts : SourceTexts) (os : List OpenConnection) (i : ℕ) (d : OpenConnection) → i < length os →
+    RangesEndWithin texts (map connection_shown os) → QueuesEndWithin texts (get_or os i d).connection.sending.queues
 fit_at texts [] i d lt f = absurd (omega arith)
 fit_at texts (o ∷ os) zero d lt f = f.0
 fit_at texts (o ∷ os) (suc i) d lt f = fit_at texts os i d (omega arith) f.1
 
 -- the connection at a place became another that holds the same sources
-pub alike_set : (os : List OpenConnection) (i : ℕ) (d w : OpenConnection) → i < length os → KeepsRanges (get_or os i d).connection w.connection → HoldAlike os (set os i w)
+pub alike_set : (os : List OpenConnection) (i : ℕ) (d w : OpenConnection) → i < length os →
+    KeepsRanges (get_or os i d).connection w.connection → HoldAlike os (set os i w)
 alike_set [] i d w lt h = absurd (omega arith)
 alike_set (o ∷ os) zero d w lt h = alike_first (connection_shown o) (connection_shown w) (map connection_shown os) h
-alike_set (o ∷ os) (suc i) d w lt h = alike_behind (connection_shown o) (map connection_shown os) (map connection_shown (set os i w)) (alike_set os i d w (omega arith) h)
+alike_set (o ∷ os) (suc i) d w lt h = alike_behind (connection_shown o) (map connection_shown os) (map connection_shown (set os i w))
+    (alike_set os i d w (omega arith) h)
 
 -- one more came, which holds nothing
-pub alike_push : (os : List OpenConnection) (o : OpenConnection) → sources_of o.connection.sending ≡ [] → ((texts : SourceTexts) → QueuesEndWithin texts o.connection.sending.queues) → HoldAlike os (os ++ o ∷ [])
+pub alike_push : (os : List OpenConnection) (o : OpenConnection) → sources_of o.connection.sending ≡ [] →
+    ((texts : SourceTexts) → QueuesEndWithin texts o.connection.sending.queues) → HoldAlike os (os ++ o ∷ [])
 alike_push [] o none fit = record {
   sources = λ k. ap (λ (ns : List ℕ). count_of k (ns ++ [])) none;
   few = λ f. (λ k. let e : count_of k (sources_of o.connection.sending) ≡ 0 = ap (count_of k) none in omega (arith, e), tt);
   fit = λ texts f. (fit texts, tt);
 }
-alike_push (x ∷ os) o none fit = alike_behind (connection_shown x) (map connection_shown os) (map connection_shown (os ++ o ∷ [])) (alike_push os o none fit)
+alike_push (x ∷ os) o none fit = alike_behind (connection_shown x) (map connection_shown os) (map connection_shown (os ++ o ∷ []))
+    (alike_push os o none fit)
 
 -- no slot is held more often by the ranges of n connections
-each_few : (m n : ℕ) (vs : List ServedConnection) (k : ℕ) → AllByRecursion (λ (s : ServedConnection). (j : ℕ) → count_of j (sources_of s.connection.sending) < m) vs → length vs ≤ n → range_holders vs k ≤ n * m
+each_few : (m n : ℕ) (vs : List ServedConnection) (k : ℕ) →
+    AllByRecursion (λ (s : ServedConnection). (j : ℕ) → count_of j (sources_of s.connection.sending) < m) vs → length vs ≤ n →
+    range_holders vs k ≤ n * m
 each_few m n [] k few short = omega arith
 each_few m zero (v ∷ vs) k few short = absurd (omega arith)
 each_few m (suc n) (v ∷ vs) k few short =
@@ -224,7 +278,8 @@ fit_none texts w none s = fit_on texts s w.queues (left_none (sources_held w.que
 same_stored : (t u : SourceTexts) (qs : List StoredQueue) → AgreeOn (sources_held qs) t u → map (queue_in t) qs ≡ map (queue_in u) qs
 same_stored t u [] h = refl
 same_stored t u (q ∷ qs) h =
-    ap (λ (ps : List Piece). record { stream = q.stream; pieces = ps } ∷ map (queue_in t) qs) (same_shown t u q.pieces (agree_left t u (sources_in q.pieces) (sources_held qs) h))
+    ap (λ (ps : List Piece). record { stream = q.stream; pieces = ps } ∷ map (queue_in t) qs)
+    (same_shown t u q.pieces (agree_left t u (sources_in q.pieces) (sources_held qs) h))
     ∙ ap (λ (rs : List Queue). queue_in u q ∷ rs) (same_stored t u qs (agree_right t u (sources_in q.pieces) (sources_held qs) h))
 
 abbrev seen_queues : ServedConnection → List Queue → SeenConnection
@@ -235,7 +290,8 @@ seen_queues v qs = record {
 }
 
 -- the frame law of an instance's connections in a pool that others change
-pub same_served : (t u : SourceTexts) (vs : List ServedConnection) → AgreeOn (sources_at vs) t u → map (seen_with t) vs ≡ map (seen_with u) vs
+pub same_served : (t u : SourceTexts) (vs : List ServedConnection) → AgreeOn (sources_at vs) t u →
+    map (seen_with t) vs ≡ map (seen_with u) vs
 same_served t u [] h = refl
 same_served t u (v ∷ vs) h =
     ap (λ (qs : List Queue). seen_queues v qs ∷ map (seen_with t) vs) (same_stored t u v.connection.sending.queues (agree_first t u v vs h))

@@ -45,11 +45,13 @@ changes_given (c ∷ cs) s = changes_given cs (state_after_change c s) ∙ chang
 abbrev pub all_made : (s : InstanceState) (event : CallEventValue) → MadeInPart (answer s event).changes s (state_after s event)
 all_made s event = record { made = (answer s event).changes; left = []; front = sym (append-nil (answer s event).changes); so_far = refl }
 
-cut_holds : (events : List CallEventValue) (s t : InstanceState) (ds : List Digest) (b : Blob) → IsCutShort events s t → AllByRecursion (IsOneOf ds) (touched_by events s) → HoldsWithin (given s) ds b s.visible → HoldsWithin (given s) ds b t.visible
+cut_holds : (events : List CallEventValue) (s t : InstanceState) (ds : List Digest) (b : Blob) → IsCutShort events s t →
+    AllByRecursion (IsOneOf ds) (touched_by events s) → HoldsWithin (given s) ds b s.visible → HoldsWithin (given s) ds b t.visible
 cut_holds [] s t ds b same one h = subst (λ (x : InstanceState). HoldsWithin (given s) ds b x.visible) (sym same) h
 cut_holds (event ∷ events) s t ds b (inl part) one h =
     let parts = of_both (IsOneOf ds) (all_touched (answer s event).changes) (touched_by events (state_after s event)) one in
-    let made = touched_front (IsOneOf ds) part.made part.left (subst (λ (cs : List InstanceChange). AllByRecursion (IsOneOf ds) (all_touched cs)) part.front parts.0) in
+    let made = touched_front (IsOneOf ds) part.made part.left
+    (subst (λ (cs : List InstanceChange). AllByRecursion (IsOneOf ds) (all_touched cs)) part.front parts.0) in
     part_holds s t event ds b part made h
 cut_holds (event ∷ events) s t ds b (inr rest) one h =
     let parts = of_both (IsOneOf ds) (all_touched (answer s event).changes) (touched_by events (state_after s event)) one in
@@ -59,7 +61,9 @@ cut_holds (event ∷ events) s t ds b (inr rest) one h =
     subst (λ (g : ℕ × ℕ). HoldsWithin g ds b t.visible) same
     (cut_holds events next t ds b rest parts.1 (subst (λ (g : ℕ × ℕ). HoldsWithin g ds b next.visible) (sym same) after))
 
-ended_holds : (n : ℕ) (outcome : OutcomeValue) (l m : LoneInstance) (ds : List Digest) (b : Blob) → IsEndedInPart n outcome l m → AllByRecursion (IsOneOf ds) (all_touched (ending_changes l.state outcome (running_job n l.state.jobs))) → HoldsWithin (given l.state) ds b l.state.visible → HoldsWithin (given l.state) ds b m.state.visible
+ended_holds : (n : ℕ) (outcome : OutcomeValue) (l m : LoneInstance) (ds : List Digest) (b : Blob) → IsEndedInPart n outcome l m →
+    AllByRecursion (IsOneOf ds) (all_touched (ending_changes l.state outcome (running_job n l.state.jobs))) →
+    HoldsWithin (given l.state) ds b l.state.visible → HoldsWithin (given l.state) ds b m.state.visible
 ended_holds n outcome l m ds b h one start =
     let rest : List InstanceChange = Settles (steps_at l.state (end_job n outcome)) ∷ [] in
     let part : MadeInPart (answer l.state (end_job n outcome)).changes l.state h.left = record {
@@ -68,13 +72,18 @@ ended_holds n outcome l m ds b h one start =
       front = ap (λ (xs : List InstanceChange). xs ++ rest) h.made.front ∙ append_assoc h.made.made h.made.left rest;
       so_far = h.made.so_far;
     } in
-    let made = touched_front (IsOneOf ds) h.made.made h.made.left (subst (λ (cs : List InstanceChange). AllByRecursion (IsOneOf ds) (all_touched cs)) h.made.front one) in
-    subst (HoldsWithin (given l.state) ds b) (sym (ap (λ (k : LoneInstance). k.state.visible) h.gone)) (part_holds l.state h.left (end_job n outcome) ds b part made start)
+    let made = touched_front (IsOneOf ds) h.made.made h.made.left
+    (subst (λ (cs : List InstanceChange). AllByRecursion (IsOneOf ds) (all_touched cs)) h.made.front one) in
+    subst (HoldsWithin (given l.state) ds b) (sym (ap (λ (k : LoneInstance). k.state.visible) h.gone))
+    (part_holds l.state h.left (end_job n outcome) ds b part made start)
 
-effect_holds : (what : WhatValue) (l m : LoneInstance) (ds : List Digest) (b : Blob) → IsCutEffect what l m → AllByRecursion (IsOneOf ds) (touched_at what l) → HoldsWithin (given l.state) ds b l.state.visible → HoldsWithin (given l.state) ds b m.state.visible
+effect_holds : (what : WhatValue) (l m : LoneInstance) (ds : List Digest) (b : Blob) → IsCutEffect what l m →
+    AllByRecursion (IsOneOf ds) (touched_at what l) → HoldsWithin (given l.state) ds b l.state.visible →
+    HoldsWithin (given l.state) ds b m.state.visible
 effect_holds (opened c) l m ds b same one h = subst (λ (k : LoneInstance). HoldsWithin (given l.state) ds b k.state.visible) (sym same) h
 effect_holds (received c bytes) l m ds b cut one h =
-    subst (HoldsWithin (given l.state) ds b) (sym (ap (λ (k : LoneInstance). k.state.visible) cut.gone)) (cut_holds (bytes_events c bytes l) l.state cut.left ds b cut.cut one h)
+    subst (HoldsWithin (given l.state) ds b) (sym (ap (λ (k : LoneInstance). k.state.visible) cut.gone))
+    (cut_holds (bytes_events c bytes l) l.state cut.left ds b cut.cut one h)
 effect_holds (took c n) l m ds b cut one h = absurd cut
 effect_holds (closed c) l m ds b cut one h = absurd cut
 effect_holds tick l m ds b same one h = subst (λ (k : LoneInstance). HoldsWithin (given l.state) ds b k.state.visible) (sym same) h
@@ -84,4 +93,5 @@ pub short_loses_for_room : (parent : List Blob) (e : LoneEvent) (l m : LoneInsta
     → LosesForRoom l.state.limits.blobs l.state.quota (touched_at e.what (lone_at_moment e.moment parent l)) l.state.visible m.state.visible
 short_loses_for_room parent e l m w h =
     let here : LoneInstance = lone_at_moment e.moment parent l in
-    loses_from l.state.limits.blobs l.state.quota (touched_at e.what here) l.state.visible m.state.visible w.limits.some_blobs w.texts (λ ds b one start. effect_holds e.what here m ds b h one start)
+    loses_from l.state.limits.blobs l.state.quota (touched_at e.what here) l.state.visible m.state.visible w.limits.some_blobs w.texts
+    (λ ds b one start. effect_holds e.what here m ds b h one start)

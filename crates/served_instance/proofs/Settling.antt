@@ -30,35 +30,43 @@ pub record AreOwed (p q : Slots) (i : InstanceSlots) (os ns : List OpenConnectio
   pub takes : AllTakeRanges (replies_holders rs) (RepliesEndWithin rs) p (map connection_shown os) q (map connection_shown ns)
   pub count : length ns ≡ length os
 
-none_gone : (p q : Slots) (i : InstanceSlots) (os ns : List OpenConnection) (rs : List Reply) (o : AreOwed p q i os ns rs) (k : ℕ) → o.takes.gone k ≡ 0
+none_gone : (p q : Slots) (i : InstanceSlots) (os ns : List OpenConnection) (rs : List Reply) (o : AreOwed p q i os ns rs) (k : ℕ) →
+    o.takes.gone k ≡ 0
 none_gone p q i os ns rs o k = omega (arith, o.takes.fewer k, o.given k)
 
-pub owed_state : (p q : Slots) (i : InstanceSlots) (os ns : List OpenConnection) (rs : List Reply) → AreOwed p q i os ns rs → state_in q i ≡ state_in p i
+pub owed_state : (p q : Slots) (i : InstanceSlots) (os ns : List OpenConnection) (rs : List Reply) → AreOwed p q i os ns rs →
+    state_in q i ≡ state_in p i
 owed_state p q i os ns rs o =
     own_same p q i o.takes.gone no_holders (λ k. omega (arith, none_gone p q i os ns rs o k, o.kept.counted k)) o.takes.moves
 
-pub owed_counted : (p q : Slots) (i : InstanceSlots) (os ns : List OpenConnection) (rs : List Reply) → AreOwed p q i os ns rs → (k : ℕ) → holders_of_instance i k ≤ count_at q k
+pub owed_counted : (p q : Slots) (i : InstanceSlots) (os ns : List OpenConnection) (rs : List Reply) → AreOwed p q i os ns rs → (k : ℕ) →
+    holders_of_instance i k ≤ count_at q k
 owed_counted p q i os ns rs o k =
     omega (arith, none_gone p q i os ns rs o k, o.takes.moves.counts k, o.kept.counted k)
 
 -- ---- and then the instance took steps
 
-turned_finds : (p q r : Slots) (i j : InstanceSlots) (os ns : List OpenConnection) (rs : List Reply) → AreOwed p q i os ns rs → Moves q r (holders_of_instance i) (holders_of_instance j) →
-    (xs : List ServedConnection) → ((k : ℕ) → range_holders xs k ≤ range_holders (map connection_shown os) k) → AgreeOn (sources_at xs) (text_at p) (text_at r)
+turned_finds : (p q r : Slots) (i j : InstanceSlots) (os ns : List OpenConnection) (rs : List Reply) → AreOwed p q i os ns rs →
+    Moves q r (holders_of_instance i) (holders_of_instance j) →
+    (xs : List ServedConnection) → ((k : ℕ) → range_holders xs k ≤ range_holders (map connection_shown os) k) →
+    AgreeOn (sources_at xs) (text_at p) (text_at r)
 turned_finds p q r i j os ns rs o m xs fewer k some =
     let none = none_gone p q i os ns rs o k in
     let first : text_at q k ≡ text_at p k = o.takes.moves.texts k (omega (arith, some, fewer k, none, o.kept.counted k)) in
     let more : text_at r k ≡ text_at q k = m.texts k (omega (arith, some, fewer k, o.takes.moves.counts k, o.kept.counted k)) in
     sym (more ∙ first)
 
-pub turned_old : (p q r : Slots) (i j : InstanceSlots) (os ns : List OpenConnection) (rs : List Reply) → AreOwed p q i os ns rs → Moves q r (holders_of_instance i) (holders_of_instance j) → FindAlike p r os
+pub turned_old : (p q r : Slots) (i j : InstanceSlots) (os ns : List OpenConnection) (rs : List Reply) → AreOwed p q i os ns rs →
+    Moves q r (holders_of_instance i) (holders_of_instance j) → FindAlike p r os
 turned_old p q r i j os ns rs o m = turned_finds p q r i j os ns rs o m (map connection_shown os) (λ k. omega arith)
 
-pub turned_new : (p q r : Slots) (i j : InstanceSlots) (os ns : List OpenConnection) (rs : List Reply) → AreOwed p q i os ns rs → Moves q r (holders_of_instance i) (holders_of_instance j) → FindAlike p r ns
+pub turned_new : (p q r : Slots) (i j : InstanceSlots) (os ns : List OpenConnection) (rs : List Reply) → AreOwed p q i os ns rs →
+    Moves q r (holders_of_instance i) (holders_of_instance j) → FindAlike p r ns
 turned_new p q r i j os ns rs o m =
     turned_finds p q r i j os ns rs o m (map connection_shown ns) (λ k. omega (arith, o.takes.sources k, o.given k))
 
-pub turned_moves : (p q r : Slots) (i j : InstanceSlots) (os ns : List OpenConnection) (rs : List Reply) → AreOwed p q i os ns rs → Moves q r (holders_of_instance i) (holders_of_instance j) →
+pub turned_moves : (p q r : Slots) (i j : InstanceSlots) (os ns : List OpenConnection) (rs : List Reply) → AreOwed p q i os ns rs →
+    Moves q r (holders_of_instance i) (holders_of_instance j) →
     Moves p r (holders_of (slots_of i os)) (holders_of (slots_of j ns))
 turned_moves p q r i j os ns rs o m = record {
   counts = λ k. omega (arith, none_gone p q i os ns rs o k, o.given k, o.takes.sources k, o.takes.moves.counts k, m.counts k);
@@ -67,7 +75,8 @@ turned_moves p q r i j os ns rs o m = record {
       m.texts k (omega (arith, few, o.takes.moves.counts k)) ∙ o.takes.moves.texts k (omega (arith, few, none));
 }
 
-pub turned_kept : (p q r : Slots) (i j : InstanceSlots) (os ns : List OpenConnection) (rs : List Reply) → AreOwed p q i os ns rs → Moves q r (holders_of_instance i) (holders_of_instance j) →
+pub turned_kept : (p q r : Slots) (i j : InstanceSlots) (os ns : List OpenConnection) (rs : List Reply) → AreOwed p q i os ns rs →
+    Moves q r (holders_of_instance i) (holders_of_instance j) →
     IsInstanceWithin (state_in r j) → IsServedInPool r (slots_of j ns)
 turned_kept p q r i j os ns rs o m within =
     let moves = turned_moves p q r i j os ns rs o m in
@@ -77,8 +86,17 @@ turned_kept p q r i j os ns rs o m within =
       others = λ k. omega (arith, moves.counts k, o.kept.others k);
       within = record {
         instance = within;
-        connections = omega (arith, o.count, few_connections p (slots_of i os) o.kept, length-map os connection_shown, length-map ns connection_shown, length-map ws (seen_with (text_at r)));
+        connections = omega (
+          arith,
+          o.count,
+          few_connections p
+              (slots_of i os) o.kept,
+          length-map os connection_shown,
+          length-map ns connection_shown,
+          length-map ws (seen_with (text_at r)),
+        );
       };
-      fit = fit_agreed_each (text_at p) (text_at r) ws (turned_new p q r i j os ns rs o m) (o.takes.fit (text_at p) (replies_end p rs (o.short p)) o.kept.fit);
+      fit = fit_agreed_each (text_at p) (text_at r) ws (turned_new p q r i j os ns rs o m)
+          (o.takes.fit (text_at p) (replies_end p rs (o.short p)) o.kept.fit);
       few = o.takes.few o.kept.few;
     }

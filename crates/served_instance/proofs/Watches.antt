@@ -44,7 +44,8 @@ joined_events (x ∷ xs) ys s = joined_events xs ys (state_after s x)
 pub happened_state : (event : CallEventValue) (l : LoneInstance) → (after_call_event event l).state ≡ state_after l.state event
 happened_state event l = ap (λ (k : LoneInstance). k.state) (happened_is event l)
 
-all_happened_state : (c : ℕ) (es : List CallEvent) (l : LoneInstance) → (after_call_events c es l).state ≡ after_events (map (call_event_on c) es) l.state
+all_happened_state : (c : ℕ) (es : List CallEvent) (l : LoneInstance) →
+    (after_call_events c es l).state ≡ after_events (map (call_event_on c) es) l.state
 all_happened_state c [] l = refl
 all_happened_state c (e ∷ es) l =
     all_happened_state c es (after_call_event (call_event_on c e) l)
@@ -53,7 +54,8 @@ all_happened_state c (e ∷ es) l =
 due_done : (c : ℕ) (l : LoneInstance) → (after_due_on c l).state ≡ after_events (due_events c l) l.state
 due_done c l = all_happened_state c (due_at c l) (record l { connections = at_open c without_due l.connections })
 
-frames_done : (c : ℕ) (fs : List RawFrame) (l : LoneInstance) → (after_frames_on c fs l).state ≡ after_events (events_of_frames c fs l) l.state
+frames_done : (c : ℕ) (fs : List RawFrame) (l : LoneInstance) →
+    (after_frames_on c fs l).state ≡ after_events (events_of_frames c fs l) l.state
 frames_done c [] l = refl
 frames_done c (f ∷ fs) l = elim (cases_Bool (is_over c l)) [
   | inl over ↦ rw over refl
@@ -66,11 +68,13 @@ frames_done c (f ∷ fs) l = elim (cases_Bool (is_over c l)) [
       )
 ]
 
-fault_done : (c : ℕ) (e : FrameError) (l : LoneInstance) (code : Option ErrorCode) → (after_fault_on c e l code).state ≡ after_events (fault_events c e l code) l.state
+fault_done : (c : ℕ) (e : FrameError) (l : LoneInstance) (code : Option ErrorCode) →
+    (after_fault_on c e l code).state ≡ after_events (fault_events c e l code) l.state
 fault_done c e l None = refl
 fault_done c e l (Some code) = due_done c (fault_met c e code l)
 
-end_done : (c : ℕ) (end : Result (List ℕ) FrameError) (l : LoneInstance) → (after_end_on c end l).state ≡ after_events (end_events c end l) l.state
+end_done : (c : ℕ) (end : Result (List ℕ) FrameError) (l : LoneInstance) →
+    (after_end_on c end l).state ≡ after_events (end_events c end l) l.state
 end_done c (Ok rest) l = refl
 end_done c (Err e) l = elim (cases_Bool (is_over c l)) [
   | inl over ↦ rw over refl
@@ -88,7 +92,8 @@ reading_done c l (Some p) =
     ∙ sym (joined_events (events_of_frames c fs l) (end_events c end k) l.state)
 
 -- received bytes come to their events, one after another
-pub bytes_done : (c : ℕ) (bytes : List ℕ) (l : LoneInstance) → (after_bytes_on c bytes l).state ≡ after_events (bytes_events c bytes l) l.state
+pub bytes_done : (c : ℕ) (bytes : List ℕ) (l : LoneInstance) →
+    (after_bytes_on c bytes l).state ≡ after_events (bytes_events c bytes l) l.state
 bytes_done c bytes l =
     let m = bytes_come c bytes l in
     reading_done c m (open_at c m.connections)
@@ -121,7 +126,8 @@ frames_on : (c : ℕ) (fs : List RawFrame) (l : LoneInstance) → AreOn c (event
 frames_on c [] l = tt
 frames_on c (f ∷ fs) l = elim (cases_Bool (is_over c l)) [
   | inl over ↦ rw over tt
-  | inr goes_on ↦ rw goes_on (all_append (IsCallOn c) (frame_events c f l) (events_of_frames c fs (after_frame_on c f l)) (all_events_on c (due_at c (frame_taken c f l))) (frames_on c fs (after_frame_on c f l)))
+  | inr goes_on ↦ rw goes_on (all_append (IsCallOn c) (frame_events c f l) (events_of_frames c fs (after_frame_on c f l))
+      (all_events_on c (due_at c (frame_taken c f l))) (frames_on c fs (after_frame_on c f l)))
 ]
 
 fault_on : (c : ℕ) (e : FrameError) (l : LoneInstance) (code : Option ErrorCode) → AreOn c (fault_events c e l code)
@@ -140,7 +146,8 @@ reading_on c l None = tt
 reading_on c l (Some p) =
     let fs = unread_frames p in
     let k = after_frames_on c fs l in
-    all_append (IsCallOn c) (events_of_frames c fs l) (end_events c (split CLIENT_PREFACE.now p.text).end k) (frames_on c fs l) (end_on c (split CLIENT_PREFACE.now p.text).end k)
+    all_append (IsCallOn c) (events_of_frames c fs l) (end_events c (split CLIENT_PREFACE.now p.text).end k) (frames_on c fs l)
+    (end_on c (split CLIENT_PREFACE.now p.text).end k)
 
 pub bytes_on : (c : ℕ) (bytes : List ℕ) (l : LoneInstance) → AreOn c (bytes_events c bytes l)
 bytes_on c bytes l =
@@ -168,20 +175,25 @@ rests_watched c s w h = record {
 }
 
 -- of received bytes a front was carried out
-pub cut_during : (c : ℕ) (bytes : List ℕ) (l : LoneInstance) (t : InstanceState) → AreJobs l.state.jobs → WatchAtRest l.state → IsCutShort (bytes_events c bytes l) l.state t → WatchDuring c t
-cut_during c bytes l t w h cut = (cut_watched c (bytes_events c bytes l) l.state t (bytes_on c bytes l) cut (rests_watched c l.state w h)).during
+pub cut_during : (c : ℕ) (bytes : List ℕ) (l : LoneInstance) (t : InstanceState) → AreJobs l.state.jobs → WatchAtRest l.state →
+    IsCutShort (bytes_events c bytes l) l.state t → WatchDuring c t
+cut_during c bytes l t w h cut = (cut_watched c (bytes_events c bytes l) l.state t (bytes_on c bytes l) cut
+    (rests_watched c l.state w h)).during
 
-pub during : (c : ℕ) (bytes : List ℕ) (l : LoneInstance) → AreJobs l.state.jobs → WatchAtRest l.state → WatchDuring c (after_bytes_on c bytes l).state
+pub during : (c : ℕ) (bytes : List ℕ) (l : LoneInstance) → AreJobs l.state.jobs → WatchAtRest l.state →
+    WatchDuring c (after_bytes_on c bytes l).state
 during c bytes l w h = cut_during c bytes l (after_bytes_on c bytes l).state w h (all_done c bytes l)
 
 -- all are told who watch jobs that start then
 pub told_alone : (c : ℕ) (bytes : List ℕ) (l : LoneInstance) → AreJobs l.state.jobs → WatchAtRest l.state
-    → replies_on c (answer (after_bytes_on c bytes l).state start_jobs).replies ≡ (answer (after_bytes_on c bytes l).state start_jobs).replies
+    → replies_on c (answer (after_bytes_on c bytes l).state start_jobs).replies
+    ≡ (answer (after_bytes_on c bytes l).state start_jobs).replies
 told_alone c bytes l w h = told_there c (after_bytes_on c bytes l).state (during c bytes l w h)
 
 -- ---- an event
 
-happened_rest : (event : CallEventValue) (l : LoneInstance) → WatchAtRest (state_after l.state event) → WatchAtRest (after_call_event event l).state
+happened_rest : (event : CallEventValue) (l : LoneInstance) → WatchAtRest (state_after l.state event) →
+    WatchAtRest (after_call_event event l).state
 happened_rest event l h = subst WatchAtRest (sym (happened_state event l)) h
 
 -- calls of a closed connection are given up
@@ -208,15 +220,18 @@ closed_rest c l h = go (open_at c l.connections) where
 
 acted_rest : (what : WhatValue) (l : LoneInstance) → AreJobs l.state.jobs → WatchAtRest l.state → WatchAtRest (effect_of what l).state
 acted_rest (opened c) l w h = h
-acted_rest (received c bytes) l w h = happened_rest start_jobs (after_bytes_on c bytes l) (starts_rest c (after_bytes_on c bytes l).state (during c bytes l w h))
+acted_rest (received c bytes) l w h = happened_rest start_jobs (after_bytes_on c bytes l)
+    (starts_rest c (after_bytes_on c bytes l).state (during c bytes l w h))
 acted_rest (took c n) l w h = h
 acted_rest (closed c) l w h = closed_rest c l h
 acted_rest tick l w h =
-    happened_rest end_late_jobs (after_call_event time_passes l) (late_rest (after_call_event time_passes l).state (happened_rest time_passes l (tick_rest l.state h)))
+    happened_rest end_late_jobs (after_call_event time_passes l)
+    (late_rest (after_call_event time_passes l).state (happened_rest time_passes l (tick_rest l.state h)))
 acted_rest (ended job outcome) l w h = happened_rest (end_job job outcome) l (ended_rest l.state job outcome h)
 
 -- neither the moment nor what is seen of the parent matters
-pub accepted_watched : (parent : List Blob) (e : LoneEvent) (l : LoneInstance) → AreJobs l.state.jobs → WatchAtRest l.state → WatchAtRest (after_event parent e l).state
+pub accepted_watched : (parent : List Blob) (e : LoneEvent) (l : LoneInstance) → AreJobs l.state.jobs → WatchAtRest l.state →
+    WatchAtRest (after_event parent e l).state
 accepted_watched parent e l w h =
     let at : WatchAtRest (lone_at_moment e.moment parent l).state = record { given = h.given; busy = h.busy } in
     let done = acted_rest e.what (lone_at_moment e.moment parent l) w at in
@@ -241,5 +256,7 @@ cut_rest (closed c) l m is w h = absurd is
 cut_rest tick l m is w h = same_lone _ m is (broken_all_rest (state_after l.state time_passes) l)
 cut_rest (ended job outcome) l m b w h = same_lone _ m b.gone (broken_all_rest (without_job job b.left) l)
 
-pub short_watched : (parent : List Blob) (e : LoneEvent) (l m : LoneInstance) → Short parent e l m → AreJobs l.state.jobs → WatchAtRest l.state → WatchAtRest m.state
-short_watched parent e l m short w h = cut_rest e.what (lone_at_moment e.moment parent l) m short w (record { given = h.given; busy = h.busy })
+pub short_watched : (parent : List Blob) (e : LoneEvent) (l m : LoneInstance) → Short parent e l m → AreJobs l.state.jobs →
+    WatchAtRest l.state → WatchAtRest m.state
+short_watched parent e l m short w h = cut_rest e.what (lone_at_moment e.moment parent l) m short w
+    (record { given = h.given; busy = h.busy })

@@ -13,4 +13,5 @@ IsChosen config = IsLimits config.limits
 
 pub all_chosen : (configs : List InstanceConfig) → All (λ config. IsLimits config.limits) (map config_value configs)
 all_chosen [] = All-nil IsChosen
-all_chosen (config ∷ configs) = All-cons IsChosen (config_value config) (map config_value configs) (are_good config.limits) (all_chosen configs)
+all_chosen (config ∷ configs) = All-cons IsChosen (config_value config) (map config_value configs) (are_good config.limits)
+    (all_chosen configs)

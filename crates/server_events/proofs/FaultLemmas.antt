@@ -19,7 +19,8 @@ use Rattle.server_events.proofs.OwnLemmas.{IsNewName, None-from_good, Some-from_
 AreGood-nil : AreGood []
 AreGood-nil = record { each = All-nil _; distinct = λ i j d below lt. absurd (omega arith) }
 
-AreGood-push : (configs : List ConfigValue) (last : ConfigValue) → AreGood configs → IsConfig last → IsNewName configs last.name → AreGood (configs ++ last ∷ [])
+AreGood-push : (configs : List ConfigValue) (last : ConfigValue) → AreGood configs → IsConfig last → IsNewName configs last.name →
+    AreGood (configs ++ last ∷ [])
 AreGood-push configs last h good new = record {
   each = All-push IsConfig configs last h.each good;
   distinct = all_pairs_push (λ earlier later. later.name ≢ earlier.name) configs last h.distinct new;
@@ -47,7 +48,8 @@ good_at before config after h = (here, λ k d lt. there k d lt)
         h.distinct k (length before) d lt within (ap (λ c. c.name) (seam d) ∙ same ∙ ap (λ c. c.name) (sym (front k d lt)))
 
 -- the same with the instance among those before
-along : (before : List ConfigValue) (config : ConfigValue) (after : List ConfigValue) → (before ++ config ∷ []) ++ after ≡ before ++ config ∷ after
+along : (before : List ConfigValue) (config : ConfigValue) (after : List ConfigValue) →
+    (before ++ config ∷ []) ++ after ≡ before ++ config ∷ after
 along before config after = append_assoc before (config ∷ []) after
 
 -- ---- no fault
@@ -56,7 +58,8 @@ first_none : (before configs : List ConfigValue) → AreGood before → first_ow
 first_none before [] h e = subst AreGood (sym (append-nil before)) h
 first_none before (config ∷ configs) h e = go (λ g k. first_none (before ++ config ∷ []) configs g k) (own_fault before config) refl e
   where
-    go : (AreGood (before ++ config ∷ []) → first_own_fault (before ++ config ∷ []) configs ≡ None → AreGood ((before ++ config ∷ []) ++ configs))
+    go : (AreGood (before ++ config ∷ []) → first_own_fault (before ++ config ∷ []) configs ≡ None →
+        AreGood ((before ++ config ∷ []) ++ configs))
         → (r : Option ConfigFault) → own_fault before config ≡ r → option_or r (first_own_fault (before ++ config ∷ []) configs) ≡ None
         → AreGood (before ++ config ∷ configs)
     go later None own rest =
@@ -86,10 +89,13 @@ record IsFirstAfter (before configs : List ConfigValue) (fault : ConfigFault) : 
 first_some : (before configs : List ConfigValue) (fault : ConfigFault) → AreGood before → first_own_fault before configs ≡ Some fault
     → IsFirstAfter before configs fault
 first_some before [] fault h e = cc
-first_some before (config ∷ configs) fault h e = go (λ g k. first_some (before ++ config ∷ []) configs fault g k) (own_fault before config) refl e
+first_some before (config ∷ configs) fault h e =
+    go (λ g k. first_some (before ++ config ∷ []) configs fault g k) (own_fault before config) refl e
   where
-    go : (AreGood (before ++ config ∷ []) → first_own_fault (before ++ config ∷ []) configs ≡ Some fault → IsFirstAfter (before ++ config ∷ []) configs fault)
-        → (r : Option ConfigFault) → own_fault before config ≡ r → option_or r (first_own_fault (before ++ config ∷ []) configs) ≡ Some fault
+    go : (AreGood (before ++ config ∷ []) → first_own_fault (before ++ config ∷ []) configs ≡ Some fault →
+        IsFirstAfter (before ++ config ∷ []) configs fault)
+        → (r : Option ConfigFault) → own_fault before config ≡ r →
+        option_or r (first_own_fault (before ++ config ∷ []) configs) ≡ Some fault
         → IsFirstAfter before (config ∷ configs) fault
     go later None own rest =
         let good = own_fault-None before config own in
@@ -110,10 +116,12 @@ first_some before (config ∷ configs) fault h e = go (λ g k. first_some (befor
           back = configs;
           whole = refl;
           good = subst AreGood (sym (append-nil before)) h;
-          bad = subst (λ cs. IsOwnFault cs config fault) (sym (append-nil before)) (own_fault-Some before config fault (own ∙ ap Some same));
+          bad = subst (λ cs. IsOwnFault cs config fault) (sym (append-nil before))
+              (own_fault-Some before config fault (own ∙ ap Some same));
         }
 
-some_first : (before front : List ConfigValue) (config : ConfigValue) (back : List ConfigValue) (fault : ConfigFault) → AreGood (before ++ front)
+some_first : (before front : List ConfigValue) (config : ConfigValue) (back : List ConfigValue) (fault : ConfigFault) →
+    AreGood (before ++ front)
     → IsOwnFault (before ++ front) config fault → first_own_fault before (front ++ config ∷ back) ≡ Some fault
 some_first before [] config back fault h bad =
     let own = Some-from_fault before config fault (subst (λ cs. IsOwnFault cs config fault) (append-nil before) bad) in
@@ -141,7 +149,8 @@ some_part (Some other) parent fault h = inl h
 pub none_is_good : (configs : List ConfigValue) → (config_fault configs ≡ None) ↔ AreConfigs configs
 none_is_good configs = (go (nat_lt instance_limit (length configs)) refl, back)
   where
-    at : (many : Bool) → nat_lt instance_limit (length configs) ≡ many → config_fault configs ≡ cond many (Some TooMany) (option_or (first_own_fault [] configs) (first_parent_fault configs))
+    at : (many : Bool) → nat_lt instance_limit (length configs) ≡ many →
+        config_fault configs ≡ cond many (Some TooMany) (option_or (first_own_fault [] configs) (first_parent_fault configs))
     at many e = ap (λ b. cond b (Some TooMany) (option_or (first_own_fault [] configs) (first_parent_fault configs))) e
 
     go : (many : Bool) → nat_lt instance_limit (length configs) ≡ many → config_fault configs ≡ None → AreConfigs configs
@@ -160,21 +169,35 @@ none_is_good configs = (go (nat_lt instance_limit (length configs)) refl, back)
 pub some_is_first : (configs : List ConfigValue) (fault : ConfigFault) → (config_fault configs ≡ Some fault) ↔ IsFaultOf configs fault
 some_is_first configs fault = (go (nat_lt instance_limit (length configs)) refl, back)
   where
-    at : (many : Bool) → nat_lt instance_limit (length configs) ≡ many → config_fault configs ≡ cond many (Some TooMany) (option_or (first_own_fault [] configs) (first_parent_fault configs))
+    at : (many : Bool) → nat_lt instance_limit (length configs) ≡ many →
+        config_fault configs ≡ cond many (Some TooMany) (option_or (first_own_fault [] configs) (first_parent_fault configs))
     at many e = ap (λ b. cond b (Some TooMany) (option_or (first_own_fault [] configs) (first_parent_fault configs))) e
 
-    part : length configs ≤ instance_limit → (first_own_fault [] configs ≡ Some fault) ⊎ ((first_own_fault [] configs ≡ None) × (first_parent_fault configs ≡ Some fault))
+    part : length configs ≤ instance_limit → (first_own_fault [] configs ≡ Some fault)
+        ⊎ ((first_own_fault [] configs ≡ None) × (first_parent_fault configs ≡ Some fault))
         → IsFaultOf configs fault
     part few (inl own) =
         let found = first_some [] configs fault AreGood-nil own in
-        inr (inl (few, record { front = found.front; config = found.config; back = found.back; whole = found.whole; good = found.good; bad = found.bad }))
+        inr (inl (
+          few,
+          record {
+            front = found.front;
+            config = found.config;
+            back = found.back;
+            whole = found.whole;
+            good = found.good;
+            bad =
+                found.bad;
+          },
+        ))
     part few (inr parent) = inr (inr (few, some_is_bad configs fault (first_none [] configs AreGood-nil parent.0) parent.1))
 
     go : (many : Bool) → nat_lt instance_limit (length configs) ≡ many → config_fault configs ≡ Some fault → IsFaultOf configs fault
     go true e h =
         let same : Some TooMany ≡ Some fault = sym (at true e) ∙ h in
         inl (cc, grind (arith, nat_tests))
-    go false e h = part (grind (arith, nat_tests)) (some_part (first_own_fault [] configs) (first_parent_fault configs) fault (sym (at false e) ∙ h))
+    go false e h = part (grind (arith, nat_tests))
+        (some_part (first_own_fault [] configs) (first_parent_fault configs) fault (sym (at false e) ∙ h))
 
     not_many : length configs ≤ instance_limit → nat_lt instance_limit (length configs) ≡ false
     not_many few = grind (arith, nat_tests)
@@ -186,7 +209,8 @@ some_is_first configs fault = (go (nat_lt instance_limit (length configs)) refl,
         at true e ∙ ap Some (sym h.0)
     back (inr (inl h)) =
         at false (not_many h.0)
-        ∙ ap (λ r. option_or r (first_parent_fault configs)) (ap (first_own_fault []) h.1.whole ∙ some_first [] h.1.front h.1.config h.1.back fault h.1.good h.1.bad)
+        ∙ ap (λ r. option_or r (first_parent_fault configs))
+        (ap (first_own_fault []) h.1.whole ∙ some_first [] h.1.front h.1.config h.1.back fault h.1.good h.1.bad)
     back (inr (inr h)) =
         at false (not_many h.0)
         ∙ ap (λ r. option_or r (first_parent_fault configs)) (none_first [] configs h.1.good) ∙ bad_is_some configs fault h.1

@@ -10,7 +10,8 @@ list_any-map p f (x ∷ xs) = ap (λ b. p (f x) || b) (list_any-map p f xs)
 
 -- ---- the first that passes
 
-from-map : {X Y : Type 0} (p : Y → Bool) (f : X → Y) (i : ℕ) (xs : List X) → position_from p i (map f xs) ≡ position_from (λ x. p (f x)) i xs
+from-map : {X Y : Type 0} (p : Y → Bool) (f : X → Y) (i : ℕ) (xs : List X) →
+    position_from p i (map f xs) ≡ position_from (λ x. p (f x)) i xs
 from-map p f i [] = refl
 from-map p f i (x ∷ xs) = ap (cond (p (f x)) (Some i)) (from-map p f (i + 1) xs)
 
@@ -24,7 +25,8 @@ none_from : {X : Type 0} (p : X → Bool) (i : ℕ) (xs : List X) → position_f
 none_from p i [] h = All-nil (λ x. p x ≡ false)
 none_from {X = X} p i (x ∷ xs) h = go (none_from p (i + 1) xs) (p x) refl h
   where
-    go : (position_from p (i + 1) xs ≡ None → All (λ y. p y ≡ false) xs) → (b : Bool) → p x ≡ b → cond b (Some i) (position_from p (i + 1) xs) ≡ None → All (λ y. p y ≡ false) (x ∷ xs)
+    go : (position_from p (i + 1) xs ≡ None → All (λ y. p y ≡ false) xs) → (b : Bool) → p x ≡ b →
+        cond b (Some i) (position_from p (i + 1) xs) ≡ None → All (λ y. p y ≡ false) (x ∷ xs)
     go later true e h = cc
     go later false e h = All-cons (λ y. p y ≡ false) x xs e (later h)
 
@@ -65,11 +67,16 @@ some_from : {X : Type 0} (p : X → Bool) (i n : ℕ) (xs : List X) → position
 some_from p i n [] h = cc
 some_from {X = X} p i n (x ∷ xs) h = go (some_from p (i + 1) n xs) (p x) refl h
   where
-    go : (position_from p (i + 1) xs ≡ Some n → (k : ℕ) × IsSeam p xs k × (n ≡ (i + 1) + k)) → (b : Bool) → p x ≡ b → cond b (Some i) (position_from p (i + 1) xs) ≡ Some n
+    go : (position_from p (i + 1) xs ≡ Some n → (k : ℕ) × IsSeam p xs k × (n ≡ (i + 1) + k)) → (b : Bool) → p x ≡ b →
+        cond b (Some i) (position_from p (i + 1) xs) ≡ Some n
         → (k : ℕ) × IsSeam p (x ∷ xs) k × (n ≡ i + k)
     go later true e h =
-        let same : i ≡ n = cc in
-        (0, record { front = []; here = x; back = xs; whole = refl; before = All-nil (λ y. p y ≡ false); passes = e; place = refl }, omega arith)
+        let same : i ≡ n = cc in (
+          0,
+          record { front = []; here = x; back = xs; whole = refl; before = All-nil (λ y. p y ≡ false); passes = e; place = refl },
+          omega
+              arith,
+        )
     go later false e h =
         let found = later h in
         let seam = found.1 in (
@@ -90,4 +97,13 @@ pub seam_at : {X : Type 0} (p : X → Bool) (xs : List X) (n : ℕ) → position
 seam_at p xs n h =
     let found = some_from p 0 n xs (sym (by_from p xs) ∙ h) in
     let seam = found.1 in
-    record { front = seam.front; here = seam.here; back = seam.back; whole = seam.whole; before = seam.before; passes = seam.passes; place = seam.place ∙ omega (arith, found.2) }
+    record {
+      front = seam.front;
+      here = seam.here;
+      back = seam.back;
+      whole = seam.whole;
+      before = seam.before;
+      passes = seam.passes;
+      place =
+          seam.place ∙ omega (arith, found.2);
+    }

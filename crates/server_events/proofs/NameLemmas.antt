@@ -32,7 +32,8 @@ absent false h = refl
 
 pub IsInstanceName-from_test : (name : List ℕ) → is_instance_name name ≡ true → IsInstanceName name
 IsInstanceName-from_test name h =
-    let parts = four_parts (not (length name == 0)) (nat_le (length name) 64) (list_all is_instance_name_byte name) (not (list_any (bytes_eq name) resource_words)) h in
+    let parts = four_parts (not (length name == 0)) (nat_le (length name) 64) (list_all is_instance_name_byte name)
+    (not (list_any (bytes_eq name) resource_words)) h in
     let some = parts.0 in
     let few = parts.1 in
     record {
@@ -47,7 +48,8 @@ is_instance_name-true name h =
     let some : not (length name == 0) ≡ true = grind (arith, nat_tests) in
     let few : nat_le (length name) 64 ≡ true = grind (arith, nat_tests) in
     let plain = list_all-from_AllPass is_instance_name_byte name h.plain in
-    let free = absent (list_any (bytes_eq name) resource_words) (λ k. h.no_resource_word (Contains-from_any same_bytes name resource_words k)) in
+    let free = absent (list_any (bytes_eq name) resource_words)
+    (λ k. h.no_resource_word (Contains-from_any same_bytes name resource_words k)) in
     ap (λ b. ((b && nat_le (length name) 64) && list_all is_instance_name_byte name) && not (list_any (bytes_eq name) resource_words)) some
     ∙ ap (λ b. (b && list_all is_instance_name_byte name) && not (list_any (bytes_eq name) resource_words)) few
     ∙ ap (λ b. b && not (list_any (bytes_eq name) resource_words)) plain ∙ free

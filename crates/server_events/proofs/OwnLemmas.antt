@@ -25,7 +25,8 @@ has_bad_name name e h = let clash : false ≡ true = sym e ∙ is_instance_name-
 
 new_name : (before : List ConfigValue) (name : List ℕ) → is_named_among before name ≡ false → IsNewName before name
 new_name before name e k d lt same =
-    let found = list_any_at (λ config. bytes_eq config.name name) before k d lt ((bytes_eq-Decides (get_or before k d).name name).1 (sym same)) in
+    let found = list_any_at (λ config. bytes_eq config.name name) before k d lt
+    ((bytes_eq-Decides (get_or before k d).name name).1 (sym same)) in
     let clash : false ≡ true = sym e ∙ found in
     cc
 
@@ -46,7 +47,8 @@ known_name (first ∷ before) name e new =
 
 fault_by : (named fits slotted taken : Bool) → ℕ → Option ConfigFault
 fault_by named fits slotted taken number =
-    cond (not named) (Some (BadName number)) (cond (not fits) (Some (BadQuota number)) (cond (not slotted) (Some (BadSlots number)) (cond taken (Some (DuplicateName number)) None)))
+    cond (not named) (Some (BadName number)) (cond (not fits) (Some (BadQuota number))
+    (cond (not slotted) (Some (BadSlots number)) (cond taken (Some (DuplicateName number)) None)))
 
 -- what the tests of an instance say
 record AreTests (before : List ConfigValue) (config : ConfigValue) (named fits slotted taken : Bool) : Type 0 where
@@ -56,26 +58,38 @@ record AreTests (before : List ConfigValue) (config : ConfigValue) (named fits s
   taken_is : is_named_among before config.name ≡ taken
 
 tests_of : (before : List ConfigValue) (config : ConfigValue)
-    → AreTests before config (is_instance_name config.name) (nat_le config.quota quota_limit) (nat_le config.slots slots_limit) (is_named_among before config.name)
+    → AreTests before config (is_instance_name config.name) (nat_le config.quota quota_limit) (nat_le config.slots slots_limit)
+    (is_named_among before config.name)
 tests_of before config = record { named_is = refl; fits_is = refl; slotted_is = refl; taken_is = refl }
 
-pub own_fault-None : (before : List ConfigValue) (config : ConfigValue) → own_fault before config ≡ None → IsConfig config × IsNewName before config.name
+pub own_fault-None : (before : List ConfigValue) (config : ConfigValue) → own_fault before config ≡ None →
+    IsConfig config × IsNewName before config.name
 unfolding fault_by
 own_fault-None before config h =
-    go (is_instance_name config.name) (nat_le config.quota quota_limit) (nat_le config.slots slots_limit) (is_named_among before config.name) (tests_of before config) h
+    go (is_instance_name config.name) (nat_le config.quota quota_limit) (nat_le config.slots slots_limit)
+    (is_named_among before config.name) (tests_of before config) h
   where
-    go : (named fits slotted taken : Bool) → AreTests before config named fits slotted taken → fault_by named fits slotted taken (length before) ≡ None
+    go : (named fits slotted taken : Bool) → AreTests before config named fits slotted taken →
+        fault_by named fits slotted taken (length before) ≡ None
         → IsConfig config × IsNewName before config.name
     go true true true true t h = cc
     go true true true false t h =
         let small = t.fits_is in
-        let few = t.slotted_is in
-        (record { name = IsInstanceName-from_test config.name t.named_is; quota = grind (arith, nat_tests); slots = grind (arith, nat_tests) }, new_name before config.name t.taken_is)
+        let few = t.slotted_is in (
+          record {
+            name = IsInstanceName-from_test config.name t.named_is;
+            quota = grind (arith, nat_tests);
+            slots =
+                grind (arith, nat_tests);
+          },
+          new_name before config.name t.taken_is,
+        )
     go true true false taken t h = cc
     go true false slotted taken t h = cc
     go false fits slotted taken t h = cc
 
-pub None-from_good : (before : List ConfigValue) (config : ConfigValue) → IsConfig config → IsNewName before config.name → own_fault before config ≡ None
+pub None-from_good : (before : List ConfigValue) (config : ConfigValue) → IsConfig config → IsNewName before config.name →
+    own_fault before config ≡ None
 None-from_good before config good new = go (is_named_among before config.name) refl
   where
     go : (taken : Bool) → is_named_among before config.name ≡ taken → own_fault before config ≡ None
@@ -87,18 +101,30 @@ None-from_good before config good new = go (is_named_among before config.name) r
         let slotted_is : nat_le config.slots slots_limit ≡ true = grind (arith, nat_tests) in
         rw (is_instance_name-true config.name good.name, fits_is, slotted_is, e) refl
 
-pub own_fault-Some : (before : List ConfigValue) (config : ConfigValue) (fault : ConfigFault) → own_fault before config ≡ Some fault → IsOwnFault before config fault
+pub own_fault-Some : (before : List ConfigValue) (config : ConfigValue) (fault : ConfigFault) → own_fault before config ≡ Some fault →
+    IsOwnFault before config fault
 unfolding fault_by
 own_fault-Some before config fault h =
-    go (is_instance_name config.name) (nat_le config.quota quota_limit) (nat_le config.slots slots_limit) (is_named_among before config.name) (tests_of before config) h
+    go (is_instance_name config.name) (nat_le config.quota quota_limit) (nat_le config.slots slots_limit)
+    (is_named_among before config.name) (tests_of before config) h
   where
-    go : (named fits slotted taken : Bool) → AreTests before config named fits slotted taken → fault_by named fits slotted taken (length before) ≡ Some fault
+    go : (named fits slotted taken : Bool) → AreTests before config named fits slotted taken →
+        fault_by named fits slotted taken (length before) ≡ Some fault
         → IsOwnFault before config fault
     go true true true true t h =
         let same : DuplicateName (length before) ≡ fault = cc in
         let small = t.fits_is in
         let few = t.slotted_is in
-        rw (← same) (refl, record { name = IsInstanceName-from_test config.name t.named_is; quota = grind (arith, nat_tests); slots = grind (arith, nat_tests) }, known_name before config.name t.taken_is)
+        rw (← same) (
+          refl,
+          record {
+            name = IsInstanceName-from_test config.name t.named_is;
+            quota = grind (arith, nat_tests);
+            slots =
+                grind (arith, nat_tests);
+          },
+          known_name before config.name t.taken_is,
+        )
     go true true true false t h = cc
     go true true false taken t h =
         let same : BadSlots (length before) ≡ fault = cc in
@@ -113,7 +139,8 @@ own_fault-Some before config fault h =
         let same : BadName (length before) ≡ fault = cc in
         rw (← same) (refl, has_bad_name config.name t.named_is)
 
-pub Some-from_fault : (before : List ConfigValue) (config : ConfigValue) (fault : ConfigFault) → IsOwnFault before config fault → own_fault before config ≡ Some fault
+pub Some-from_fault : (before : List ConfigValue) (config : ConfigValue) (fault : ConfigFault) → IsOwnFault before config fault →
+    own_fault before config ≡ Some fault
 Some-from_fault before config (BadName number) h = go (is_instance_name config.name) refl
   where
     go : (named : Bool) → is_instance_name config.name ≡ named → own_fault before config ≡ Some (BadName number)

@@ -29,11 +29,13 @@ apart configs j k d good below there same = go (cases_order j k)
     go (inr (inr more)) = absurd (good.distinct k j d more below same)
 
 -- two of these that have one name are one
-one_named : (configs : List ConfigValue) (one two : ConfigValue) → AreGood configs → Contains configs one → Contains configs two → one.name ≡ two.name → one ≡ two
+one_named : (configs : List ConfigValue) (one two : ConfigValue) → AreGood configs → Contains configs one → Contains configs two →
+    one.name ≡ two.name → one ≡ two
 one_named configs one two good here there same =
     let first : get_or configs here.0 one ≡ one = here.2 in
     let other : get_or configs there.0 one ≡ two = get_or_default configs there.0 two one there.1 ∙ there.2 in
-    let names : (get_or configs here.0 one).name ≡ (get_or configs there.0 one).name = ap (λ (c : ConfigValue). c.name) first ∙ same ∙ ap (λ (c : ConfigValue). c.name) (sym other) in
+    let names : (get_or configs here.0 one).name ≡ (get_or configs there.0 one).name =
+    ap (λ (c : ConfigValue). c.name) first ∙ same ∙ ap (λ (c : ConfigValue). c.name) (sym other) in
     let place = apart configs here.0 there.0 one good here.1 there.1 names in
     sym first ∙ ap (λ k. get_or configs k one) place ∙ other
   where
@@ -51,7 +53,8 @@ no_parent None h = refl
 no_parent (Some name) h = cc
 
 -- a name that is one of a root among good instances is that of another one
-is_name : (configs : List ConfigValue) (config : ConfigValue) (name : List ℕ) → AreGood configs → Contains configs config → config.parent ≡ Some name
+is_name : (configs : List ConfigValue) (config : ConfigValue) (name : List ℕ) → AreGood configs → Contains configs config →
+    config.parent ≡ Some name
     → names_a_root configs name ≡ true → IsNameOfParent configs config name
 is_name configs config name good there builds h =
     let found = Any-from_list_any (λ (c : ConfigValue). bytes_eq c.name name && is_none c.parent) configs h in
@@ -64,28 +67,36 @@ is_name configs config name good there builds h =
       there = among;
       named = (bytes_eq-Decides other.name name).0 parts.0;
       another = λ same.
-          let clash : Some name ≡ None = sym builds ∙ ap (λ (c : ConfigValue). c.parent) (sym (one_named configs other config good among there same)) ∙ root in
+          let clash : Some name ≡ None = sym builds ∙ ap (λ (c : ConfigValue). c.parent)
+          (sym (one_named configs other config good among there same)) ∙ root in
           cc;
       builds_on_none = root;
     }
 
-well_if : (configs : List ConfigValue) (config : ConfigValue) → AreGood configs → Contains configs config → has_bad_parent configs config ≡ false → BuildsWell configs config
+well_if : (configs : List ConfigValue) (config : ConfigValue) → AreGood configs → Contains configs config →
+    has_bad_parent configs config ≡ false → BuildsWell configs config
 well_if configs config good there h = go config.parent refl h
   where
-    go : (parent : Option (List ℕ)) → config.parent ≡ parent → option_map_or (λ name. not (names_a_root configs name)) parent false ≡ false → IfSome parent (IsNameOfParent configs config)
+    go : (parent : Option (List ℕ)) → config.parent ≡ parent →
+        option_map_or (λ name. not (names_a_root configs name)) parent false ≡ false → IfSome parent (IsNameOfParent configs config)
     go None e h = tt
     go (Some name) e h = is_name configs config name good there e (unnegated (names_a_root configs name) h)
 
-root_named : (configs : List ConfigValue) (config : ConfigValue) (name : List ℕ) → IsNameOfParent configs config name → names_a_root configs name ≡ true
+root_named : (configs : List ConfigValue) (config : ConfigValue) (name : List ℕ) → IsNameOfParent configs config name →
+    names_a_root configs name ≡ true
 root_named configs config name h =
     let there = h.there in
-    let passes : (bytes_eq h.parent.name name && is_none h.parent.parent) ≡ true = ap (λ b. b && is_none h.parent.parent) ((bytes_eq-Decides h.parent.name name).1 h.named) ∙ ap (λ (o : Option (List ℕ)). is_none o) h.builds_on_none in
-    list_any_at (λ (c : ConfigValue). bytes_eq c.name name && is_none c.parent) configs there.0 h.parent there.1 (ap (λ (c : ConfigValue). bytes_eq c.name name && is_none c.parent) there.2 ∙ passes)
+    let passes : (bytes_eq h.parent.name name && is_none h.parent.parent) ≡ true =
+    ap (λ b. b && is_none h.parent.parent) ((bytes_eq-Decides h.parent.name name).1 h.named)
+    ∙ ap (λ (o : Option (List ℕ)). is_none o) h.builds_on_none in
+    list_any_at (λ (c : ConfigValue). bytes_eq c.name name && is_none c.parent) configs there.0 h.parent there.1
+    (ap (λ (c : ConfigValue). bytes_eq c.name name && is_none c.parent) there.2 ∙ passes)
 
 if_well : (configs : List ConfigValue) (config : ConfigValue) → BuildsWell configs config → has_bad_parent configs config ≡ false
 if_well configs config h = go config.parent h
   where
-    go : (parent : Option (List ℕ)) → IfSome parent (IsNameOfParent configs config) → option_map_or (λ name. not (names_a_root configs name)) parent false ≡ false
+    go : (parent : Option (List ℕ)) → IfSome parent (IsNameOfParent configs config) →
+        option_map_or (λ name. not (names_a_root configs name)) parent false ≡ false
     go None h = refl
     go (Some name) h = ap not (root_named configs config name h)
 
@@ -104,11 +115,13 @@ pub well_is_none : (configs : List ConfigValue) → All (BuildsWell configs) con
 well_is_none configs h =
     ap (option_map BadParent) (passes_none (has_bad_parent configs) configs (λ k d lt. if_well configs (get_or configs k d) (h k d lt)))
 
-bad_number : (found : Option ℕ) (fault : ConfigFault) → option_map BadParent found ≡ Some fault → (n : ℕ) × (found ≡ Some n) × (fault ≡ BadParent n)
+bad_number : (found : Option ℕ) (fault : ConfigFault) → option_map BadParent found ≡ Some fault →
+    (n : ℕ) × (found ≡ Some n) × (fault ≡ BadParent n)
 bad_number None fault h = cc
 bad_number (Some n) fault h = (n, refl, cc)
 
-pub some_is_bad : (configs : List ConfigValue) (fault : ConfigFault) → AreGood configs → first_parent_fault configs ≡ Some fault → IsFirstBadParent configs fault
+pub some_is_bad : (configs : List ConfigValue) (fault : ConfigFault) → AreGood configs → first_parent_fault configs ≡ Some fault →
+    IsFirstBadParent configs fault
 some_is_bad configs fault good h =
     let found = bad_number (position (has_bad_parent configs) configs) fault h in
     let seam = seam_at (has_bad_parent configs) configs found.0 found.1 in
@@ -118,24 +131,31 @@ some_is_bad configs fault good h =
       back = seam.back;
       whole = seam.whole;
       good = good;
-      before = λ k d lt. well_if configs (get_or seam.front k d) good (among seam.front seam.here seam.back seam.whole k d lt) (seam.before k d lt);
+      before = λ k d lt. well_if configs (get_or seam.front k d) good (among seam.front seam.here seam.back seam.whole k d lt)
+          (seam.before k d lt);
       bad = λ well. let clash : true ≡ false = sym seam.passes ∙ if_well configs seam.here well in cc;
       number = found.2 ∙ ap BadParent (sym seam.place);
     }
   where
-    among : (front : List ConfigValue) (here : ConfigValue) (back : List ConfigValue) → configs ≡ front ++ here ∷ back → (k : ℕ) (d : ConfigValue) → k < length front → Contains configs (get_or front k d)
+    among : (front : List ConfigValue) (here : ConfigValue) (back : List ConfigValue) → configs ≡ front ++ here ∷ back →
+        (k : ℕ) (d : ConfigValue) → k < length front → Contains configs (get_or front k d)
     among front here back whole k d lt =
-        subst (λ (cs : List ConfigValue). Contains cs (get_or front k d)) (sym whole) (Contains-append_left front (here ∷ back) (get_or front k d) (Contains-get_or front k d lt))
+        subst (λ (cs : List ConfigValue). Contains cs (get_or front k d)) (sym whole)
+        (Contains-append_left front (here ∷ back) (get_or front k d) (Contains-get_or front k d lt))
 
 not_well : (b : Bool) → (b ≡ false → ⊥) → b ≡ true
 not_well true h = refl
 not_well false h = absurd (h refl)
 
-pub bad_is_some : (configs : List ConfigValue) (fault : ConfigFault) → IsFirstBadParent configs fault → first_parent_fault configs ≡ Some fault
+pub bad_is_some : (configs : List ConfigValue) (fault : ConfigFault) → IsFirstBadParent configs fault →
+    first_parent_fault configs ≡ Some fault
 bad_is_some configs fault h =
-    let there : Contains configs h.config = subst (λ (cs : List ConfigValue). Contains cs h.config) (sym h.whole) (Contains-append_right h.front (h.config ∷ h.back) h.config (0, omega arith, refl)) in
+    let there : Contains configs h.config = subst (λ (cs : List ConfigValue). Contains cs h.config) (sym h.whole)
+    (Contains-append_right h.front (h.config ∷ h.back) h.config (0, omega arith, refl)) in
     let passes = not_well (has_bad_parent configs h.config) (λ e. h.bad (well_if configs h.config h.good there e)) in
-    let place = ap (position (has_bad_parent configs)) h.whole ∙ position_seam (has_bad_parent configs) h.front h.config h.back (λ k d lt. if_well configs (get_or h.front k d) (h.before k d lt)) passes in
+    let place = ap (position (has_bad_parent configs)) h.whole
+    ∙ position_seam (has_bad_parent configs) h.front h.config h.back
+    (λ k d lt. if_well configs (get_or h.front k d) (h.before k d lt)) passes in
     ap (option_map BadParent) place ∙ ap Some (sym h.number)
 
 -- ---- parents by their numbers
@@ -157,7 +177,8 @@ some_name : (configs : List ConfigValue) (o : Option (List ℕ)) (parent : ℕ) 
 some_name configs None parent h = cc
 some_name configs (Some name) parent h = (name, refl, h)
 
-well_named : (configs : List ConfigValue) (config : ConfigValue) (o : Option (List ℕ)) (name : List ℕ) → o ≡ Some name → IfSome o (IsNameOfParent configs config) → IsNameOfParent configs config name
+well_named : (configs : List ConfigValue) (config : ConfigValue) (o : Option (List ℕ)) (name : List ℕ) → o ≡ Some name →
+    IfSome o (IsNameOfParent configs config) → IsNameOfParent configs config name
 well_named configs config None name e h = cc
 well_named configs config (Some other) name e h =
     let same : other ≡ name = cc in
@@ -174,7 +195,8 @@ parents_are configs good well child parent h =
     well_named configs config config.parent named.0 named.1 (subst (BuildsWell configs) here (well child config lt)) in
     let at = number_is configs named.0 parent config named.2 in
     let there : Contains configs (get_or configs parent config) = Contains-get_or configs parent config at.0 in
-    let same : get_or configs parent config ≡ fits.parent = one_named configs (get_or configs parent config) fits.parent good there fits.there (at.1 ∙ sym fits.named) in
+    let same : get_or configs parent config ≡ fits.parent =
+    one_named configs (get_or configs parent config) fits.parent good there fits.there (at.1 ∙ sym fits.named) in
     record {
       within = rw (length-map) at.0;
       another = λ is. fits.another (ap (λ (c : ConfigValue). c.name) (sym same ∙ ap (λ k. get_or configs k config) is ∙ here));

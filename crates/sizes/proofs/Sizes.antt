@@ -14,12 +14,14 @@ last_item (x ∷ rest) letter = last_item rest letter
 last_place : (rest word : List ℕ) → length rest + 1 ≡ length word → length word - 1 ≡ length rest
 last_place rest word count = omega (arith, count)
 
-last_unit-is : (word rest : List ℕ) (letter : ℕ) → word ≡ rest ++ (letter ∷ []) → length rest + 1 ≡ length word → last_unit word ≡ unit_of letter
+last_unit-is : (word rest : List ℕ) (letter : ℕ) → word ≡ rest ++ (letter ∷ []) → length rest + 1 ≡ length word →
+    last_unit word ≡ unit_of letter
 last_unit-is word rest letter is count =
     rw (last_place rest word count, is, last_item rest letter) refl
 
 -- a word whose last letter is that of a unit
-pub size_of-unit : (word rest : List ℕ) (letter unit : ℕ) → (word ≡ rest ++ (letter ∷ [])) × (length rest + 1 ≡ length word) → unit_of letter ≡ Some unit
+pub size_of-unit : (word rest : List ℕ) (letter unit : ℕ) → (word ≡ rest ++ (letter ∷ [])) × (length rest + 1 ≡ length word) →
+    unit_of letter ≡ Some unit
     → size_of word ≡ option_and_then (in_units unit) (decimal_of rest)
 size_of-unit word rest letter unit split has =
     let last = last_unit-is word rest letter split.0 split.1 ∙ has in
@@ -27,14 +29,16 @@ size_of-unit word rest letter unit split has =
     rw (last, front) refl
 
 -- and one whose last letter is not
-pub size_of-plain : (word rest : List ℕ) (letter : ℕ) → (word ≡ rest ++ (letter ∷ [])) × (length rest + 1 ≡ length word) → unit_of letter ≡ None
+pub size_of-plain : (word rest : List ℕ) (letter : ℕ) → (word ≡ rest ++ (letter ∷ [])) × (length rest + 1 ≡ length word) →
+    unit_of letter ≡ None
     → size_of word ≡ decimal_of word
 size_of-plain word rest letter split has =
     let last = last_unit-is word rest letter split.0 split.1 ∙ has in
     rw last refl
 
 pub multiplied : (r : Option ℕ) (number unit : ℕ) → SomeIff r (number * unit < 2 ^ 64) (number * unit) → r ≡ in_units unit number
-multiplied (Some n) number unit is = let fits : nat_lt (number * unit) (2 ^ 64) ≡ true = let lt = is.0 in grind (arith, nat_tests) in rw fits (ap Some is.1)
+multiplied (Some n) number unit is = let fits : nat_lt (number * unit) (2 ^ 64) ≡ true = let lt = is.0 in grind (arith, nat_tests) in
+    rw fits (ap Some is.1)
 multiplied None number unit is = go (nat_lt (number * unit) (2 ^ 64)) refl
   where
     go : (fits : Bool) → nat_lt (number * unit) (2 ^ 64) ≡ fits → None ≡ in_units unit number

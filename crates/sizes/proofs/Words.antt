@@ -15,7 +15,8 @@ use Rattle.sizes.proofs.Sizes.{size_of-unit}
 decimal_of-some : (word : List ℕ) (number : ℕ) → decimal_of word ≡ Some number → (is_decimal word ≡ true) × (number ≡ decimal_value word)
 decimal_of-some word number read = go (is_decimal word) refl (nat_lt (decimal_value word) (2 ^ 64)) refl
   where
-    go : (digits : Bool) → is_decimal word ≡ digits → (fits : Bool) → nat_lt (decimal_value word) (2 ^ 64) ≡ fits → (is_decimal word ≡ true) × (number ≡ decimal_value word)
+    go : (digits : Bool) → is_decimal word ≡ digits → (fits : Bool) → nat_lt (decimal_value word) (2 ^ 64) ≡ fits →
+        (is_decimal word ≡ true) × (number ≡ decimal_value word)
     go true d true f = let some : Some (decimal_value word) ≡ Some number = rw (d, f) at read in (d, cc)
     go true d false f = let none : None ≡ Some number = rw (d, f) at read in cc
     go false d fits f = let none : None ≡ Some number = rw d at read in cc
@@ -76,10 +77,12 @@ read_is_written word bytes read = go (slice_get word (length word - 1)) refl
 
 -- ---- what is written is read
 
-digit_at : (word : List ℕ) (i letter : ℕ) → list_all is_decimal_digit word ≡ true → slice_get word i ≡ Some letter → is_decimal_digit letter ≡ true
+digit_at : (word : List ℕ) (i letter : ℕ) → list_all is_decimal_digit word ≡ true → slice_get word i ≡ Some letter →
+    is_decimal_digit letter ≡ true
 digit_at [] i letter all is = cc
 digit_at (x ∷ word) zero letter all is = let first = (and_parts (is_decimal_digit x) (list_all is_decimal_digit word) all).0 in cc
-digit_at (x ∷ word) (suc i) letter all is = digit_at word i letter (and_parts (is_decimal_digit x) (list_all is_decimal_digit word) all).1 is
+digit_at (x ∷ word) (suc i) letter all is = digit_at word i letter
+    (and_parts (is_decimal_digit x) (list_all is_decimal_digit word) all).1 is
 
 digit_is_no_unit : (letter : ℕ) → is_decimal_digit letter ≡ true → unit_of letter ≡ None
 digit_is_no_unit letter digit =

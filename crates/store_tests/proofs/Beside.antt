@@ -10,7 +10,8 @@ use Rattle.quota_evict.specs.InPool.{IsViewInPool}
 use Rattle.quota_evict.proofs.Steps.{entries_fit, kept_none}
 use Rattle.store_tests.specs.Beside.{AreBeside}
 
-pub beside_none : (quota : ℕ) (p : Slots) (v w : ViewValue) → p ≡ [] → v.entries ≡ [] → w.entries ≡ [] → v.limit ≤ 65536 → w.limit ≤ 65536 → AreBeside quota p v w
+pub beside_none : (quota : ℕ) (p : Slots) (v w : ViewValue) → p ≡ [] → v.entries ≡ [] → w.entries ≡ [] → v.limit ≤ 65536 → w.limit ≤ 65536 →
+    AreBeside quota p v w
 beside_none quota p v w empty none none' small small' = record {
   exact = λ k. rw (empty, none, none') refl;
   first = kept_none quota p v empty none;
@@ -28,7 +29,8 @@ beside_swapped quota p v w b = record {
   second_limit = b.first_limit;
 }
 
-pub beside_after : (quota : ℕ) (p q : Slots) (v w x : ViewValue) → AreBeside quota p v w → x.limit ≡ v.limit → IsViewInPool quota q x → Moves p q (holders v) (holders x) → AreBeside quota q x w
+pub beside_after : (quota : ℕ) (p q : Slots) (v w x : ViewValue) → AreBeside quota p v w → x.limit ≡ v.limit → IsViewInPool quota q x →
+    Moves p q (holders v) (holders x) → AreBeside quota q x w
 beside_after quota p q v w x b limit kept m =
     let exact : (k : ℕ) → count_at q k ≡ holders x k + holders w k = λ k. omega (arith, m.counts k, b.exact k) in
     let few : length x.entries ≤ 65536 = omega (arith, entries_fit quota q x kept, limit, b.first_limit) in

@@ -3,6 +3,7 @@
 ghost use Rattle.std.specs.Prelude.{◌≡◌, ◌≤◌, ◌∷◌, ℕ, List, IfOk, IsTrue, length};
 ghost use Rattle.std.specs.Io.{ReadsAtMost, WritesAtMost};
 
+use std::alloc::{AllocError, Global};
 use std::io;
 
 /// What stands at a place.
@@ -33,6 +34,8 @@ pub struct Facts {
     pub size: u64,
     /// Who may do what with it.
     pub mode: u32,
+    /// The number of the user whose it is.
+    pub owner: u32,
 }
 
 /// For what a file is opened.
@@ -47,6 +50,7 @@ pub enum Access {
 
 /// A file that is open, or what was there in its place. It is closed where it is let go.
 pub trait OpenFile: Drop {
+    ghost use Rattle.std.specs.Prelude.{take};
     ghost use Rattle.system.specs.Places.{Place};
     ghost use Rattle.system.specs.declared.directory.Identity.{Identity};
 
@@ -59,13 +63,17 @@ pub trait OpenFile: Drop {
     // Whether it may be written, locked, and made to allow what a mode says.
     ghost may_write: { Self → Type 0 };
 
+    // That a reading from a place on gave these bytes. It gives none at the end alone.
+    ghost gave: { Self → ℕ → List ℕ → Type 0 };
+
     /// What is told of what is open.
     fn facts(&self) -> io::Result<Facts>
         ensures { IfOk result (λ f. has self.now f.identity) };
 
     /// Reads bytes from a place on, and says how many; none at the end alone.
     fn read_at(&self, room: &mut [u8], from: u64) -> io::Result<usize>
-        ensures bound { ReadsAtMost result room.new };
+        ensures bound { ReadsAtMost result room.new }
+        ensures gave { IfOk result (λ count. gave self.now from (take count room.new)) };
 
     /// Writes all of these bytes, or some of them where it fails.
     fn write_all(&mut self, bytes: &[u8]) -> io::Result<()>
@@ -87,6 +95,7 @@ pub trait OpenFile: Drop {
 /// which it is asked what it is. Programs may change anything between two calls. So what is said of
 /// a directory is by which names it was opened; that stays so, wherever it is moved.
 pub trait Directory: Drop {
+    ghost use Rattle.std.specs.Prelude.{◌⊎◌, codes};
     ghost use Rattle.system.specs.Names.{is_name};
     ghost use Rattle.system.specs.Places.{IsFileThere, Place, entry};
     ghost use Rattle.system.specs.declared.directory.Access.TheVariants.{Read};
@@ -127,6 +136,11 @@ pub trait Directory: Drop {
     /// What is told of it.
     fn facts(&self) -> io::Result<Facts>
         requires may { may_look (place self.now) };
+
+    /// A path by which another process of this user finds what has this name in this one, or that
+    /// itself, `.`, as long as it is open.
+    fn shown_path(&self, alloc: Global, name: &str) -> Result<String, AllocError>
+        requires may { (name.now ≡ codes ".") ⊎ may_look (entry name.now (place self.now)) };
 
     /// Puts names of entries that were not listed yet at the start of the room, each with a 0
     /// behind it, and says how many bytes they take: none at the end alone. They may be any bytes.

@@ -90,20 +90,29 @@ pub trait Command: Drop {
 
 /// A program that was started. Where it is let go, it is neither ended nor waited for.
 pub trait Child: Drop {
-    ghost use Rattle.std.specs.Prelude.{Option};
+    ghost use Rattle.std.specs.Prelude.{ℕ, Option};
     ghost use Rattle.system.specs.declared.programs.Ending.{Ending};
 
     // How it ended, once a look told that. Until then its number is no other's.
     ghost ended: { Self → Option Ending };
 
+    // The number of its process.
+    ghost number: { Self → ℕ };
+
+    /// The number of its process.
+    fn number(&self) -> u32
+        ensures { result ≡ number self.now };
+
     /// How it ended, if it has.
     fn look(&mut self) -> io::Result<Option<Ending>>
         ensures told { IfOk result (λ ending. ended self.new ≡ ending) }
-        ensures kept { OnErr result (ended self.new ≡ ended self.old) };
+        ensures kept { OnErr result (ended self.new ≡ ended self.old) }
+        ensures number { number self.new ≡ number self.old };
 
     /// Ends it alone, where a look did not tell that it has ended.
     fn kill(&mut self) -> io::Result<()>
-        ensures { ended self.new ≡ ended self.old };
+        ensures ended { ended self.new ≡ ended self.old }
+        ensures number { number self.new ≡ number self.old };
 }
 
 /// Starts commands, and nothing else.

@@ -240,6 +240,7 @@ impl Disk {
             },
             size: node.bytes.len() as u64,
             mode: node.mode,
+            owner: 0,
         })
     }
 

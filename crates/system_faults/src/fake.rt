@@ -167,14 +167,23 @@ impl<'a> OpenFile for FakeFile<'a> {
 
     ghost may_write = { λ _. ⊤ };
 
+    // What stands in it is known to the disk alone, too.
+    ghost gave = { λ _ _ _. ⊤ };
+
     fn facts(&self) -> io::Result<Facts> {
         let mut disk = self.called(Call::FileFacts)?;
         let answer = disk.facts(self.handle.node);
-        let Facts { size, mode, .. } = disk.noted(answer)?;
+        let Facts {
+            size,
+            mode,
+            owner,
+            ..
+        } = disk.noted(answer)?;
         Ok(Facts {
             identity: self.identity,
             size,
             mode,
+            owner,
         })
     }
 
@@ -244,6 +253,11 @@ impl<'a> Directory for FakeDirectory<'a> {
         let mut disk = self.handle.called(Call::Facts, b"")?;
         let answer = disk.facts(self.handle.node);
         disk.noted(answer)
+    }
+
+    /// No other process finds anything here.
+    fn shown_path(&self, alloc: Global, name: &str) -> Result<String, AllocError> {
+        String::from_str(alloc, name)
     }
 
     fn list(&self, room: &mut [u8]) -> io::Result<usize> {

@@ -33,7 +33,8 @@ use Rattle.tree_calls.proofs.Pages.{list_given}
 abbrev pub AllNamed : List Blob → Type 0
 AllNamed visible = AllByRecursion (λ (b : Blob). Names b.0 b.1) visible
 
-directory_named : (visible : List Blob) (d : Digest) → AllNamed visible → IsDirectory (texts_seen visible) d → Names d (text_or_none (texts_seen visible) d)
+directory_named : (visible : List Blob) (d : Digest) → AllNamed visible → IsDirectory (texts_seen visible) d →
+    Names d (text_or_none (texts_seen visible) d)
 directory_named visible d named h = go (visible_text d visible) refl h where
   go : (o : Option (List ℕ)) → visible_text d visible ≡ o → is_some (children_of_text o) ≡ true → Names d (unwrap_or o [])
   go None is h = absurd (cc)
@@ -41,9 +42,14 @@ directory_named visible d named h = go (visible_text d visible) refl h where
 
 -- ---- pages
 
-all_texts : (visible : List Blob) (listed ds : List Digest) → AllNamed visible → AllByRecursion (IsDigestListed listed) ds → AllByRecursion (IsDirectory (texts_seen visible)) ds → AllByRecursion (IsNamedAmong listed) (texts (texts_seen visible) ds)
+all_texts : (visible : List Blob) (listed ds : List Digest) → AllNamed visible → AllByRecursion (IsDigestListed listed) ds →
+    AllByRecursion (IsDirectory (texts_seen visible)) ds → AllByRecursion (IsNamedAmong listed) (texts (texts_seen visible) ds)
 all_texts visible listed [] named there dirs = tt
-all_texts visible listed (d ∷ ds) named there dirs = (record { digest = d; is_listed = there.0; names = directory_named visible d named dirs.0 }, all_texts visible listed ds named there.1 dirs.1)
+all_texts visible listed (d ∷ ds) named there dirs = (
+  record { digest = d; is_listed = there.0; names = directory_named visible d named dirs.0 },
+  all_texts visible listed ds named there.1
+      dirs.1,
+)
 
 pub all_dropped : {X : Type 0} (P : X → Type 0) (n : ℕ) (xs : List X) → AllByRecursion P xs → AllByRecursion P (drop n xs)
 all_dropped P zero xs h = h
@@ -54,21 +60,26 @@ pub all_front : {X : Type 0} (P : X → Type 0) (xs ys : List X) → AllByRecurs
 all_front P [] ys h = (tt, h)
 all_front P (x ∷ xs) ys h = let rest = all_front P xs ys h.1 in ((h.0, rest.0), rest.1)
 
-each_named : (listed : List Digest) (pages : List GetTreeResponseValue) → AllByRecursion (IsNamedAmong listed) (directories_of pages) → AllByRecursion (IsNamedPage listed) (map page_text pages)
+each_named : (listed : List Digest) (pages : List GetTreeResponseValue) → AllByRecursion (IsNamedAmong listed) (directories_of pages) →
+    AllByRecursion (IsNamedPage listed) (map page_text pages)
 each_named listed [] h = tt
 each_named listed (p ∷ ps) h =
     let parts = all_front (IsNamedAmong listed) p.directories (directories_of ps) h in
     (record { page = p; written = refl; named = parts.0 }, each_named listed ps parts.1)
 
-all_named : (visible : List Blob) (listed : List Digest) (place : ℕ) (pages : List GetTreeResponseValue) (messages : List (List ℕ)) → AllNamed visible → AllByRecursion (IsDirectory (texts_seen visible)) listed → directories_of pages ≡ texts (texts_seen visible) (drop place listed)
+all_named : (visible : List Blob) (listed : List Digest) (place : ℕ) (pages : List GetTreeResponseValue) (messages : List (List ℕ)) →
+    AllNamed visible → AllByRecursion (IsDirectory (texts_seen visible)) listed →
+    directories_of pages ≡ texts (texts_seen visible) (drop place listed)
     → messages ≡ map page_text pages → AllByRecursion (IsNamedPage listed) messages
 all_named visible listed place pages messages named dirs joined written =
     let look = texts_seen visible in
-    let all = all_texts visible listed (drop place listed) named (all_dropped (IsDigestListed listed) place listed (all_listed listed)) (all_dropped (IsDirectory look) place listed dirs) in
+    let all = all_texts visible listed (drop place listed) named (all_dropped (IsDigestListed listed) place listed (all_listed listed))
+    (all_dropped (IsDirectory look) place listed dirs) in
     let given : AllByRecursion (IsNamedAmong listed) (directories_of pages) = rw joined all in
     rw written (each_named listed pages given)
 
-pub pages_named : (own : List ℕ) (visible : List Blob) (request : List ℕ) (messages : List (List ℕ)) → AllNamed visible → get_tree_replies own visible request ≡ Ok messages → AreNamedReplies own visible request messages
+pub pages_named : (own : List ℕ) (visible : List Blob) (request : List ℕ) (messages : List (List ℕ)) → AllNamed visible →
+    get_tree_replies own visible request ≡ Ok messages → AreNamedReplies own visible request messages
 pages_named own visible request messages named h =
     let look = texts_seen visible in
     let g = list_given own visible request messages h in
@@ -87,9 +98,11 @@ some_then : {A B : Type 0} (o : Option A) (f : A → Option B) (y : B) → and_t
 some_then None f y h = absurd (cc)
 some_then (Some x) f y h = (x, refl, h)
 
-blob_there : (look : Lookup) (ds : List Digest) (written : Option DigestValue) (all : List Digest) → with_blob look ds written ≡ Some all → HasBlob look written
+blob_there : (look : Lookup) (ds : List Digest) (written : Option DigestValue) (all : List Digest) → with_blob look ds written ≡ Some all →
+    HasBlob look written
 blob_there look ds written all h = go (written_digest written) refl h where
-  test : (d : Digest) → written_digest written ≡ Some d → (b : Bool) → is_some (look d) ≡ b → (if b then Some (ds ++ d ∷ []) else None) ≡ Some all → HasBlob look written
+  test : (d : Digest) → written_digest written ≡ Some d → (b : Bool) → is_some (look d) ≡ b →
+      (if b then Some (ds ++ d ∷ []) else None) ≡ Some all → HasBlob look written
   test d is true there h = record { digest = d; is = is; there = there }
   test d is false there h = absurd (cc)
 
@@ -97,26 +110,34 @@ blob_there look ds written all h = go (written_digest written) refl h where
   go None is h = absurd (cc)
   go (Some d) is h = test d is (is_some (look d)) refl h
 
-set_there : (look : Lookup) (ds : List Digest) (written : Option DigestValue) (all : List Digest) → with_set look ds written ≡ Some all → IfSome written (λ w. HasBlob look (Some w))
+set_there : (look : Lookup) (ds : List Digest) (written : Option DigestValue) (all : List Digest) → with_set look ds written ≡ Some all →
+    IfSome written (λ w. HasBlob look (Some w))
 set_there look ds None all h = tt
 set_there look ds (Some w) all h = blob_there look ds (Some w) all h
 
-each_there : {V : Type 0} (with_part : List Digest → V → Option (List Digest)) (IsThere : V → Type 0) → ((ds : List Digest) (v : V) (all : List Digest) → with_part ds v ≡ Some all → IsThere v) → (ds : List Digest) (vs : List V) (all : List Digest) → with_each with_part ds vs ≡ Some all → AllByRecursion IsThere vs
+each_there : {V : Type 0} (with_part : List Digest → V → Option (List Digest)) (IsThere : V → Type 0) →
+    ((ds : List Digest) (v : V) (all : List Digest) → with_part ds v ≡ Some all → IsThere v) →
+    (ds : List Digest) (vs : List V) (all : List Digest) → with_each with_part ds vs ≡ Some all → AllByRecursion IsThere vs
 each_there with_part IsThere there ds [] all h = tt
 each_there with_part IsThere there ds (v ∷ vs) all h =
     let s = some_then (with_part ds v) (λ more. with_each with_part more vs) all h in
     (there ds v s.0 s.1, each_there with_part IsThere there s.0 vs all s.2)
 
-directory_there : (look : Lookup) (ds : List Digest) (v : DirectoryValue) (all : List Digest) → with_directory look ds v ≡ Some all → HasFiles look v
-directory_there look ds v all h = each_there (with_file look) (λ file. HasBlob look file.digest) (λ ds file all h. blob_there look ds file.digest all h) ds v.files all h
+directory_there : (look : Lookup) (ds : List Digest) (v : DirectoryValue) (all : List Digest) → with_directory look ds v ≡ Some all →
+    HasFiles look v
+directory_there look ds v all h = each_there (with_file look) (λ file. HasBlob look file.digest)
+    (λ ds file all h. blob_there look ds file.digest all h) ds v.files all h
 
-root_there : (look : Lookup) (ds : List Digest) (root : Option DirectoryValue) (all : List Digest) → with_root look ds root ≡ Some all → IfSome root (HasFiles look)
+root_there : (look : Lookup) (ds : List Digest) (root : Option DirectoryValue) (all : List Digest) → with_root look ds root ≡ Some all →
+    IfSome root (HasFiles look)
 root_there look ds None all h = tt
 root_there look ds (Some v) all h = directory_there look ds v all h
 
-tree_there : (look : Lookup) (ds : List Digest) (written : Option DigestValue) (all : List Digest) → with_tree_of look ds (written_digest written) ≡ Some all → HasTree look written
+tree_there : (look : Lookup) (ds : List Digest) (written : Option DigestValue) (all : List Digest) →
+    with_tree_of look ds (written_digest written) ≡ Some all → HasTree look written
 tree_there look ds written all h = go (written_digest written) refl h where
-  spelled : (d : Digest) → written_digest written ≡ Some d → (t : List ℕ) → look d ≡ Some t → (r : Result TreeValue MessageError) → value_of_text tree_of t ≡ r → with_tree look (ds ++ d ∷ []) r ≡ Some all → HasTree look written
+  spelled : (d : Digest) → written_digest written ≡ Some d → (t : List ℕ) → look d ≡ Some t → (r : Result TreeValue MessageError) →
+      value_of_text tree_of t ≡ r → with_tree look (ds ++ d ∷ []) r ≡ Some all → HasTree look written
   spelled d is t there (Err e) reads h = absurd (cc)
   spelled d is t there (Ok tree) reads h =
       let s = some_then (with_root look (ds ++ d ∷ []) tree.root) (λ more. with_each (with_directory look) more tree.children) all h in
@@ -131,7 +152,8 @@ tree_there look ds written all h = go (written_digest written) refl h where
         children = each_there (with_directory look) (HasFiles look) (directory_there look) s.0 tree.children all s.2;
       }
 
-  test : (d : Digest) → written_digest written ≡ Some d → (o : Option (List ℕ)) → look d ≡ o → (if is_some o then with_tree look (ds ++ d ∷ []) (value_of_text tree_of (unwrap_or o [])) else None) ≡ Some all → HasTree look written
+  test : (d : Digest) → written_digest written ≡ Some d → (o : Option (List ℕ)) → look d ≡ o →
+      (if is_some o then with_tree look (ds ++ d ∷ []) (value_of_text tree_of (unwrap_or o [])) else None) ≡ Some all → HasTree look written
   test d is None there h = absurd (cc)
   test d is (Some t) there h = spelled d is t there (value_of_text tree_of t) refl h
 
@@ -141,17 +163,22 @@ tree_there look ds written all h = go (written_digest written) refl h where
 
 is_complete : (look : Lookup) (t : List ℕ) (all : List Digest) → blobs_of look t ≡ Some all → IsComplete look t
 is_complete look t all h = go (value_of_text action_result_of t) refl h where
-  go : (r : Result ActionResultValue MessageError) → value_of_text action_result_of t ≡ r → with_outputs look r ≡ Some all → IsComplete look t
+  go : (r : Result ActionResultValue MessageError) → value_of_text action_result_of t ≡ r → with_outputs look r ≡ Some all →
+      IsComplete look t
   go (Err e) reads h = absurd (cc)
   go (Ok v) reads h =
-      let files = some_then (with_each (with_output_file look) [] v.output_files) (λ files. and_then (with_each (with_output_directory look) files v.output_directories) (λ all. with_streams look all v)) all h in
-      let trees = some_then (with_each (with_output_directory look) files.0 v.output_directories) (λ all. with_streams look all v) all files.2 in
+      let files = some_then (with_each (with_output_file look) [] v.output_files)
+      (λ files. and_then (with_each (with_output_directory look) files v.output_directories) (λ all. with_streams look all v)) all h in
+      let trees = some_then (with_each (with_output_directory look) files.0 v.output_directories)
+      (λ all. with_streams look all v) all files.2 in
       let stdout = some_then (with_set look trees.0 v.stdout_digest) (λ more. with_set look more v.stderr_digest) all trees.2 in
       record {
         value = v;
         spelled = reads;
-        files = each_there (with_output_file look) (λ file. HasBlob look file.digest) (λ ds file all h. blob_there look ds file.digest all h) [] v.output_files files.0 files.1;
-        trees = each_there (with_output_directory look) (λ tree. HasTree look tree.tree_digest) (λ ds tree all h. tree_there look ds tree.tree_digest all h) files.0 v.output_directories trees.0 trees.1;
+        files = each_there (with_output_file look) (λ file. HasBlob look file.digest)
+            (λ ds file all h. blob_there look ds file.digest all h) [] v.output_files files.0 files.1;
+        trees = each_there (with_output_directory look) (λ tree. HasTree look tree.tree_digest)
+            (λ ds tree all h. tree_there look ds tree.tree_digest all h) files.0 v.output_directories trees.0 trees.1;
         stdout = set_there look trees.0 v.stdout_digest stdout.0 stdout.1;
         stderr = set_there look stdout.0 v.stderr_digest all stdout.2;
       }
@@ -161,14 +188,16 @@ result_ok None t h = absurd (cc)
 result_ok (Some u) t h = cc
 
 -- what is found is stored, and complete
-pub result_found : (look : Lookup) (action : Digest) (results : List Blob) (text : List ℕ) → result_for look action results ≡ Some text → (lookup (same_digest action) results ≡ Some text) × IsComplete look text
+pub result_found : (look : Lookup) (action : Digest) (results : List Blob) (text : List ℕ) → result_for look action results ≡ Some text →
+    (lookup (same_digest action) results ≡ Some text) × IsComplete look text
 result_found look action results text h =
     let b = some_then (blobs_for look action results) (λ (all : List Digest). lookup (same_digest action) results) text h in
     let s = some_then (lookup (same_digest action) results) (blobs_of look) b.0 b.1 in
     let same_text : s.0 ≡ text = let x = s.1 in let y = b.2 in cc in
     (b.2, subst (IsComplete look) same_text (is_complete look s.0 b.0 s.2))
 
-pub result_complete : (own : List ℕ) (visible results : List Blob) (request reply : List ℕ) → get_action_result_reply own visible results request ≡ Ok reply → IsCompleteReply own visible results request reply
+pub result_complete : (own : List ℕ) (visible results : List Blob) (request reply : List ℕ) →
+    get_action_result_reply own visible results request ≡ Ok reply → IsCompleteReply own visible results request reply
 result_complete own visible results request reply h =
     let look = texts_seen visible in
     let a = bind_ok (action_asked own request) (λ action. or_no_result (result_for look action results)) reply h in

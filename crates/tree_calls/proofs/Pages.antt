@@ -22,12 +22,14 @@ use Rattle.tree_calls.proofs.Sizes.{both_written}
 
 -- ---- one page
 
-records_last : (page : List (List ℕ)) (t : List ℕ) → repeated_octets_field 1 (page ++ t ∷ []) ≡ repeated_octets_field 1 page ++ repeated_octets_field 1 (t ∷ [])
+records_last : (page : List (List ℕ)) (t : List ℕ) →
+    repeated_octets_field 1 (page ++ t ∷ []) ≡ repeated_octets_field 1 page ++ repeated_octets_field 1 (t ∷ [])
 records_last [] t = refl
 records_last (u ∷ us) t = ap (λ (rs : List Record). repeated_octets_field 1 (u ∷ []) ++ rs) (records_last us t)
 
 bytes_last : (page : List (List ℕ)) (t : List ℕ) → page_bytes (page ++ t ∷ []) ≡ page_bytes page + page_bytes (t ∷ [])
-bytes_last page t = ap (λ (rs : List Record). length (records_text rs)) (records_last page t) ∙ both_written (repeated_octets_field 1 page) (repeated_octets_field 1 (t ∷ []))
+bytes_last page t = ap (λ (rs : List Record). length (records_text rs)) (records_last page t)
+    ∙ both_written (repeated_octets_field 1 page) (repeated_octets_field 1 (t ∷ []))
 
 -- the directories of a page so far
 pub record IsBegun (size : ℕ) (page : List (List ℕ)) : Type 0 where
@@ -55,7 +57,8 @@ some_begun : (size : ℕ) (page : List (List ℕ)) (t : List ℕ) → takes size
 some_begun size [] t h = absurd (cc)
 some_begun size (u ∷ us) t h = omega arith
 
-ended : (size : ℕ) (page : List (List ℕ)) (token : List ℕ) → 0 < length page → IsBegun size page → IsPageBounded size (record { directories = page; next_page_token = token })
+ended : (size : ℕ) (page : List (List ℕ)) (token : List ℕ) → 0 < length page → IsBegun size page →
+    IsPageBounded size (record { directories = page; next_page_token = token })
 ended size page token some begun = record {
   some = some;
   few = begun.few;
@@ -64,7 +67,8 @@ ended size page token some begun = record {
 
 -- ---- all of them
 
-token_is : (place : ℕ) (pages : List GetTreeResponseValue) (t : List ℕ) (ts : List (List ℕ)) → directories_of pages ≡ t ∷ ts → decimal place ≡ token_before place pages
+token_is : (place : ℕ) (pages : List GetTreeResponseValue) (t : List ℕ) (ts : List (List ℕ)) → directories_of pages ≡ t ∷ ts →
+    decimal place ≡ token_before place pages
 token_is place [] t ts h = absurd (cc)
 token_is place (p ∷ ps) t ts h = refl
 
@@ -80,14 +84,18 @@ last_given size start (u ∷ us) begun = record {
 
 -- one directory more, on the same page or on a new one
 more_given : (size start place : ℕ) (page ts : List (List ℕ)) (t : List ℕ) → 0 < size → start + length page ≡ place → IsBegun size page
-    → ((start : ℕ) (page : List (List ℕ)) → start + length page ≡ place + 1 → IsBegun size page → AreTreePages size start (page ++ ts) (pages_along size (place + 1) page ts))
-    → AreTreePages size start (page ++ t ∷ ts) (page_before (takes size page t) place page ++ pages_along size (place + 1) (page_from (takes size page t) page ++ t ∷ []) ts)
+    → ((start : ℕ) (page : List (List ℕ)) → start + length page ≡ place + 1 → IsBegun size page →
+    AreTreePages size start (page ++ ts) (pages_along size (place + 1) page ts))
+    → AreTreePages size start (page ++ t ∷ ts) (page_before (takes size page t) place page
+    ++ pages_along size (place + 1) (page_from (takes size page t) page ++ t ∷ []) ts)
 more_given size start place page ts t some at begun later = go (takes size page t) refl where
-  go : (b : Bool) → takes size page t ≡ b → AreTreePages size start (page ++ t ∷ ts) (page_before b place page ++ pages_along size (place + 1) (page_from b page ++ t ∷ []) ts)
+  go : (b : Bool) → takes size page t ≡ b → AreTreePages size start (page ++ t ∷ ts)
+      (page_before b place page ++ pages_along size (place + 1) (page_from b page ++ t ∷ []) ts)
   go true is =
       let count = length-append page (t ∷ []) in
       let rest = later start (page ++ t ∷ []) (omega (arith, count, at)) (begun_more size page t some is) in
-      subst (λ (ds : List (List ℕ)). AreTreePages size start ds (pages_along size (place + 1) (page ++ t ∷ []) ts)) (append_assoc page (t ∷ []) ts) rest
+      subst (λ (ds : List (List ℕ)). AreTreePages size start ds (pages_along size (place + 1) (page ++ t ∷ []) ts))
+      (append_assoc page (t ∷ []) ts) rest
   go false is =
       let rest = later place (t ∷ []) (omega arith) (begun_one size t some) in
       record {
@@ -98,10 +106,12 @@ more_given size start place page ts t some at begun later = go (takes size page 
         continued = rw at (token_is place rest.pages t ts rest.joined, rest.continued);
       }
 
-pub given : (size start place : ℕ) (page ts : List (List ℕ)) → 0 < size → start + length page ≡ place → IsBegun size page → AreTreePages size start (page ++ ts) (pages_along size place page ts)
+pub given : (size start place : ℕ) (page ts : List (List ℕ)) → 0 < size → start + length page ≡ place → IsBegun size page →
+    AreTreePages size start (page ++ ts) (pages_along size place page ts)
 unfolding pages_along
 given size start place page [] some at begun = last_given size start page begun
-given size start place page (t ∷ ts) some at begun = more_given size start place page ts t some at begun (λ s p same begun. given size s (place + 1) p ts some same begun)
+given size start place page (t ∷ ts) some at begun =
+    more_given size start place page ts t some at begun (λ s p same begun. given size s (place + 1) p ts some same begun)
 
 -- ---- a reply
 
@@ -125,15 +135,20 @@ record IsPlaced (look : Lookup) (listed : List Digest) (size_of place_of : Optio
   is_place : place_of ≡ Some place
   are : messages ≡ pages_along size place [] (texts look (drop place listed))
 
-placed : (look : Lookup) (listed : List Digest) (size place : Option ℕ) (messages : List (List ℕ)) → pages_at look listed size place ≡ Ok messages → IsPlaced look listed size place messages
+placed : (look : Lookup) (listed : List Digest) (size place : Option ℕ) (messages : List (List ℕ)) →
+    pages_at look listed size place ≡ Ok messages → IsPlaced look listed size place messages
 placed look listed None place messages h = absurd (cc)
 placed look listed (Some size) None messages h = absurd (cc)
 placed look listed (Some size) (Some place) messages h = record { size = size; is_size = refl; place = place; is_place = refl; are = cc }
 
-reply_given : (look : Lookup) (listed : List Digest) (size place : ℕ) (messages : List (List ℕ)) → 0 < size → messages ≡ pages_along size place [] (texts look (drop place listed)) → AreTreePages size place (texts look (drop place listed)) messages
-reply_given look listed size place messages some is = rw is (given size place place [] (texts look (drop place listed)) some (omega arith) (begun_none size))
+reply_given : (look : Lookup) (listed : List Digest) (size place : ℕ) (messages : List (List ℕ)) → 0 < size →
+    messages ≡ pages_along size place [] (texts look (drop place listed)) →
+    AreTreePages size place (texts look (drop place listed)) messages
+reply_given look listed size place messages some is =
+    rw is (given size place place [] (texts look (drop place listed)) some (omega arith) (begun_none size))
 
-pub list_given : (own : List ℕ) (visible : List Blob) (request : List ℕ) (messages : List (List ℕ)) → get_tree_replies own visible request ≡ Ok messages → GiveTheList own visible request messages
+pub list_given : (own : List ℕ) (visible : List Blob) (request : List ℕ) (messages : List (List ℕ)) →
+    get_tree_replies own visible request ≡ Ok messages → GiveTheList own visible request messages
 list_given own visible request messages h =
     let look = texts_seen visible in
     let a = bind_ok (tree_asked own request) (pages_asked visible) messages h in

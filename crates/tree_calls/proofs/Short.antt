@@ -43,7 +43,8 @@ use Rattle.tree_calls.proofs.Named.{all_dropped, all_front, result_complete}
 abbrev IsShort : ℕ → List ℕ → Type 0
 IsShort n t = length t ≤ n
 
-bounded_by : (n : ℕ) (t : List ℕ) (r : Option DirectoryValue) → is_some (option_map child_digests (if nat_le (length t) n then r else None)) ≡ true → length t ≤ n
+bounded_by : (n : ℕ) (t : List ℕ) (r : Option DirectoryValue) →
+    is_some (option_map child_digests (if nat_le (length t) n then r else None)) ≡ true → length t ≤ n
 bounded_by n t r h = go (nat_le (length t) n) refl h where
   go : (b : Bool) → nat_le (length t) n ≡ b → is_some (option_map child_digests (if b then r else None)) ≡ true → length t ≤ n
   go true is h = leb-true (length t) n is
@@ -59,7 +60,8 @@ texts_short : (look : Lookup) (ds : List Digest) → AllByRecursion (IsDirectory
 texts_short look [] h = tt
 texts_short look (d ∷ ds) h = (directory_short look d h.0, texts_short look ds h.1)
 
-records_short : (n size : ℕ) (page : GetTreeResponseValue) → 4000000 ≤ n → n < 2 ^ 64 → IsPageBounded size page → AllByRecursion (IsShort n) page.directories → page_bytes page.directories ≤ 20 + n
+records_short : (n size : ℕ) (page : GetTreeResponseValue) → 4000000 ≤ n → n < 2 ^ 64 → IsPageBounded size page →
+    AllByRecursion (IsShort n) page.directories → page_bytes page.directories ≤ 20 + n
 records_short n size page most fits bounded short = elim bounded.short [
   | inl h ↦ omega (arith, h, most)
   | inr one ↦ go page.directories one short
@@ -67,9 +69,11 @@ records_short n size page most fits bounded short = elim bounded.short [
   go : (ds : List (List ℕ)) → length ds ≡ 1 → AllByRecursion (IsShort n) ds → page_bytes ds ≤ 20 + n
   go [] one short = absurd (omega (arith, one))
   go (d ∷ e ∷ ds) one short = absurd (omega (arith, one))
-  go (d ∷ []) one short = let len = short.0 in let written = message_written 1 d (omega arith) (omega (arith, len, fits)) in omega (arith, len, written)
+  go (d ∷ []) one short = let len = short.0 in let written = message_written 1 d (omega arith) (omega (arith, len, fits)) in
+      omega (arith, len, written)
 
-page_short : (n size : ℕ) (page : GetTreeResponseValue) → 4000000 ≤ n → n < 2 ^ 31 → IsPageBounded size page → AllByRecursion (IsShort n) page.directories → length page.next_page_token ≤ 20 → length (page_text page) < 2 ^ 32
+page_short : (n size : ℕ) (page : GetTreeResponseValue) → 4000000 ≤ n → n < 2 ^ 31 → IsPageBounded size page →
+    AllByRecursion (IsShort n) page.directories → length page.next_page_token ≤ 20 → length (page_text page) < 2 ^ 32
 page_short n size page most fits bounded short token =
     let records = records_short n size page most (omega (arith, fits)) bounded short in
     let written = bytes_written 2 page.next_page_token (omega arith) (omega (arith, token)) in
@@ -80,15 +84,20 @@ token_short : (place : ℕ) (pages : List GetTreeResponseValue) → place < 2 ^ 
 token_short place [] h = omega arith
 token_short place (p ∷ ps) h = length-decimal-le 20 place (omega arith) (omega (arith, h)) h
 
-all_short : (n size place : ℕ) (pages : List GetTreeResponseValue) → 4000000 ≤ n → n < 2 ^ 31 → place + length (directories_of pages) < 2 ^ 64 → AreContinued place pages → AllByRecursion (IsPageBounded size) pages → AllByRecursion (IsShort n) (directories_of pages)
+all_short : (n size place : ℕ) (pages : List GetTreeResponseValue) → 4000000 ≤ n → n < 2 ^ 31 →
+    place + length (directories_of pages) < 2 ^ 64 → AreContinued place pages → AllByRecursion (IsPageBounded size) pages →
+    AllByRecursion (IsShort n) (directories_of pages)
     → AllByRecursion (λ m. length m < 2 ^ 32) (map page_text pages)
 all_short n size place [] most fits room continued bounded short = tt
 all_short n size place (p ∷ ps) most fits room continued bounded short =
     let parts = all_front (IsShort n) p.directories (directories_of ps) short in
     let count = length-append p.directories (directories_of ps) in
     let next = token_short (place + length p.directories) ps (omega (arith, count, room)) in
-    let token : length p.next_page_token ≤ 20 = rw continued.0 next in
-    (page_short n size p most fits bounded.0 parts.0 token, all_short n size (place + length p.directories) ps most fits (omega (arith, count, room)) continued.1 bounded.1 parts.1)
+    let token : length p.next_page_token ≤ 20 = rw continued.0 next in (
+      page_short n size p most fits bounded.0 parts.0 token,
+      all_short n size (place + length p.directories) ps most fits
+          (omega (arith, count, room)) continued.1 bounded.1 parts.1,
+    )
 
 place_fits : (token : List ℕ) (count place : ℕ) → place_asked token count ≡ Some place → place ≤ count
 place_fits token count place h = go (Rattle.std.specs.Prelude.nat_eq (length token) 0) h where
@@ -107,7 +116,8 @@ texts_count : (look : Lookup) (ds : List Digest) → length (texts look ds) ≡ 
 texts_count look [] = refl
 texts_count look (d ∷ ds) = ap (λ (n : ℕ). suc n) (texts_count look ds)
 
-pub get_tree_short : (own : List ℕ) (visible : List Blob) (request : List ℕ) (messages : List (List ℕ)) → get_tree_replies own visible request ≡ Ok messages → AllByRecursion (λ m. length m < 2 ^ 32) messages
+pub get_tree_short : (own : List ℕ) (visible : List Blob) (request : List ℕ) (messages : List (List ℕ)) →
+    get_tree_replies own visible request ≡ Ok messages → AllByRecursion (λ m. length m < 2 ^ 32) messages
 get_tree_short own visible request messages h =
     let look = texts_seen visible in
     let g = list_given own visible request messages h in
@@ -125,14 +135,18 @@ get_tree_short own visible request messages h =
 
 -- ---- results
 
-stored_short : (t : Digest → Bool) (results : List Blob) (reply : List ℕ) → lookup t results ≡ Some reply → length reply ≤ blobs_length results
+stored_short : (t : Digest → Bool) (results : List Blob) (reply : List ℕ) → lookup t results ≡ Some reply →
+    length reply ≤ blobs_length results
 stored_short t [] reply h = absurd (cc)
 stored_short t (b ∷ bs) reply h = go (t b.0) h (stored_short t bs reply) where
-  go : (c : Bool) → cond c (Some b.1) (lookup t bs) ≡ Some reply → (lookup t bs ≡ Some reply → length reply ≤ blobs_length bs) → length reply ≤ length b.1 + blobs_length bs
+  go : (c : Bool) → cond c (Some b.1) (lookup t bs) ≡ Some reply → (lookup t bs ≡ Some reply → length reply ≤ blobs_length bs) →
+      length reply ≤ length b.1 + blobs_length bs
   go true h later = let e : b.1 ≡ reply = cc in rw (← e) (omega arith)
   go false h later = let rest = later h in omega (arith, rest)
 
-pub get_action_result_short : (limits : LimitsValue) (own : List ℕ) (visible results : List Blob) (request reply : List ℕ) → IsLimits limits → AreResultsWithin limits results → get_action_result_reply own visible results request ≡ Ok reply → length reply < 2 ^ 32
+pub get_action_result_short : (limits : LimitsValue) (own : List ℕ) (visible results : List Blob) (request reply : List ℕ) →
+    IsLimits limits → AreResultsWithin limits results → get_action_result_reply own visible results request ≡ Ok reply →
+    length reply < 2 ^ 32
 get_action_result_short limits own visible results request reply good within h =
     let c = result_complete own visible results request reply h in
     let one = stored_short (same_digest c.action) results reply c.is_stored in
@@ -152,14 +166,21 @@ readable_ok : {V : Type 0} (r : Result V MessageError) (v : V) → message_or_re
 readable_ok (Ok x) v h = cc
 readable_ok (Err e) v h = absurd (cc)
 
-request_short : (request : List ℕ) (v : UpdateActionResultRequestValue) → value_of_text update_action_result_request_of request ≡ Ok v → length (unwrap_or v.action_result []) ≤ length request
+request_short : (request : List ℕ) (v : UpdateActionResultRequestValue) → value_of_text update_action_result_request_of request ≡ Ok v →
+    length (unwrap_or v.action_result []) ≤ length request
 unfolding update_action_result_request_of
 request_short request v h =
     let r = read_from update_action_result_request_of request v h in
     let name = bind_ok (string 1 r.records) _ v r.means in
     let action = bind_ok (embedded_value digest_of 2 r.records) _ v name.2 in
     let result = bind_ok (sent_bytes action_result_of 3 r.records) _ v action.2 in
-    let e = ok_is (record { instance_name = name.0; action_digest = action.0; action_result = result.0; digest_function = int32 5 r.records }) v result.2 in
+    let e = ok_is (record {
+      instance_name = name.0;
+      action_digest = action.0;
+      action_result = result.0;
+      digest_function =
+          int32 5 r.records;
+    }) v result.2 in
     let read = bind_ok (embedded_value action_result_of 3 r.records) _ result.0 result.1 in
     let f = ok_is (joined_payloads (payloads 3 r.records)) result.0 read.2 in
     let short = joined_short (payloads 3 r.records) in
@@ -178,7 +199,8 @@ sent_short own request sent h =
     let e = ok_is (record { action = d.0; text = unwrap_or q.0.action_result [] }) sent d.2 in
     rw (← e) short
 
-pub update_action_result_short : (own request reply : List ℕ) → length request ≤ 4194304 → update_action_result_reply own request ≡ Ok reply → length reply < 2 ^ 32
+pub update_action_result_short : (own request reply : List ℕ) → length request ≤ 4194304 →
+    update_action_result_reply own request ≡ Ok reply → length reply < 2 ^ 32
 update_action_result_short own request reply most h =
     let s = bind_ok (result_sent own request) _ reply h in
     let short = sent_short own request s.0 s.1 in
@@ -192,7 +214,8 @@ unfolding front_within
 front_few zero room bs = omega arith
 front_few (suc n) room [] = omega arith
 front_few (suc n) room (b ∷ bs) = go (nat_le (length b.1) room) (front_few n (room - length b.1) bs) where
-  go : (c : Bool) → length (front_within n (room - length b.1) bs) ≤ n → length (if c then b ∷ front_within n (room - length b.1) bs else []) ≤ suc n
+  go : (c : Bool) → length (front_within n (room - length b.1) bs) ≤ n →
+      length (if c then b ∷ front_within n (room - length b.1) bs else []) ≤ suc n
   go true ih = omega (arith, ih)
   go false ih = omega arith
 
@@ -201,17 +224,20 @@ unfolding front_within
 front_short zero room bs = omega arith
 front_short (suc n) room [] = omega arith
 front_short (suc n) room (b ∷ bs) = go (nat_le (length b.1) room) refl (front_short n (room - length b.1) bs) where
-  go : (c : Bool) → nat_le (length b.1) room ≡ c → blobs_length (front_within n (room - length b.1) bs) ≤ room - length b.1 → blobs_length (if c then b ∷ front_within n (room - length b.1) bs else []) ≤ room
+  go : (c : Bool) → nat_le (length b.1) room ≡ c → blobs_length (front_within n (room - length b.1) bs) ≤ room - length b.1 →
+      blobs_length (if c then b ∷ front_within n (room - length b.1) bs else []) ≤ room
   go true is ih = let le = leb-true (length b.1) room is in omega (arith, ih, le)
   go false is ih = omega arith
 
-pub fronted_within : (limits : LimitsValue) (t : Digest → Bool) (results : List Blob) → AreResultsWithin limits results → AreResultsWithin limits (with_match_first t results)
+pub fronted_within : (limits : LimitsValue) (t : Digest → Bool) (results : List Blob) → AreResultsWithin limits results →
+    AreResultsWithin limits (with_match_first t results)
 fronted_within limits t results within = record {
   few = rw (length-with_match_first t results) within.few;
   short = rw (blobs_length-with_match_first t results) within.short;
 }
 
-pub get_stays_within : (limits : LimitsValue) (own : List ℕ) (visible results : List Blob) (request : List ℕ) → AreResultsWithin limits results → AreResultsWithin limits (after_get own visible results request)
+pub get_stays_within : (limits : LimitsValue) (own : List ℕ) (visible results : List Blob) (request : List ℕ) →
+    AreResultsWithin limits results → AreResultsWithin limits (after_get own visible results request)
 get_stays_within limits own visible results request within = go (action_asked own request) where
   test : (action : Digest) (b : Bool) → AreResultsWithin limits (if b then with_match_first (same_digest action) results else results)
   test action true = fronted_within limits (same_digest action) results within
@@ -222,9 +248,14 @@ get_stays_within limits own visible results request within = go (action_asked ow
   go (Ok action) = test action (is_some (blobs_for (texts_seen visible) action results))
 
 pub front_is_within : (limits : LimitsValue) (bs : List Blob) → AreResultsWithin limits (front_within limits.results limits.result_bytes bs)
-front_is_within limits bs = record { few = front_few limits.results limits.result_bytes bs; short = front_short limits.results limits.result_bytes bs }
+front_is_within limits bs = record {
+  few = front_few limits.results limits.result_bytes bs;
+  short =
+      front_short limits.results limits.result_bytes bs;
+}
 
-pub update_stays_within : (limits : LimitsValue) (own : List ℕ) (results : List Blob) (request : List ℕ) → AreResultsWithin limits results → AreResultsWithin limits (after_update own limits results request)
+pub update_stays_within : (limits : LimitsValue) (own : List ℕ) (results : List Blob) (request : List ℕ) → AreResultsWithin limits results →
+    AreResultsWithin limits (after_update own limits results request)
 update_stays_within limits own results request within = go (result_sent own request) where
   test : (bs : List Blob) (b : Bool) → AreResultsWithin limits (if b then results else front_within limits.results limits.result_bytes bs)
   test bs true = within
@@ -232,4 +263,5 @@ update_stays_within limits own results request within = go (result_sent own requ
 
   go : (r : Result ResultSentValue Refusal) → AreResultsWithin limits (after_sending limits results r)
   go (Err refusal) = within
-  go (Ok sent_bytes) = test ((sent_bytes.action, sent_bytes.text) ∷ remove_entry (same_digest sent_bytes.action) results) (nat_lt limits.result_bytes (length sent_bytes.text))
+  go (Ok sent_bytes) = test ((sent_bytes.action, sent_bytes.text) ∷ remove_entry (same_digest sent_bytes.action) results)
+      (nat_lt limits.result_bytes (length sent_bytes.text))

@@ -41,7 +41,8 @@ IsNarrow (Four b) = Unit {0}
 content_weight : (bytes : List ℕ) (v : Value) → IsContent bytes v → 1 + payload_size v ≤ length bytes
 content_weight bytes (Number n) h = let some = some_groups bytes h.whole h.groups in omega arith
 content_weight bytes (Eight b) h = let e = ap (length {A = ℕ}) h.1 in let eight = h.0 in omega arith
-content_weight bytes (Payload b) h = let some = some_groups h.0 h.1.whole h.1.groups in let e = ap (length {A = ℕ}) h.2 in let parts = length-append h.0 b in omega arith
+content_weight bytes (Payload b) h = let some = some_groups h.0 h.1.whole h.1.groups in let e = ap (length {A = ℕ}) h.2 in let parts =
+    length-append h.0 b in omega arith
 content_weight bytes (Four b) h = let e = ap (length {A = ℕ}) h.1 in let four = h.0 in omega arith
 
 content_narrow : (bytes : List ℕ) (v : Value) → IsContent bytes v → IsNarrow v
@@ -85,7 +86,8 @@ pub record IsReadFrom {V : Type 0} (value_of : List Record → Result V MessageE
   pub narrow : AllNarrow records
   pub means : value_of records ≡ Ok v
 
-pub read_from : {V : Type 0} (value_of : List Record → Result V MessageError) (t : List ℕ) (v : V) → value_of_text value_of t ≡ Ok v → IsReadFrom value_of t v
+pub read_from : {V : Type 0} (value_of : List Record → Result V MessageError) (t : List ℕ) (v : V) → value_of_text value_of t ≡ Ok v →
+    IsReadFrom value_of t v
 unfolding records_in
 read_from value_of t v h =
     let b = bind_ok (of_wire (records_of t)) value_of v h in
@@ -101,7 +103,8 @@ pub payloads_weight : (field : ℕ) (rs : List Record) → sizes (payloads field
 unfolding payloads
 payloads_weight field [] = omega arith
 payloads_weight field (r ∷ rs) = go (eqb r.number field) r.value refl (payloads_weight field rs) where
-  go : (b : Bool) (v : Value) → eqb r.number field ≡ b → sizes (payloads field rs) ≤ weight rs → sizes (payloads field (record { number = r.number; value = v } ∷ rs)) ≤ 2 + payload_size v + weight rs
+  go : (b : Bool) (v : Value) → eqb r.number field ≡ b → sizes (payloads field rs) ≤ weight rs →
+      sizes (payloads field (record { number = r.number; value = v } ∷ rs)) ≤ 2 + payload_size v + weight rs
   go false v is ih = rw is (omega arith)
   go true (Number n) is ih = rw is (omega arith)
   go true (Eight b) is ih = rw is (omega arith)
@@ -112,7 +115,8 @@ pub numbers_narrow : (field : ℕ) (rs : List Record) → AllNarrow rs → AllBy
 unfolding numbers
 numbers_narrow field [] h = tt
 numbers_narrow field (r ∷ rs) h = go (eqb r.number field) r.value refl h.0 (numbers_narrow field rs h.1) where
-  go : (b : Bool) (v : Value) → eqb r.number field ≡ b → IsNarrow v → AllByRecursion (λ n. n < 2 ^ 64) (numbers field rs) → AllByRecursion (λ n. n < 2 ^ 64) (numbers field (record { number = r.number; value = v } ∷ rs))
+  go : (b : Bool) (v : Value) → eqb r.number field ≡ b → IsNarrow v → AllByRecursion (λ n. n < 2 ^ 64) (numbers field rs) →
+      AllByRecursion (λ n. n < 2 ^ 64) (numbers field (record { number = r.number; value = v } ∷ rs))
   go false v is one ih = rw is ih
   go true (Number n) is one ih = rw is (one, ih)
   go true (Eight b) is one ih = rw is ih
@@ -165,9 +169,11 @@ string_size field rs t h =
 -- ---- what is written
 
 one_record : (r : Record) → length (records_text (r ∷ [])) ≡ length (record_text r)
-one_record r = let e = ap (length {A = ℕ}) (flat_map-cons record_text r []) in let parts = length-append (record_text r) (records_text []) in omega arith
+one_record r = let e = ap (length {A = ℕ}) (flat_map-cons record_text r []) in let parts =
+    length-append (record_text r) (records_text []) in omega arith
 
-pub message_written : (field : ℕ) (b : List ℕ) → field < 2 ^ 29 → length b < 2 ^ 64 → length (records_text (message_field field b)) ≤ 20 + length b
+pub message_written : (field : ℕ) (b : List ℕ) → field < 2 ^ 29 → length b < 2 ^ 64 →
+    length (records_text (message_field field b)) ≤ 20 + length b
 message_written field b small fits =
     let tag = (varint_is (8 * field + 2) (omega arith)).short in
     let len = (varint_is (length b) fits).short in
@@ -176,7 +182,8 @@ message_written field b small fits =
     let inside = length-append (varint (length b)) b in
     omega arith
 
-pub bytes_written : (field : ℕ) (b : List ℕ) → field < 2 ^ 29 → length b < 2 ^ 64 → length (records_text (bytes_field field b)) ≤ 20 + length b
+pub bytes_written : (field : ℕ) (b : List ℕ) → field < 2 ^ 29 → length b < 2 ^ 64 →
+    length (records_text (bytes_field field b)) ≤ 20 + length b
 bytes_written field b small fits = go (eqb (length b) 0) where
   go : (c : Bool) → length (records_text (cond c [] (message_field field b))) ≤ 20 + length b
   go true = omega arith

@@ -15,7 +15,8 @@ use Rattle.tree_calls.specs.Lists.{IsDigestListed, IsDirectory, children_or_none
 listed_more : (ds more : List Digest) (d : Digest) → IsDigestListed ds d → IsDigestListed (ds ++ more) d
 listed_more [] more d h = absurd (cc)
 listed_more (x ∷ xs) more d h = go (same_digest d x) h (listed_more xs more d) where
-  go : (b : Bool) → (b || list_any (same_digest d) xs) ≡ true → (IsDigestListed xs d → IsDigestListed (xs ++ more) d) → (b || list_any (same_digest d) (xs ++ more)) ≡ true
+  go : (b : Bool) → (b || list_any (same_digest d) xs) ≡ true → (IsDigestListed xs d → IsDigestListed (xs ++ more) d) →
+      (b || list_any (same_digest d) (xs ++ more)) ≡ true
   go true h later = refl
   go false h later = later h
 
@@ -48,7 +49,8 @@ neither : (a b : Bool) → (a || b) ≡ false → (a ≡ false) × (b ≡ false)
 neither true b h = absurd (cc)
 neither false b h = (refl, h)
 
-distinct_last : (ds : List Digest) (d : Digest) → IsDistinct same_digest ds → list_any (same_digest d) ds ≡ false → IsDistinct same_digest (ds ++ d ∷ [])
+distinct_last : (ds : List Digest) (d : Digest) → IsDistinct same_digest ds → list_any (same_digest d) ds ≡ false →
+    IsDistinct same_digest (ds ++ d ∷ [])
 unfolding IsDistinct
 distinct_last [] d h none = (tt, tt)
 distinct_last (x ∷ xs) d h none =
@@ -60,9 +62,14 @@ distinct_one : (d : Digest) → IsDistinct same_digest (d ∷ [])
 unfolding IsDistinct
 distinct_one d = (tt, tt)
 
-reached_last : (look : Lookup) (before ds : List Digest) (d : Digest) → AreReached look before ds → HasParent look (before ++ ds) d → AreReached look before (ds ++ d ∷ [])
+reached_last : (look : Lookup) (before ds : List Digest) (d : Digest) → AreReached look before ds → HasParent look (before ++ ds) d →
+    AreReached look before (ds ++ d ∷ [])
 reached_last look before [] d h p = (subst (λ (xs : List Digest). HasParent look xs d) (append-nil before) p, tt)
-reached_last look before (x ∷ xs) d h p = (h.0, reached_last look (before ++ x ∷ []) xs d h.1 (subst (λ (xs : List Digest). HasParent look xs d) (sym (append_assoc before (x ∷ []) xs)) p))
+reached_last look before (x ∷ xs) d h p = (
+  h.0,
+  reached_last look (before ++ x ∷ []) xs d h.1
+      (subst (λ (xs : List Digest). HasParent look xs d) (sym (append_assoc before (x ∷ []) xs)) p),
+)
 
 -- ---- a list under way
 
@@ -80,12 +87,14 @@ record IsGrown (look : Lookup) (root : Digest) (ds new cs : List Digest) : Type 
   tree : IsTree look root new
   listed : AllByRecursion (λ c. IsDirectory look c → IsDigestListed new c) cs
 
-grown_one : (look : Lookup) (root : Digest) (ds : List Digest) (d c : Digest) → IsTree look root ds → IsDigestListed ds d → IsDigestListed (children_or_none look d) c → IsGrown look root ds (with_listed look ds c) (c ∷ [])
+grown_one : (look : Lookup) (root : Digest) (ds : List Digest) (d c : Digest) → IsTree look root ds → IsDigestListed ds d →
+    IsDigestListed (children_or_none look d) c → IsGrown look root ds (with_listed look ds c) (c ∷ [])
 grown_one look root ds d c tree parent child = go (is_some (children look c)) refl (list_any (same_digest c) ds) refl where
   parented : HasParent look (root ∷ tree.others) c
   parented = record { parent = d; is_before = subst (λ (xs : List Digest). IsDigestListed xs d) tree.begins parent; is_child = child }
 
-  go : (b : Bool) → is_some (children look c) ≡ b → (t : Bool) → list_any (same_digest c) ds ≡ t → IsGrown look root ds (if b then (if t then ds else ds ++ c ∷ []) else ds) (c ∷ [])
+  go : (b : Bool) → is_some (children look c) ≡ b → (t : Bool) → list_any (same_digest c) ds ≡ t →
+      IsGrown look root ds (if b then (if t then ds else ds ++ c ∷ []) else ds) (c ∷ [])
   go false is t there = record {
     more = [];
     is = sym (append-nil ds);
@@ -111,18 +120,24 @@ grown_one look root ds d c tree parent child = go (is_some (children look c)) re
     listed = (λ h. listed_at ds c [], tt);
   }
 
-grown : (look : Lookup) (root : Digest) (ds : List Digest) (d : Digest) (cs : List Digest) → IsTree look root ds → IsDigestListed ds d → AllByRecursion (IsDigestListed (children_or_none look d)) cs → IsGrown look root ds (with_all_listed look ds cs) cs
+grown : (look : Lookup) (root : Digest) (ds : List Digest) (d : Digest) (cs : List Digest) → IsTree look root ds → IsDigestListed ds d →
+    AllByRecursion (IsDigestListed (children_or_none look d)) cs → IsGrown look root ds (with_all_listed look ds cs) cs
 grown look root ds d [] tree parent h = record { more = []; is = sym (append-nil ds); tree = tree; listed = tt }
 grown look root ds d (c ∷ cs) tree parent h =
     let next = with_listed look ds c in
     let first = grown_one look root ds d c tree parent h.0 in
-    let still : IsDigestListed next d = subst (λ (xs : List Digest). IsDigestListed xs d) (sym first.is) (listed_more ds first.more d parent) in
+    let still : IsDigestListed next d = subst (λ (xs : List Digest). IsDigestListed xs d) (sym first.is)
+    (listed_more ds first.more d parent) in
     let rest = grown look root next d cs first.tree still h.1 in
     record {
       more = first.more ++ rest.more;
       is = rest.is ∙ ap (λ (xs : List Digest). xs ++ rest.more) first.is ∙ append_assoc ds first.more rest.more;
       tree = rest.tree;
-      listed = (λ dir. subst (λ (xs : List Digest). IsDigestListed xs c) (sym rest.is) (listed_more next rest.more c (first.listed.0 dir)), rest.listed);
+      listed = (
+        λ dir. subst (λ (xs : List Digest). IsDigestListed xs c) (sym rest.is)
+            (listed_more next rest.more c (first.listed.0 dir)),
+        rest.listed,
+      );
     }
 
 -- ---- going along
@@ -135,7 +150,8 @@ slice_some : {X : Type 0} (done : List X) (d : X) (rest : List X) → slice_get 
 slice_some [] d rest = refl
 slice_some (x ∷ xs) d rest = slice_some xs d rest
 
-at_end : (look : Lookup) (root : Digest) (n : ℕ) (done ds : List Digest) → IsTree look root (done ++ []) → AllByRecursion (HasListed look (done ++ [])) done → done ++ [] ≡ ds → IsWholeTree look root ds × (length ds ≤ length done + n)
+at_end : (look : Lookup) (root : Digest) (n : ℕ) (done ds : List Digest) → IsTree look root (done ++ []) →
+    AllByRecursion (HasListed look (done ++ [])) done → done ++ [] ≡ ds → IsWholeTree look root ds × (length ds ≤ length done + n)
 at_end look root n done ds tree closed is =
     let same_list : done ≡ ds = sym (append-nil done) ∙ is in
     let whole : IsTree look root ds = subst (IsTree look root) is tree in
@@ -153,9 +169,12 @@ at_end look root n done ds tree closed is =
     )
 
 has_more : (look : Lookup) (ds more : List Digest) (d : Digest) → HasListed look ds d → HasListed look (ds ++ more) d
-has_more look ds more d h = all_implied (λ c. IsDirectory look c → IsDigestListed ds c) (λ c. IsDirectory look c → IsDigestListed (ds ++ more) c) (λ c f dir. listed_more ds more c (f dir)) (children_or_none look d) h
+has_more look ds more d h = all_implied (λ c. IsDirectory look c → IsDigestListed ds c)
+    (λ c. IsDirectory look c → IsDigestListed (ds ++ more) c) (λ c f dir. listed_more ds more c (f dir)) (children_or_none look d) h
 
-along : (n : ℕ) (look : Lookup) (root : Digest) (done left ds : List Digest) → IsTree look root (done ++ left) → AllByRecursion (HasListed look (done ++ left)) done → listed_along n look (done ++ left) (length done) ≡ Ok ds → IsWholeTree look root ds × (length ds ≤ length done + n)
+along : (n : ℕ) (look : Lookup) (root : Digest) (done left ds : List Digest) → IsTree look root (done ++ left) →
+    AllByRecursion (HasListed look (done ++ left)) done → listed_along n look (done ++ left) (length done) ≡ Ok ds →
+    IsWholeTree look root ds × (length ds ≤ length done + n)
 unfolding listed_along
 along zero look root done [] ds tree closed h = at_end look root zero done ds tree closed (let h2 = rw (slice_none done) at h in cc)
 along (suc n) look root done [] ds tree closed h = at_end look root (suc n) done ds tree closed (let h2 = rw (slice_none done) at h in cc)
@@ -164,23 +183,30 @@ along (suc n) look root done (d ∷ rest) ds tree closed h =
     let now = done ++ d ∷ rest in
     let new = with_children look now d in
     let step = grown look root now d (children_or_none look d) tree (listed_at done d rest) (all_listed (children_or_none look d)) in
-    let shape : new ≡ (done ++ d ∷ []) ++ (rest ++ step.more) = step.is ∙ append_assoc done (d ∷ rest) step.more ∙ sym (append_assoc done (d ∷ []) (rest ++ step.more)) in
+    let shape : new ≡ (done ++ d ∷ []) ++ (rest ++ step.more) =
+    step.is ∙ append_assoc done (d ∷ rest) step.more ∙ sym (append_assoc done (d ∷ []) (rest ++ step.more)) in
     let count : length (done ++ d ∷ []) ≡ length done + 1 = length-append done (d ∷ []) in
     let h2 : listed_along n look new (length done + 1) ≡ Ok ds = rw (slice_some done d rest) at h in
     let h3 : listed_along n look ((done ++ d ∷ []) ++ (rest ++ step.more)) (length (done ++ d ∷ [])) ≡ Ok ds = rw (count, ← shape) h2 in
-    let before : AllByRecursion (HasListed look new) done = all_implied (HasListed look now) (HasListed look new) (λ x f. subst (λ (xs : List Digest). HasListed look xs x) (sym step.is) (has_more look now step.more x f)) done closed in
+    let before : AllByRecursion (HasListed look new) done =
+    all_implied (HasListed look now) (HasListed look new)
+    (λ x f. subst (λ (xs : List Digest). HasListed look xs x) (sym step.is) (has_more look now step.more x f)) done closed in
     let all : AllByRecursion (HasListed look new) (done ++ d ∷ []) = all_last (HasListed look new) done d before step.listed in
-    let ih = along n look root (done ++ d ∷ []) (rest ++ step.more) ds (subst (IsTree look root) shape step.tree) (subst (λ (xs : List Digest). AllByRecursion (HasListed look xs) (done ++ d ∷ [])) shape all) h3 in
+    let ih = along n look root (done ++ d ∷ []) (rest ++ step.more) ds (subst (IsTree look root) shape step.tree)
+    (subst (λ (xs : List Digest). AllByRecursion (HasListed look xs) (done ++ d ∷ [])) shape all) h3 in
     let few = ih.1 in
     (ih.0, omega (arith, few, count))
 
-pub whole_from : (most : ℕ) (look : Lookup) (root : Digest) (ds : List Digest) → listed_from most look root (look root) ≡ Ok ds → IsWholeTree look root ds × (length ds ≤ most)
+pub whole_from : (most : ℕ) (look : Lookup) (root : Digest) (ds : List Digest) → listed_from most look root (look root) ≡ Ok ds →
+    IsWholeTree look root ds × (length ds ≤ most)
 whole_from most look root ds h = go (look root) refl h where
-  test : (text : List ℕ) → look root ≡ Some text → (b : Bool) → is_some (children_in text) ≡ b → (if b then listed_along most look (root ∷ []) 0 else Err BadDirectory) ≡ Ok ds → IsWholeTree look root ds × (length ds ≤ most)
+  test : (text : List ℕ) → look root ≡ Some text → (b : Bool) → is_some (children_in text) ≡ b →
+      (if b then listed_along most look (root ∷ []) 0 else Err BadDirectory) ≡ Ok ds → IsWholeTree look root ds × (length ds ≤ most)
   test text is false none h = absurd (cc)
   test text is true some h =
       let first : IsDirectory look root = rw is some in
-      let tree : IsTree look root (root ∷ []) = record { others = []; begins = refl; reached = tt; distinct = distinct_one root; directories = (first, tt) } in
+      let tree : IsTree look root (root ∷ []) = record
+      { others = []; begins = refl; reached = tt; distinct = distinct_one root; directories = (first, tt) } in
       let r = along most look root [] (root ∷ []) ds tree tt h in
       let few = r.1 in
       (r.0, omega (arith, few))

@@ -15,7 +15,7 @@ use action_cache::{Results, get_result};
 use blob_pool::Pool;
 use cas_service::CallError;
 use instance_limits::Limits;
-use instance_view::View;
+use instance_view::{View, Work};
 use rpc::Refusal;
 use std::alloc::Global;
 
@@ -50,7 +50,8 @@ pub fn get_action_result(
     ensures limit { view.new.limit ≡ view.old.limit }
 {
     let action = action_asked(alloc, own, message)?;
-    match get_result(alloc, results, view, parent, pool, &action)? {
+    let mut work = Work::new();
+    match get_result(alloc, results, view, parent, pool, &action, &mut work)? {
         Some(text) => Ok(text),
         None => Err(CallError::Refused(Refusal::NoResult)),
     }

@@ -13,8 +13,8 @@ ghost use Rattle.tree_calls.specs.TreeErrors.{tree_error};
 use crate::asking::tree_asked;
 use blob_pool::Pool;
 use cas_service::CallError;
-use input_tree::{GetTreeError, TreeRefusal};
-use instance_view::View;
+use input_tree::{GetTreeError, PageAsked, TreeRefusal};
+use instance_view::{View, Work};
 use rpc::Refusal;
 use std::alloc::Global;
 
@@ -72,15 +72,12 @@ pub fn get_tree(
     ensures limit { view.new.limit ≡ view.old.limit }
 {
     let asked = tree_asked(alloc, own, message)?;
-    match input_tree::get_tree(
-        alloc,
-        view,
-        parent,
-        pool,
-        &asked.root,
-        asked.page_size,
-        asked.page_token,
-    ) {
+    let page = PageAsked {
+        size: asked.page_size,
+        token: asked.page_token,
+    };
+    let mut work = Work::new();
+    match input_tree::get_tree(alloc, view, parent, pool, &asked.root, page, &mut work) {
         Ok(pages) => Ok(pages),
         Err(error) => Err(tree_error(error)),
     }

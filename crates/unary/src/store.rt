@@ -15,7 +15,7 @@ ghost use Rattle.quota_evict.specs.Within.{most_stored_bytes};
 use blob_pool::Pool;
 use cas_service::{CallError, batch_read, batch_update, find_missing};
 use digest::Digest;
-use instance_view::View;
+use instance_view::{View, Work};
 use keyed_maps::MapKey;
 use quota_evict::{AdmitError, admit};
 use script::Limits;
@@ -169,8 +169,9 @@ fn call(
     ensures nobody { texts.new.nobody.entries ≡ [] }
 {
     let Texts { pool, view, nobody } = texts;
+    let mut work = Work::new();
     match method {
-        Method::FindMissingBlobs => find_missing(alloc, own, view, nobody, message),
+        Method::FindMissingBlobs => find_missing(alloc, own, view, nobody, message, &mut work),
         Method::BatchUpdateBlobs => batch_update(alloc, own, quota, view, pool, message),
         Method::BatchReadBlobs => batch_read(alloc, own, view, nobody, pool, message),
     }

@@ -10,8 +10,10 @@ use Rattle.uploads.specs.Uploads.{KeyValue, UploadValue, UploadList, upload_at, 
 use Rattle.uploads.proofs.ListLemmas.{text-short}
 
 -- a text of an upload is never too large to be admitted
-pub refused_for_memory : (quota : ℕ) (k : KeyValue) (u : UploadValue) (us : UploadList) (e : AdmitError) (r : UploadError) (text : List ℕ) (P : Type 0)
-    → r ≡ of_admit e → upload_at k us ≡ Some u → text ≡ u.text → uploads_length us ≤ quota → ((e ≡ Admit.TooLarge) ↔ (P × (quota < length text))) → r ≡ NoMemory
+pub refused_for_memory : (quota : ℕ) (k : KeyValue) (u : UploadValue) (us : UploadList) (e : AdmitError) (r : UploadError) (text : List ℕ)
+    (P : Type 0)
+    → r ≡ of_admit e → upload_at k us ≡ Some u → text ≡ u.text → uploads_length us ≤ quota →
+    ((e ≡ Admit.TooLarge) ↔ (P × (quota < length text))) → r ≡ NoMemory
 refused_for_memory quota k u us Admit.TooLarge r text P same_fault at is fits h =
     let large = (h.0 refl).1 in
     let so_far = ap length (ap text_in at) in

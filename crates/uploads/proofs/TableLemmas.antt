@@ -20,24 +20,32 @@ use Rattle.uploads.specs.Shown.{key_shown, upload_shown, entry_shown, IsWhole, A
 abbrev pub same_key : UploadKey → UploadKey → Bool
 same_key a b = same_upload (key_shown a) (key_shown b)
 
-pub at_shown : (k : UploadKey) (es : List (UploadKey × Upload)) → option_map upload_shown (lookup (same_key k) es) ≡ upload_at (key_shown k) (map entry_shown es)
+pub at_shown : (k : UploadKey) (es : List (UploadKey × Upload)) →
+    option_map upload_shown (lookup (same_key k) es) ≡ upload_at (key_shown k) (map entry_shown es)
 at_shown k [] = refl
 at_shown k (e ∷ es) = go (same_key k e.0) refl (at_shown k es) where
-  go : (b : Bool) → same_key k e.0 ≡ b → option_map upload_shown (lookup (same_key k) es) ≡ upload_at (key_shown k) (map entry_shown es) → option_map upload_shown (lookup (same_key k) (e ∷ es)) ≡ upload_at (key_shown k) (map entry_shown (e ∷ es))
+  go : (b : Bool) → same_key k e.0 ≡ b → option_map upload_shown (lookup (same_key k) es) ≡ upload_at (key_shown k) (map entry_shown es) →
+      option_map upload_shown (lookup (same_key k) (e ∷ es)) ≡ upload_at (key_shown k) (map entry_shown (e ∷ es))
   go true is ih = rw is refl
   go false is ih = rw is ih
 
-pub without_shown : (k : UploadKey) (es : List (UploadKey × Upload)) → map entry_shown (remove_entry (same_key k) es) ≡ without_upload (key_shown k) (map entry_shown es)
+pub without_shown : (k : UploadKey) (es : List (UploadKey × Upload)) →
+    map entry_shown (remove_entry (same_key k) es) ≡ without_upload (key_shown k) (map entry_shown es)
 without_shown k [] = refl
 without_shown k (e ∷ es) = go (same_key k e.0) refl (without_shown k es) where
-  go : (b : Bool) → same_key k e.0 ≡ b → map entry_shown (remove_entry (same_key k) es) ≡ without_upload (key_shown k) (map entry_shown es) → map entry_shown (remove_entry (same_key k) (e ∷ es)) ≡ without_upload (key_shown k) (map entry_shown (e ∷ es))
+  go : (b : Bool) → same_key k e.0 ≡ b → map entry_shown (remove_entry (same_key k) es)
+      ≡ without_upload (key_shown k) (map entry_shown es) →
+      map entry_shown (remove_entry (same_key k) (e ∷ es)) ≡ without_upload (key_shown k) (map entry_shown (e ∷ es))
   go true is ih = rw is refl
   go false is ih = rw is (ap (λ (us : List (KeyValue × UploadValue)). entry_shown e ∷ us) ih)
 
-pub with_shown : (k : UploadKey) (u : Upload) (es : List (UploadKey × Upload)) → map entry_shown (insert_entry same_key es k u) ≡ with_upload (key_shown k) (upload_shown u) (map entry_shown es)
+pub with_shown : (k : UploadKey) (u : Upload) (es : List (UploadKey × Upload)) →
+    map entry_shown (insert_entry same_key es k u) ≡ with_upload (key_shown k) (upload_shown u) (map entry_shown es)
 with_shown k u [] = refl
 with_shown k u (e ∷ es) = go (same_key k e.0) refl (with_shown k u es) where
-  go : (b : Bool) → same_key k e.0 ≡ b → map entry_shown (insert_entry same_key es k u) ≡ with_upload (key_shown k) (upload_shown u) (map entry_shown es) → map entry_shown (insert_entry same_key (e ∷ es) k u) ≡ with_upload (key_shown k) (upload_shown u) (map entry_shown (e ∷ es))
+  go : (b : Bool) → same_key k e.0 ≡ b → map entry_shown (insert_entry same_key es k u)
+      ≡ with_upload (key_shown k) (upload_shown u) (map entry_shown es) →
+      map entry_shown (insert_entry same_key (e ∷ es) k u) ≡ with_upload (key_shown k) (upload_shown u) (map entry_shown (e ∷ es))
   go true is ih = rw is refl
   go false is ih = rw is (ap (λ (us : List (KeyValue × UploadValue)). entry_shown e ∷ us) ih)
 
@@ -52,9 +60,11 @@ whole_without k (e ∷ es) h = go (same_key k e.0) refl (whole_without k es h.1)
 
 -- one key has one digest
 digest_of_same_key : (j k : UploadKey) → same_key j k ≡ true → j.digest ≡ k.digest
-digest_of_same_key j k h = same_equal j.digest k.digest (and_parts (pointwise nat_eq j.uuid.bytes k.uuid.bytes) (same_digest j.digest k.digest) h).1
+digest_of_same_key j k h = same_equal j.digest k.digest
+    (and_parts (pointwise nat_eq j.uuid.bytes k.uuid.bytes) (same_digest j.digest k.digest) h).1
 
-pub whole_with : (k : UploadKey) (u : Upload) (es : List (UploadKey × Upload)) → IsWhole (k, u) → AreWhole es → AreWhole (insert_entry same_key es k u)
+pub whole_with : (k : UploadKey) (u : Upload) (es : List (UploadKey × Upload)) → IsWhole (k, u) → AreWhole es →
+    AreWhole (insert_entry same_key es k u)
 whole_with k u [] w h = (w, tt)
 whole_with k u (e ∷ es) w h = go (same_key k e.0) refl (whole_with k u es w h.1) where
   go : (b : Bool) → same_key k e.0 ≡ b → AreWhole (insert_entry same_key es k u) → AreWhole (insert_entry same_key (e ∷ es) k u)
@@ -64,14 +74,19 @@ whole_with k u (e ∷ es) w h = go (same_key k e.0) refl (whole_with k u es w h.
 some_same : (a b : Upload) → Some a ≡ Some b → a ≡ b
 some_same a b h = cc
 
-pub whole_at : (k : UploadKey) (es : List (UploadKey × Upload)) (u : Upload) → AreWhole es → lookup (same_key k) es ≡ Some u → IsWhole (k, u)
+pub whole_at : (k : UploadKey) (es : List (UploadKey × Upload)) (u : Upload) → AreWhole es → lookup (same_key k) es ≡ Some u →
+    IsWhole (k, u)
 whole_at k [] u h at = cc
 whole_at k (e ∷ es) u h at = go (same_key k e.0) refl (whole_at k es u h.1) at where
-  go : (b : Bool) → same_key k e.0 ≡ b → (lookup (same_key k) es ≡ Some u → IsWhole (k, u)) → lookup (same_key k) (e ∷ es) ≡ Some u → IsWhole (k, u)
+  go : (b : Bool) → same_key k e.0 ≡ b → (lookup (same_key k) es ≡ Some u → IsWhole (k, u)) → lookup (same_key k) (e ∷ es) ≡ Some u →
+      IsWhole (k, u)
   go true is ih at =
       let found = rw is at at in
       let here : e.1 ≡ u = some_same e.1 u found in
-      record { whole = λ closed. rw (← here) (h.0.whole (rw here closed) ∙ ap (λ (d : Digest). d.size) (sym (digest_of_same_key k e.0 is))) }
+      record {
+        whole = λ closed. rw (← here) (h.0.whole (rw here closed)
+            ∙ ap (λ (d : Digest). d.size) (sym (digest_of_same_key k e.0 is)));
+      }
   go false is ih at = ih (rw is at at)
 
 pub whole_filter : (test : (UploadKey × Upload) → Bool) (es : List (UploadKey × Upload)) → AreWhole es → AreWhole (filter test es)
@@ -83,24 +98,30 @@ whole_filter test (e ∷ es) h = go (test e) refl (whole_filter test es h.1) whe
 
 -- ---- those that a moment leaves
 
-pub unexpired_shown : (moment : ℕ) (es : List (UploadKey × Upload)) → map entry_shown (filter (λ (e : UploadKey × Upload). nat_lt (moment - e.1.written) 600000) es) ≡ uploads_at moment (map entry_shown es)
+pub unexpired_shown : (moment : ℕ) (es : List (UploadKey × Upload)) →
+    map entry_shown (filter (λ (e : UploadKey × Upload). nat_lt (moment - e.1.written) 600000) es) ≡ uploads_at moment (map entry_shown es)
 unexpired_shown moment [] = refl
 unexpired_shown moment (e ∷ es) = go (nat_lt (moment - e.1.written) 600000) refl (unexpired_shown moment es) where
   go : (b : Bool) → nat_lt (moment - e.1.written) 600000 ≡ b
-      → map entry_shown (filter (λ (d : UploadKey × Upload). nat_lt (moment - d.1.written) 600000) es) ≡ uploads_at moment (map entry_shown es)
-      → map entry_shown (filter (λ (d : UploadKey × Upload). nat_lt (moment - d.1.written) 600000) (e ∷ es)) ≡ uploads_at moment (map entry_shown (e ∷ es))
+      → map entry_shown (filter (λ (d : UploadKey × Upload). nat_lt (moment - d.1.written) 600000) es)
+      ≡ uploads_at moment (map entry_shown es)
+      → map entry_shown (filter (λ (d : UploadKey × Upload). nat_lt (moment - d.1.written) 600000) (e ∷ es))
+      ≡ uploads_at moment (map entry_shown (e ∷ es))
   go true is ih = rw is (ap (λ (us : List (KeyValue × UploadValue)). entry_shown e ∷ us) ih)
   go false is ih = rw is ih
 
 -- ---- sums
 
-pub bytes_shown : (es : List (UploadKey × Upload)) → sum_by (λ (u : Upload). length u.draft.text) (map (λ (e : UploadKey × Upload). e.1) es) ≡ uploads_length (map entry_shown es)
+pub bytes_shown : (es : List (UploadKey × Upload)) →
+    sum_by (λ (u : Upload). length u.draft.text) (map (λ (e : UploadKey × Upload). e.1) es) ≡ uploads_length (map entry_shown es)
 bytes_shown [] = refl
-bytes_shown (e ∷ es) = sum_by-cons (λ (u : Upload). length u.draft.text) e.1 (map (λ (d : UploadKey × Upload). d.1) es) ∙ ap (λ n. length e.1.draft.text + n) (bytes_shown es)
+bytes_shown (e ∷ es) = sum_by-cons (λ (u : Upload). length u.draft.text) e.1 (map (λ (d : UploadKey × Upload). d.1) es)
+    ∙ ap (λ n. length e.1.draft.text + n) (bytes_shown es)
 
 -- ---- an upload that is there
 
-pub there_ok : {E T : Type 0} (r : Result T E) (k : UploadKey) (es : List (UploadKey × Upload)) → IsSome (upload_at (key_shown k) (map entry_shown es))
+pub there_ok : {E T : Type 0} (r : Result T E) (k : UploadKey) (es : List (UploadKey × Upload)) →
+    IsSome (upload_at (key_shown k) (map entry_shown es))
     → OnErr r (lookup (same_key k) es ≡ None) → IsOk r
 there_ok (Ok x) k es some none = refl
 there_ok (Err e) k es some none =
@@ -108,7 +129,8 @@ there_ok (Err e) k es some none =
     let clash : false ≡ true = rw absent at some in
     cc
 
-pub there_some : (o : Option Upload) (k : UploadKey) (es : List (UploadKey × Upload)) → IsSome (upload_at (key_shown k) (map entry_shown es))
+pub there_some : (o : Option Upload) (k : UploadKey) (es : List (UploadKey × Upload)) →
+    IsSome (upload_at (key_shown k) (map entry_shown es))
     → o ≡ lookup (same_key k) es → IsSome o
 there_some (Some x) k es some at = refl
 there_some None k es some at =

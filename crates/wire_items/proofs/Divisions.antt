@@ -21,7 +21,8 @@ module _ {A E : Type 0} (f : Format A E) (steady : IsSteady f) where
   abbrev IsSame : (List ℕ → Division A E) → (List ℕ → Division A E) → List ℕ → Type 0
   IsSame g h t = (r : List ℕ) → length r < length t → g r ≡ h r
 
-  same_by : (w : Result (Option ℕ) E) (t : List ℕ) (g h : List ℕ → Division A E) → f.whole_at t ≡ w → IsSame g h t → divide_by f w t g ≡ divide_by f w t h
+  same_by : (w : Result (Option ℕ) E) (t : List ℕ) (g h : List ℕ → Division A E) → f.whole_at t ≡ w → IsSame g h t →
+      divide_by f w t g ≡ divide_by f w t h
   same_by (Ok None) t g h e same = refl
   same_by (Err x) t g h e same = refl
   same_by (Ok (Some n)) t g h e same = ap (behind (f.item_at t ∷ [])) (same (drop (f.head + n) t) (shrinks t n e))
@@ -31,12 +32,14 @@ module _ {A E : Type 0} (f : Format A E) (steady : IsSteady f) where
   unfolding divide_in
   divide_fuel zero k t p q = absurd (omega arith)
   divide_fuel (suc j) zero t p q = absurd (omega arith)
-  divide_fuel (suc j) (suc k) t p q = same_by (f.whole_at t) t (divide_in f j) (divide_in f k) refl (λ r less. divide_fuel j k r (omega arith) (omega arith))
+  divide_fuel (suc j) (suc k) t p q = same_by (f.whole_at t) t (divide_in f j) (divide_in f k) refl
+      (λ r less. divide_fuel j k r (omega arith) (omega arith))
 
   pub divide_at : (t : List ℕ) (w : Result (Option ℕ) E) → f.whole_at t ≡ w → divide f t ≡ divide_by f w t (divide f)
   unfolding divide_in
   divide_at t w e =
-      same_by (f.whole_at t) t (divide_in f (length t)) (divide f) refl (λ r less. divide_fuel (length t) (suc (length r)) r less (omega arith))
+      same_by (f.whole_at t) t (divide_in f (length t)) (divide f) refl
+      (λ r less. divide_fuel (length t) (suc (length r)) r less (omega arith))
       ∙ ap (λ (v : Result (Option ℕ) E). divide_by f v t (divide f)) e
 
   pub divide_partial : (t : List ℕ) → f.whole_at t ≡ Ok None → divide f t ≡ rest_only t
@@ -45,11 +48,13 @@ module _ {A E : Type 0} (f : Format A E) (steady : IsSteady f) where
   pub divide_fault : (t : List ℕ) (x : E) → f.whole_at t ≡ Err x → divide f t ≡ fault_only x
   divide_fault t x e = divide_at t (Err x) e
 
-  pub divide_whole : (t : List ℕ) (n : ℕ) → f.whole_at t ≡ Ok (Some n) → divide f t ≡ behind (f.item_at t ∷ []) (divide f (drop (f.head + n) t))
+  pub divide_whole : (t : List ℕ) (n : ℕ) → f.whole_at t ≡ Ok (Some n) →
+      divide f t ≡ behind (f.item_at t ∷ []) (divide f (drop (f.head + n) t))
   divide_whole t n e = divide_at t (Ok (Some n)) e
 
   -- a whole item stays the first one, whatever follows
-  pub divide_whole_more : (t more : List ℕ) (n : ℕ) → f.whole_at t ≡ Ok (Some n) → divide f (t ++ more) ≡ behind (f.item_at t ∷ []) (divide f (drop (f.head + n) t ++ more))
+  pub divide_whole_more : (t more : List ℕ) (n : ℕ) → f.whole_at t ≡ Ok (Some n) →
+      divide f (t ++ more) ≡ behind (f.item_at t ∷ []) (divide f (drop (f.head + n) t ++ more))
   divide_whole_more t more n e =
       divide_whole (t ++ more) n (steady.whole t more n e)
       ∙ ap (λ (x : A). behind (x ∷ []) (divide f (drop (f.head + n) (t ++ more)))) (steady.item t more n e)
@@ -66,14 +71,17 @@ module _ {A E : Type 0} (f : Format A E) (steady : IsSteady f) where
   continues_in : (k : ℕ) (t more : List ℕ) → length t < k → IsFront more (divide f t) (divide f (t ++ more))
   continues_in zero t more p = absurd (omega arith)
   continues_in (suc k) t more p = go (f.whole_at t) refl (λ (r : List ℕ) (q : length r < k). continues_in k r more q) where
-    go : (w : Result (Option ℕ) E) → f.whole_at t ≡ w → ((r : List ℕ) → length r < k → IsFront more (divide f r) (divide f (r ++ more))) → IsFront more (divide f t) (divide f (t ++ more))
+    go : (w : Result (Option ℕ) E) → f.whole_at t ≡ w → ((r : List ℕ) → length r < k → IsFront more (divide f r) (divide f (r ++ more))) →
+        IsFront more (divide f t) (divide f (t ++ more))
     go (Ok None) e others = subst (λ (d : Division A E). IsFront more d (divide f (t ++ more))) (sym (divide_partial t e)) refl
-    go (Err x) e others = subst (λ (d : Division A E). IsFront more d (divide f (t ++ more))) (sym (divide_fault t x e)) (divide_fault_more t more x e)
+    go (Err x) e others = subst (λ (d : Division A E). IsFront more d (divide f (t ++ more))) (sym (divide_fault t x e))
+        (divide_fault_more t more x e)
     go (Ok (Some n)) e others =
         let r : List ℕ = drop (f.head + n) t in
         let less = shrinks t n e in
         subst (λ (d : Division A E). IsFront more d (divide f (t ++ more))) (sym (divide_whole t n e))
-        (divide_whole_more t more n e ∙ ap (behind (f.item_at t ∷ [])) (others r (omega arith)) ∙ behind_both (f.item_at t ∷ []) (divide f r).items (divide_left f (divide f r).end more))
+        (divide_whole_more t more n e ∙ ap (behind (f.item_at t ∷ [])) (others r (omega arith))
+        ∙ behind_both (f.item_at t ∷ []) (divide f r).items (divide_left f (divide f r).end more))
 
   pub continues : (t more : List ℕ) → divide f (t ++ more) ≡ behind (divide f t).items (divide_left f (divide f t).end more)
   continues t more = continues_in (suc (length t)) t more (omega arith)
@@ -89,16 +97,19 @@ module _ {A E : Type 0} (f : Format A E) (steady : IsSteady f) where
 
   -- ---- what holds of each whole item
 
-  all_in : (P : A → Type 0) (k : ℕ) (t : List ℕ) → ((r : List ℕ) (n : ℕ) → f.whole_at r ≡ Ok (Some n) → P (f.item_at r)) → AllByRecursion P (divide_in f k t).items
+  all_in : (P : A → Type 0) (k : ℕ) (t : List ℕ) → ((r : List ℕ) (n : ℕ) → f.whole_at r ≡ Ok (Some n) → P (f.item_at r)) →
+      AllByRecursion P (divide_in f k t).items
   unfolding divide_in
   all_in P zero t each = tt
   all_in P (suc k) t each = go (f.whole_at t) refl (λ r. all_in P k r each) where
-    go : (w : Result (Option ℕ) E) → f.whole_at t ≡ w → ((r : List ℕ) → AllByRecursion P (divide_in f k r).items) → AllByRecursion P (divide_by f w t (divide_in f k)).items
+    go : (w : Result (Option ℕ) E) → f.whole_at t ≡ w → ((r : List ℕ) → AllByRecursion P (divide_in f k r).items) →
+        AllByRecursion P (divide_by f w t (divide_in f k)).items
     go (Ok None) e others = tt
     go (Err x) e others = tt
     go (Ok (Some n)) e others = (each t n e, others (drop (f.head + n) t))
 
-  pub all_items : (P : A → Type 0) (t : List ℕ) → ((r : List ℕ) (n : ℕ) → f.whole_at r ≡ Ok (Some n) → P (f.item_at r)) → AllByRecursion P (divide f t).items
+  pub all_items : (P : A → Type 0) (t : List ℕ) → ((r : List ℕ) (n : ℕ) → f.whole_at r ≡ Ok (Some n) → P (f.item_at r)) →
+      AllByRecursion P (divide f t).items
   all_items P t each = all_in P (suc (length t)) t each
 
   -- ---- the grammar
@@ -113,7 +124,8 @@ module _ {A E : Type 0} (f : Format A E) (steady : IsSteady f) where
           past : (n : ℕ) → f.head + n ≡ length x → drop (f.head + n) x ++ rest ≡ rest
           past n e = sym (drop-append-le (f.head + n) x rest (omega arith)) ∙ ap (λ (k : ℕ). drop k (x ++ rest)) e ∙ drop-append_seam x rest
 
-    only_from : (front rest : List ℕ) (items : List A) (end : Result (List ℕ) E) → Spells IsItem front items → IsEnd rest end → divide f (front ++ rest) ≡ record { items = items; end = end }
+    only_from : (front rest : List ℕ) (items : List A) (end : Result (List ℕ) E) → Spells IsItem front items → IsEnd rest end →
+        divide f (front ++ rest) ≡ record { items = items; end = end }
     only_from front rest [] (Ok r) h e =
         let at = reads.rest rest r e in
         ap (λ (q : List ℕ). divide f (q ++ rest)) h ∙ divide_partial rest at.1 ∙ ap rest_only at.0
@@ -130,7 +142,8 @@ module _ {A E : Type 0} (f : Format A E) (steady : IsSteady f) where
     unfolding divide_in
     found_in zero t p = absurd (omega arith)
     found_in (suc k) t p = go (f.whole_at t) refl (λ r less. found_in k r less) where
-      go : (w : Result (Option ℕ) E) → f.whole_at t ≡ w → ((r : List ℕ) → length r < k → IsDivision IsItem IsEnd r (divide_in f k r)) → IsDivision IsItem IsEnd t (divide_by f w t (divide_in f k))
+      go : (w : Result (Option ℕ) E) → f.whole_at t ≡ w → ((r : List ℕ) → length r < k → IsDivision IsItem IsEnd r (divide_in f k r)) →
+          IsDivision IsItem IsEnd t (divide_by f w t (divide_in f k))
       go (Ok None) e others = record { front = []; rest = t; parts = refl; items = refl; end = reads.is_rest t e }
       go (Err x) e others = record { front = []; rest = t; parts = refl; items = refl; end = reads.is_fault t x e }
       go (Ok (Some n)) e others =
@@ -140,7 +153,8 @@ module _ {A E : Type 0} (f : Format A E) (steady : IsSteady f) where
           record {
             front = take m t ++ later.front;
             rest = later.rest;
-            parts = sym (take-append-drop m t) ∙ ap (λ (q : List ℕ). take m t ++ q) later.parts ∙ sym (append_assoc (take m t) later.front later.rest);
+            parts = sym (take-append-drop m t) ∙ ap (λ (q : List ℕ). take m t ++ q) later.parts
+                ∙ sym (append_assoc (take m t) later.front later.rest);
             items = (take m t, later.front, refl, reads.is_item t n e, later.items);
             end = later.end;
           }

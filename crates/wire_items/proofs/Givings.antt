@@ -4,8 +4,10 @@ use Rattle.std.proofs.lemmas.List.{append-nil}
 use Rattle.wire_items.specs.Items.{Division, behind, rest_only, fault_only, AreItemsSoFar}
 use Rattle.wire_items.proofs.Divisions.{behind_both}
 
-module _ {A E : Type 0} (divided left : List ℕ → Division A E) (text : List ℕ) (given : List A) (stands : AreItemsSoFar divided left text given) where
-  pub given_more : (later : List ℕ → Division A E) (next : List A) → ((more : List ℕ) → left more ≡ behind next (later more)) → AreItemsSoFar divided later text (given ++ next)
+module _ {A E : Type 0} (divided left : List ℕ → Division A E) (text : List ℕ) (given : List A)
+    (stands : AreItemsSoFar divided left text given) where
+  pub given_more : (later : List ℕ → Division A E) (next : List A) → ((more : List ℕ) → left more ≡ behind next (later more)) →
+      AreItemsSoFar divided later text (given ++ next)
   given_more later next step more = stands more ∙ ap (behind given) (step more) ∙ behind_both given next (later more)
 
   pub given_now : divided text ≡ behind given (left [])

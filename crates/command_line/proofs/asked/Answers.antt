@@ -9,11 +9,13 @@ pub returns-in-Err-clause-fault : goal.returns-in-Err-clause-fault
 returns-in-Err-clause-fault c = refused_is_fault _ _ _ _ c.requires c.in-Err.ensures.kinds c.from.ensures
 
 pub returns-in-Some-clause-invocation : goal.returns-in-Some-clause-invocation
-returns-in-Some-clause-invocation c = asked_is _ _ _ c.requires c.in-Ok.ensures.ok.2 ∙ sym c.in_ok-invocation.ensures ∙ ap (option_map invocation_value) c.in-Some.is
+returns-in-Some-clause-invocation c = asked_is _ _ _ c.requires c.in-Ok.ensures.ok.2 ∙ sym c.in_ok-invocation.ensures
+    ∙ ap (option_map invocation_value) c.in-Some.is
 
 pub returns-in-Some-clause-faultless : goal.returns-in-Some-clause-faultless
 returns-in-Some-clause-faultless c = accepted_has_none _ _ c.requires c.in-Ok.ensures.kinds
 
 pub returns-in-None-clause-fault : goal.returns-in-None-clause-fault
 returns-in-None-clause-fault c =
-    c.value_fault.ensures (map (string_bytes {Z = Global}) c.args.words.now) (asked_is _ _ _ c.requires c.in-Ok.ensures.ok.2 ∙ sym c.in_ok-invocation.ensures ∙ ap (option_map invocation_value) c.in-None.is)
+    c.value_fault.ensures (map (string_bytes {Z = Global}) c.args.words.now)
+    (asked_is _ _ _ c.requires c.in-Ok.ensures.ok.2 ∙ sym c.in_ok-invocation.ensures ∙ ap (option_map invocation_value) c.in-None.is)

@@ -3,8 +3,10 @@ use Rattle.probe.proofs.exchange.Goals.{else-loop-test, then-loop-test+then-is_e
 use Rattle.probe.proofs.exchange.Goals as goal
 
 pub loop-preserved : goal.loop-preserved
-loop-preserved g c =
-    (more_so_far _ _ _ _ _ _ _ _ _ _ _ c.loop.invariant.0 c.in_ok-unsent.ensures c.in_ok-receive.ensures.bytes, c.in_ok-receive.ensures.bound)
+loop-preserved g c = (
+  more_so_far _ _ _ _ _ _ _ _ _ _ _ c.loop.invariant.0 c.in_ok-unsent.ensures c.in_ok-receive.ensures.bytes,
+  c.in_ok-receive.ensures.bound,
+)
 
 pub returns-clause-sent : goal.returns-clause-sent
 returns-clause-sent g c = elim c.loop-test.branch [

@@ -13,7 +13,8 @@ returns-in_default-2-clause-text c =
     let look = texts_of c.args.pool.now c.args.view.now in
     let stored : lookup (same_digest c.args.action.now) c.args.results.now ≡ Some c.in-Some.text.now = search rules in
     let nothing : blobs_once look c.in-Some.text.now ≡ None = search rules in
-    sym (ap (λ (o : Option (List Digest)). and_then o (λ _. lookup (same_digest c.args.action.now) c.args.results.now)) (none_is_found look c.args.action.now c.args.results.now c.in-Some.text.now stored nothing))
+    sym (ap (λ (o : Option (List Digest)). and_then o (λ _. lookup (same_digest c.args.action.now) c.args.results.now))
+    (none_is_found look c.args.action.now c.args.results.now c.in-Some.text.now stored nothing))
 
 pub returns-in_default-2-clause-blobs : goal.returns-in_default-2-clause-blobs
 returns-in_default-2-clause-blobs c =
@@ -28,7 +29,8 @@ returns-clause-text c =
     let stored : lookup (same_digest c.args.action.now) c.args.results.now ≡ Some c.in-Some.text.now = search rules in
     let named : blobs_once look c.in-Some.text.now ≡ Some c.in-Some-2.blobs.items = search rules in
     let same = blobs_are_found look c.args.action.now c.args.results.now c.in-Some.text.now c.in-Some-2.blobs.items stored named in
-    ap (λ (t : List ℕ). Some t) c.in_ok-text.ensures.items ∙ sym (text_is_found look c.args.action.now c.args.results.now c.in-Some.text.now c.in-Some-2.blobs.items stored same)
+    ap (λ (t : List ℕ). Some t) c.in_ok-text.ensures.items
+    ∙ sym (text_is_found look c.args.action.now c.args.results.now c.in-Some.text.now c.in-Some-2.blobs.items stored same)
 
 pub returns-clause-blobs : goal.returns-clause-blobs
 returns-clause-blobs c =

@@ -11,5 +11,10 @@ outputs-preserved c =
     let rest : List OutputDirectoryValue = map output_directory_shown c.pop.new.self.items in
     let last : OutputDirectoryValue = output_directory_shown c.in-Some.last in
     let front : List OutputDirectoryValue = map output_directory_shown c.outputs.kept.items in
-    let left : map output_directory_shown c.outputs.left.items ≡ rest ++ last ∷ [] = ap (map output_directory_shown) c.in-Some.ensures.items ∙ map-append output_directory_shown c.pop.new.self.items (c.in-Some.last ∷ []) in
-    rw (c.in_ok-add_new.ensures.kept, c.in_ok-add_new.ensures.seen) (append_assoc front (unless_met (is_met met last) last) (kept_from (with_met met last) rest) ∙ ap (λ (xs : List OutputDirectoryValue). front ++ xs) (sym (kept_last met rest last)) ∙ ap (λ (xs : List OutputDirectoryValue). front ++ kept_from met xs) (sym left) ∙ c.outputs.invariant)
+    let left : map output_directory_shown c.outputs.left.items ≡ rest ++ last ∷ [] =
+    ap (map output_directory_shown) c.in-Some.ensures.items
+    ∙ map-append output_directory_shown c.pop.new.self.items (c.in-Some.last ∷ []) in
+    rw (c.in_ok-add_new.ensures.kept, c.in_ok-add_new.ensures.seen)
+    (append_assoc front (unless_met (is_met met last) last) (kept_from (with_met met last) rest)
+    ∙ ap (λ (xs : List OutputDirectoryValue). front ++ xs) (sym (kept_last met rest last))
+    ∙ ap (λ (xs : List OutputDirectoryValue). front ++ kept_from met xs) (sym left) ∙ c.outputs.invariant)

@@ -7,12 +7,14 @@ use Rattle.action_cache.proofs.Pairs.{with_match_first-result_shown}
 use Rattle.action_cache.proofs.results.promote.Goals as goal
 
 pub returns-clause-used : goal.returns-clause-used
-returns-clause-used c = rw c.promote.ensures.entries (with_match_first-result_shown (same_digest c.args.digest.now) c.args.cache.now.entries)
+returns-clause-used c = rw c.promote.ensures.entries
+    (with_match_first-result_shown (same_digest c.args.digest.now) c.args.cache.now.entries)
 
 pub returns-clause-total : goal.returns-clause-total
 returns-clause-total c =
     rw c.promote.ensures.entries
-    (ap blobs_length (with_match_first-result_shown (same_digest c.args.digest.now) c.args.cache.now.entries) ∙ blobs_length-with_match_first (same_digest c.args.digest.now) (map result_shown c.args.cache.now.entries))
+    (ap blobs_length (with_match_first-result_shown (same_digest c.args.digest.now) c.args.cache.now.entries)
+    ∙ blobs_length-with_match_first (same_digest c.args.digest.now) (map result_shown c.args.cache.now.entries))
 
 pub returns-clause-length : goal.returns-clause-length
 returns-clause-length c = rw c.promote.ensures.entries (length-with_match_first (same_digest c.args.digest.now) c.args.cache.now.entries)

@@ -6,7 +6,8 @@ use Rattle.action_cache.proofs.results.trim.Given as goal
 
 abbrev pub invariant-results : goal.invariant-results
 invariant-results l = record {
-  entries_are : front_within (limits_value l.limits).results (limits_value l.limits).result_bytes (map result_shown l.cache.entries) ≡ front_within (limits_value l.limits).results (limits_value l.limits).result_bytes (map result_shown l.fn.cache.entries);
+  entries_are : front_within (limits_value l.limits).results (limits_value l.limits).result_bytes (map result_shown l.cache.entries)
+      ≡ front_within (limits_value l.limits).results (limits_value l.limits).result_bytes (map result_shown l.fn.cache.entries);
   bytes_are : l.bytes ≡ blobs_length (map result_shown l.cache.entries);
   cap_is : l.cache.cap ≡ l.fn.cache.cap;
 }

@@ -6,7 +6,8 @@ use Rattle.actions.specs.ActionTexts.{action_after, no_action}
 use Rattle.actions.proofs.action_text.action_in.Given as goal
 
 abbrev pub invariant-records : goal.invariant-records
-invariant-records l = with_left action_after (action_shown l.action) (items_left record_at l.reader) ≡ with_left action_after no_action (records_of l.text)
+invariant-records l = with_left action_after (action_shown l.action) (items_left record_at l.reader)
+    ≡ with_left action_after no_action (records_of l.text)
 
 abbrev pub decreases-records : goal.decreases-records
 decreases-records l = count_left l.reader

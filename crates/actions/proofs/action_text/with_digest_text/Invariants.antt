@@ -6,7 +6,8 @@ use Rattle.actions.specs.ActionTexts.{digest_after}
 use Rattle.actions.proofs.action_text.with_digest_text.Given as goal
 
 abbrev pub invariant-records : goal.invariant-records
-invariant-records l = with_left digest_after (digest_shown l.digest) (items_left record_at l.reader) ≡ with_left digest_after (digest_shown l.fn.digest) (records_of l.text)
+invariant-records l = with_left digest_after (digest_shown l.digest) (items_left record_at l.reader)
+    ≡ with_left digest_after (digest_shown l.fn.digest) (records_of l.text)
 
 abbrev pub decreases-records : goal.decreases-records
 decreases-records l = count_left l.reader

@@ -6,7 +6,8 @@ use Rattle.actions.specs.ActionTexts.{duration_after}
 use Rattle.actions.proofs.action_text.with_duration_text.Given as goal
 
 abbrev pub invariant-records : goal.invariant-records
-invariant-records l = with_left duration_after (duration_shown l.duration) (items_left record_at l.reader) ≡ with_left duration_after (duration_shown l.fn.duration) (records_of l.text)
+invariant-records l = with_left duration_after (duration_shown l.duration) (items_left record_at l.reader)
+    ≡ with_left duration_after (duration_shown l.fn.duration) (records_of l.text)
 
 abbrev pub decreases-records : goal.decreases-records
 decreases-records l = count_left l.reader

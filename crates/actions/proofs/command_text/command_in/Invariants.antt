@@ -6,7 +6,8 @@ use Rattle.actions.specs.Texts.{command_after, no_command}
 use Rattle.actions.proofs.command_text.command_in.Given as goal
 
 abbrev pub invariant-records : goal.invariant-records
-invariant-records l = with_left command_after (command_shown l.command) (items_left record_at l.reader) ≡ with_left command_after no_command (records_of l.text)
+invariant-records l = with_left command_after (command_shown l.command) (items_left record_at l.reader)
+    ≡ with_left command_after no_command (records_of l.text)
 
 abbrev pub decreases-records : goal.decreases-records
 decreases-records l = count_left l.reader

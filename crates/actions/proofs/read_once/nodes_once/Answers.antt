@@ -14,10 +14,13 @@ returns-in-Some-clause-nodes g c =
     let look = g.F.Finds.found_in c.args.pool.now c.args.view.now in
     let found : lookup (same_digest c.args.digest.now) c.args.read.now.entries ≡ Some c.in-Some.nodes.now = search rules in
     read_before look c.args.read.now.entries c.args.digest.now c.args.level c.in-Some.nodes.now c.requires.read found
-    ∙ ap (λ (ns : List PlanNodeValue). let n : Nodes = Ok ns in n) (sym (c.in_ok-copy_nodes.ensures ∙ ap (λ (ns : List PlanNode). at_level c.args.level (nodes_shown ns)) c.deref.ensures.value))
+    ∙ ap (λ (ns : List PlanNodeValue). let n : Nodes = Ok ns in n)
+    (sym (c.in_ok-copy_nodes.ensures ∙ ap (λ (ns : List PlanNode). at_level c.args.level (nodes_shown ns)) c.deref.ensures.value))
 
 pub returns-clause-read : goal.returns-clause-read
 returns-clause-read g c =
     let look = g.F.Finds.found_in c.args.pool.now c.args.view.now in
     let copied = c.in_ok-copies.ensures ∙ ap (λ (ns : List PlanNode). at_level c.args.level (nodes_shown ns)) c.deref-2.ensures.value in
-    read_more look c.args.read.now.entries c.insert.new.self.entries c.args.level c.args.digest.now (nodes_shown c.in_ok-nodes.nodes.items) c.in_ok-copies.copies c.requires.read c.in_ok-nodes.ensures copied c.in_ok-insert.ensures.updates.0
+    read_more look c.args.read.now.entries c.insert.new.self.entries c.args.level c.args.digest.now
+    (nodes_shown c.in_ok-nodes.nodes.items) c.in_ok-copies.copies c.requires.read c.in_ok-nodes.ensures copied
+    c.in_ok-insert.ensures.updates.0

@@ -6,16 +6,19 @@ use Rattle.actions.proofs.walking.walk_along.Goals as goal
 
 pub returns-then-len-eq-MOST_NODES : goal.returns-then-len-eq-MOST_NODES
 returns-then-len-eq-MOST_NODES g c =
-    full_at node_shown (g.F.Finds.found_in c.args.pool.now c.args.view.now) 10000 _ _ _ c.in-Some.node _ c.in-Some.ensures.items c.nodes.invariant.same (omega arith)
+    full_at node_shown (g.F.Finds.found_in c.args.pool.now c.args.view.now) 10000 _ _ _ c.in-Some.node _ c.in-Some.ensures.items
+    c.nodes.invariant.same (omega arith)
 
 pub returns-in_err-inside : goal.returns-in_err-inside
 returns-in_err-inside g c =
     let p = err_from_is_err_and c.from_residual.result c.from_residual.ensures.1 in
-    rw (p.1, p.2) (fails_at node_shown (g.F.Finds.found_in c.args.pool.now c.args.view.now) 10000 _ _ _ c.in-Some.node _ _ c.in-Some.ensures.items c.nodes.invariant.same (omega arith) c.in_err-inside.ensures.nodes)
+    rw (p.1, p.2) (fails_at node_shown (g.F.Finds.found_in c.args.pool.now c.args.view.now) 10000 _ _ _ c.in-Some.node _ _
+    c.in-Some.ensures.items c.nodes.invariant.same (omega arith) c.in_err-inside.ensures.nodes)
 
 pub nodes-preserved : goal.nodes-preserved
 nodes-preserved g c = record {
-  same = next_at node_shown (g.F.Finds.found_in c.args.pool.now c.args.view.now) 10000 _ _ _ _ _ c.in-Some.node _ _ c.in-Some.ensures.items c.nodes.invariant.same (omega arith) c.in_ok-inside.ensures.nodes c.in_ok-stack.ensures c.in_ok-push.ensures.items;
+  same = next_at node_shown (g.F.Finds.found_in c.args.pool.now c.args.view.now) 10000 _ _ _ _ _ c.in-Some.node _ _ c.in-Some.ensures.items
+      c.nodes.invariant.same (omega arith) c.in_ok-inside.ensures.nodes c.in_ok-stack.ensures c.in_ok-push.ensures.items;
   read = c.in_ok-inside.ensures.read;
   few = omega arith;
 }

@@ -6,7 +6,8 @@ use Rattle.actions.proofs.walking.walk_along.Given as goal
 
 abbrev pub invariant-nodes : goal.invariant-nodes
 invariant-nodes g l = record {
-  same : walk_along (10000 - length l.met.items) (g.F.Finds.found_in l.pool l.view) (reverse (nodes_shown l.todo.items)) (nodes_shown l.met.items) ≡ walk_along 10000 (g.F.Finds.found_in l.pool l.view) (reverse (nodes_shown l.fn.todo.items)) [];
+  same : walk_along (10000 - length l.met.items) (g.F.Finds.found_in l.pool l.view) (reverse (nodes_shown l.todo.items))
+      (nodes_shown l.met.items) ≡ walk_along 10000 (g.F.Finds.found_in l.pool l.view) (reverse (nodes_shown l.fn.todo.items)) [];
   read : AreRead (g.F.Finds.found_in l.pool l.view) l.read.entries;
   few : length l.met.items ≤ 10000;
 }

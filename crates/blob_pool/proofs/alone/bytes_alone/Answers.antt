@@ -11,8 +11,13 @@ use Rattle.blob_pool.proofs.alone.bytes_alone.Goals as goal
 
 pub texts-init : goal.texts-init
 texts-init c = record {
-  rising = subst (λ (ns : List ℕ). IsNonDecreasing ns) (sym c.as_slice-rest.ensures.value) (IsNonDecreasingBy-from_sort (λ (n : ℕ). n) _ c.sort_unstable.ensures.sorted);
-  sum = omega (arith, alone_sorted c.args.slots.now.slots c.args.holders.items _ c.as_slice-rest.result.now c.sort_unstable.ensures.permutation c.as_slice-rest.ensures.value);
+  rising = subst (λ (ns : List ℕ). IsNonDecreasing ns) (sym c.as_slice-rest.ensures.value)
+      (IsNonDecreasingBy-from_sort (λ (n : ℕ). n) _ c.sort_unstable.ensures.sorted);
+  sum = omega (
+    arith,
+    alone_sorted c.args.slots.now.slots c.args.holders.items _ c.as_slice-rest.result.now
+        c.sort_unstable.ensures.permutation c.as_slice-rest.ensures.value,
+  );
   few = omega (arith, c.as_slice-rest.type_inv.1);
   size = c.as_slice-rest.type_inv.1;
 }
@@ -22,7 +27,8 @@ overflow_add-bytes c =
     let xs : List ℕ = c.texts.rest.now in
     let n : ℕ = c.partition_point-count.result in
     let head : slice_get xs 0 ≡ Some c.in-Some.slot = sym c.first.ensures.value ∙ sym c.copied.ensures ∙ c.in-Some.is in
-    let within : cond (count_at c.args.slots.now.slots c.in-Some.slot == n) (length (text_at c.args.slots.now.slots c.in-Some.slot)) 0 ≤ 2 ^ 48 = if_short _ _ (2 ^ 48) (c.requires.short c.in-Some.slot) in
+    let within : cond (count_at c.args.slots.now.slots c.in-Some.slot == n)
+    (length (text_at c.args.slots.now.slots c.in-Some.slot)) 0 ≤ 2 ^ 48 = if_short _ _ (2 ^ 48) (c.requires.short c.in-Some.slot) in
     omega (arith, c.bytes_if_held_by-bytes.ensures, within, c.texts.invariant.few, slice_get_within xs 0 c.in-Some.slot head)
 
 pub offset_bounds-rest-count : goal.offset_bounds-rest-count
@@ -33,7 +39,8 @@ texts-smaller c =
     let xs : List ℕ = c.texts.rest.now in
     let n : ℕ = c.partition_point-count.result in
     let head : slice_get xs 0 ≡ Some c.in-Some.slot = sym c.first.ensures.value ∙ sym c.copied.ensures ∙ c.in-Some.is in
-    let point = IsPartitionPoint-from_clause (λ (m : ℕ). leb m c.in-Some.slot) _ _ c.partition_point-count.ensures.partitioned (IsPartitionedBy-leb (λ (m : ℕ). m) xs c.in-Some.slot c.texts.invariant.rising) (λ a r q k. search rules) in
+    let point = IsPartitionPoint-from_clause (λ (m : ℕ). leb m c.in-Some.slot) _ _ c.partition_point-count.ensures.partitioned
+    (IsPartitionedBy-leb (λ (m : ℕ). m) xs c.in-Some.slot c.texts.invariant.rising) (λ a r q k. search rules) in
     let less = drop_less n xs (next_some xs n c.in-Some.slot head point) (slice_get_within xs 0 c.in-Some.slot head) in
     subst (λ (ns : List ℕ). length ns < length xs) (sym (take_rest xs n)) less
 
@@ -42,12 +49,15 @@ texts-preserved c =
     let xs : List ℕ = c.texts.rest.now in
     let n : ℕ = c.partition_point-count.result in
     let head : slice_get xs 0 ≡ Some c.in-Some.slot = sym c.first.ensures.value ∙ sym c.copied.ensures ∙ c.in-Some.is in
-    let within : cond (count_at c.args.slots.now.slots c.in-Some.slot == n) (length (text_at c.args.slots.now.slots c.in-Some.slot)) 0 ≤ 2 ^ 48 = if_short _ _ (2 ^ 48) (c.requires.short c.in-Some.slot) in
-    let point = IsPartitionPoint-from_clause (λ (m : ℕ). leb m c.in-Some.slot) _ _ c.partition_point-count.ensures.partitioned (IsPartitionedBy-leb (λ (m : ℕ). m) xs c.in-Some.slot c.texts.invariant.rising) (λ a r q k. search rules) in
+    let within : cond (count_at c.args.slots.now.slots c.in-Some.slot == n)
+    (length (text_at c.args.slots.now.slots c.in-Some.slot)) 0 ≤ 2 ^ 48 = if_short _ _ (2 ^ 48) (c.requires.short c.in-Some.slot) in
+    let point = IsPartitionPoint-from_clause (λ (m : ℕ). leb m c.in-Some.slot) _ _ c.partition_point-count.ensures.partitioned
+    (IsPartitionedBy-leb (λ (m : ℕ). m) xs c.in-Some.slot c.texts.invariant.rising) (λ a r q k. search rules) in
     let less = drop_less n xs (next_some xs n c.in-Some.slot head point) (slice_get_within xs 0 c.in-Some.slot head) in
     let rest = sym (take_rest xs n) in
     let size : length (take (length xs - n) (drop n xs)) ≡ length (drop n xs) = ap length (take_rest xs n) in
-    let next = alone_next c.args.slots.now.slots xs n c.in-Some.slot c.requires.held c.texts.invariant.rising head c.partition_point-count.ensures.bound point in
+    let next = alone_next c.args.slots.now.slots xs n c.in-Some.slot c.requires.held c.texts.invariant.rising head
+    c.partition_point-count.ensures.bound point in
     let left = ap (λ (ns : List ℕ). bytes_alone (holders_at ns) 0 c.args.slots.now.slots) (take_rest xs n) in
     record {
       rising = subst (λ (ns : List ℕ). IsNonDecreasing ns) rest (IsNonDecreasingBy-drop (λ (m : ℕ). m) n xs c.texts.invariant.rising);

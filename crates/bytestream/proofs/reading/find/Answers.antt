@@ -4,4 +4,5 @@ use Rattle.instance_view.specs.Sight.{SightValue, seen_in}
 use Rattle.bytestream.proofs.reading.find.Goals as goal
 
 pub returns-clause-text : goal.returns-clause-text
-returns-clause-text c = λ p. c.get-found.ensures.text p ∙ ap (λ (s : SightValue). visible_text c.args.digest.now (seen_in p s)) c.new.ensures
+returns-clause-text c = λ p. c.get-found.ensures.text p
+    ∙ ap (λ (s : SightValue). visible_text c.args.digest.now (seen_in p s)) c.new.ensures

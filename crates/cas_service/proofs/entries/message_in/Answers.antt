@@ -10,4 +10,5 @@ none (x ∷ xs) is = absurd (let z : ⊥ = cc is in z)
 
 pub returns-then-is_empty : goal.returns-then-is_empty
 unfolding records_in items_in
-returns-then-is_empty g c = rw (none c.args.payload.now (eqb-true (length c.args.payload.now) 0 (sym c.is_empty.ensures ∙ c.if-is_empty.true))) c.of_fields.ensures
+returns-then-is_empty g c = rw (none c.args.payload.now
+    (eqb-true (length c.args.payload.now) 0 (sym c.is_empty.ensures ∙ c.if-is_empty.true))) c.of_fields.ensures

@@ -8,7 +8,8 @@ use Rattle.cas_service.proofs.requests.use_all.Given as goal
 
 abbrev pub invariant-digests : goal.invariant-digests
 invariant-digests l = record {
-  used_so_far : (p : Slots) (quota : ℕ) → visible_after_changes l.fn.view.limit quota (map Use (map asked_digest l.left)) (visible_in p l.view) ≡ visible_after_changes l.fn.view.limit quota (map Use (map asked_digest l.asked)) (visible_in p l.fn.view);
+  used_so_far : (p : Slots) (quota : ℕ) → visible_after_changes l.fn.view.limit quota (map Use (map asked_digest l.left))
+      (visible_in p l.view) ≡ visible_after_changes l.fn.view.limit quota (map Use (map asked_digest l.asked)) (visible_in p l.fn.view);
   same : (k : ℕ) → holders l.view k ≡ holders l.fn.view k;
   kept : (p : Slots) (quota : ℕ) → IsViewInPool quota p l.fn.view → IsViewInPool quota p l.view;
   limit : l.view.limit ≡ l.fn.view.limit;

@@ -8,7 +8,8 @@ use Rattle.cas_service.proofs.update.answer_all.Given as goal
 
 abbrev pub invariant-blobs : goal.invariant-blobs
 invariant-blobs l =
-    (blobs_behind l.function l.quota l.bytes (answered_shown l.answered) (entries_left update_blob_request_of l.reader) ≡ answers_in l.function l.quota l.message)
+    (blobs_behind l.function l.quota l.bytes (answered_shown l.answered) (entries_left update_blob_request_of l.reader)
+    ≡ answers_in l.function l.quota l.message)
     × (l.bytes ≤ 4000000)
 
 abbrev pub decreases-blobs : goal.decreases-blobs

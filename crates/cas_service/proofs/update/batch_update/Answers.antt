@@ -8,4 +8,5 @@ pub store_all-requires-clause-storable : goal.store_all-requires-clause-storable
 store_all-requires-clause-storable c =
     let answered = c.in_ok-answered.answered in
     subst (AllByRecursion (IsStorable c.args.quota)) (sym c.deref.ensures.value)
-    (all_storable c.args.own.now c.args.quota c.args.message.now (answered_shown answered) answered.accepted.items c.in_ok-answered.ensures refl)
+    (all_storable c.args.own.now c.args.quota c.args.message.now
+    (answered_shown answered) answered.accepted.items c.in_ok-answered.ensures refl)

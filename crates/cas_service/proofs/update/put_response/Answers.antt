@@ -10,10 +10,12 @@ use Rattle.cas_service.proofs.update.put_response.Goals as goal
 behind : (before head : WriterValue) (count : ℕ) (text : List ℕ) → count ≡ length text → head ≡ followed_by before (payload_head 1 count)
     → followed_by_records before (message_field 1 text) ≡ followed_by head text
 behind before head count text measured is =
-    let same : followed_by before (payload_head 1 (length text)) ≡ head = ap (λ n. followed_by before (payload_head 1 n)) (sym measured) ∙ sym is in
+    let same : followed_by before (payload_head 1 (length text)) ≡ head =
+    ap (λ n. followed_by before (payload_head 1 n)) (sym measured) ∙ sym is in
     payload_behind_head before 1 text ∙ ap (λ (w : WriterValue). followed_by w text) same
 
 pub returns : goal.returns
 returns c =
     let text = text_for update_blob_response_records (response_shown c.args.sent.now c.args.status.now) in
-    rw (behind c.args.reply.now c.payload_head.new.self c.in_ok-length.length text c.in_ok-length.ensures c.in_ok-payload_head.ensures.ok) c.write_response.ensures
+    rw (behind c.args.reply.now c.payload_head.new.self c.in_ok-length.length text c.in_ok-length.ensures c.in_ok-payload_head.ensures.ok)
+    c.write_response.ensures

@@ -8,7 +8,8 @@ use Rattle.cas_service.proofs.update.store_all.Given as goal
 
 abbrev pub invariant-blobs : goal.invariant-blobs
 invariant-blobs l = record {
-  underway : IsUnderway l.fn.view.limit l.quota (map store_of_accepted l.accepted) (visible_in l.fn.pool l.fn.view) (visible_in l.pool l.view) l.left;
+  underway : IsUnderway l.fn.view.limit l.quota (map store_of_accepted l.accepted) (visible_in l.fn.pool l.fn.view)
+      (visible_in l.pool l.view) l.left;
   moves : Moves l.fn.pool l.pool (holders l.fn.view) (holders l.view);
   kept : IsViewInPool l.quota l.pool l.view;
   limit : l.view.limit ≡ l.fn.view.limit;

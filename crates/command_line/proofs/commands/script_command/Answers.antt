@@ -9,5 +9,7 @@ use Rattle.command_line.proofs.commands.script_command.Goals as goal
 pub returns : goal.returns
 returns c =
     let numbers = c.in_ok-command.ensures in
-    let has : HasApp (with_limits (new_app c.args.name.now)) c.in_ok-command.command = (numbers.0 ∙ ap with_limits c.described.ensures.0, numbers.1) in
-    IfOk-weaker c.arg.result _ _ (λ m h. let first = with_argument _ _ _ _ _ _ _ _ has c.file.ensures h.shape h.globals in (ap (λ a. a.top) first.0, first.1)) c.arg.ensures
+    let has : HasApp (with_limits (new_app c.args.name.now)) c.in_ok-command.command =
+    (numbers.0 ∙ ap with_limits c.described.ensures.0, numbers.1) in
+    IfOk-weaker c.arg.result _ _ (λ m h. let first = with_argument _ _ _ _ _ _ _ _ has c.file.ensures h.shape h.globals in
+    (ap (λ a. a.top) first.0, first.1)) c.arg.ensures

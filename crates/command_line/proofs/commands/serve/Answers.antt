@@ -10,5 +10,7 @@ pub returns : goal.returns
 returns c =
     let numbers = c.in_ok-command.ensures in
     let ways = c.in_ok-with_ways.ensures in
-    let has : HasApp (with_limits (with_ways (new_app (codes "serve")))) c.in_ok-command.command = (numbers.0 ∙ ap with_limits (ways.0 ∙ ap with_ways c.described-described.ensures.0), numbers.1) in
-    IfOk-weaker c.arg.result _ _ (λ m h. let first = with_argument _ _ _ _ _ _ _ _ has c.instances.ensures h.shape h.globals in (ap (λ a. a.top) first.0, first.1)) c.arg.ensures
+    let has : HasApp (with_limits (with_ways (new_app (codes "serve")))) c.in_ok-command.command =
+    (numbers.0 ∙ ap with_limits (ways.0 ∙ ap with_ways c.described-described.ensures.0), numbers.1) in
+    IfOk-weaker c.arg.result _ _ (λ m h. let first = with_argument _ _ _ _ _ _ _ _ has c.instances.ensures h.shape h.globals in
+    (ap (λ a. a.top) first.0, first.1)) c.arg.ensures

@@ -28,8 +28,10 @@ returns-clause-answer c = λ results.
     let few : MOST_WAITING ≤ length c.args.queue.now.waiting → ⊥ = search rules in
     let same : length s.jobs.waiting ≡ length c.args.queue.now.waiting = length-map c.args.queue.now.waiting (waiting_in p) in
     let number : c.in_ok-number.number ≡ c.args.queue.now.next = c.in_ok-number.ensures.number in
-    let told : c.in_ok-told.told.items ≡ queued_text c.args.queue.now.next d = c.in_ok-told.ensures ∙ ap (λ (n : ℕ). queued_text n d) c.next.ensures in
-    let is : queued c.in_ok-number.number c.in_ok-told.told.items ≡ queued c.args.queue.now.next (queued_text c.args.queue.now.next d) = ap (λ (n : ℕ). queued n c.in_ok-told.told.items) number ∙ ap (queued c.args.queue.now.next) told in
+    let told : c.in_ok-told.told.items ≡ queued_text c.args.queue.now.next d =
+    c.in_ok-told.ensures ∙ ap (λ (n : ℕ). queued_text n d) c.next.ensures in
+    let is : queued c.in_ok-number.number c.in_ok-told.told.items ≡ queued c.args.queue.now.next (queued_text c.args.queue.now.next d) =
+    ap (λ (n : ℕ). queued n c.in_ok-told.told.items) number ∙ ap (queued c.args.queue.now.next) told in
     ap (λ (x : ExecuteDone). x.answer) (by_job_waits s d (prepared_shown c.args.prepared) (λ most. few (omega (arith, same, most))))
     ∙ ap (λ (a : ExecuteAnswer). Ok a) (sym is)
 
@@ -48,7 +50,8 @@ returns-clause-after c = λ results.
     let same : length s.jobs.waiting ≡ length jobs.waiting = length-map jobs.waiting (waiting_in p) in
     let digests : c.deref-2.result.now ≡ met d prepared = c.deref-2.ensures.value ∙ c.in_ok-digests.ensures in
     rw (c.in_ok-number.ensures.same, c.in_ok-number.ensures.ok)
-    (subst (λ (x : ExecuteDone). execution_in q (sight_of c.use_all.new.view parent) results (jobs_after_push job jobs) ≡ after_changes x.changes s)
+    (subst (λ (x : ExecuteDone). execution_in q (sight_of c.use_all.new.view parent) results (jobs_after_push job jobs)
+    ≡ after_changes x.changes s)
     (sym (by_job_waits s d prepared (λ most. few (omega (arith, same, most)))))
     (job_after p q view c.use_all.new.view parent results jobs d prepared job
     (c.use_all.ensures.used q ∙ ap (λ (ds : List Digest). visible_after_uses ds (visible_in q view)) digests)

@@ -26,8 +26,11 @@ returns-in-Some-clause-answer c =
     let d : Digest = c.args.asked.now.action in
     let on : nat_eq slots 0 ≡ false = search rules in
     let few : nat_lt LAST_NUMBER s.jobs.next ≡ false = search rules in
-    let found : Some c.in-Some.found.text.items ≡ looked_up skip (look_in s) d s.results = sym (ap (option_map text_items) c.in-Some.is) ∙ c.in_ok-found.ensures.text ∙ ap (λ (v : SightValue). looked_up skip (texts_of p v) d s.results) c.new.ensures in
-    let is : execute slots s skip d ≡ by_result s d c.in-Some.found.text.items = execute_looks slots s skip d on few ∙ ap (by_looking s d) (sym found) in
+    let found : Some c.in-Some.found.text.items ≡ looked_up skip (look_in s) d s.results =
+    sym (ap (option_map text_items) c.in-Some.is) ∙ c.in_ok-found.ensures.text
+    ∙ ap (λ (v : SightValue). looked_up skip (texts_of p v) d s.results) c.new.ensures in
+    let is : execute slots s skip d ≡ by_result s d c.in-Some.found.text.items =
+    execute_looks slots s skip d on few ∙ ap (by_looking s d) (sym found) in
     subst (λ (x : ExecuteDone). Answers answer_shown c.answer_found.result x.answer) (sym is) (c.answer_found.ensures.answer p sight)
 
 pub returns-in-None-clause-answer : goal.returns-in-None-clause-answer
@@ -40,9 +43,12 @@ returns-in-None-clause-answer c =
     let d : Digest = c.args.asked.now.action in
     let on : nat_eq slots 0 ≡ false = search rules in
     let few : nat_lt LAST_NUMBER s.jobs.next ≡ false = search rules in
-    let none : None ≡ looked_up skip (look_in s) d s.results = sym (ap (option_map text_items) c.in-None.is) ∙ c.in_ok-found.ensures.text ∙ ap (λ (v : SightValue). looked_up skip (texts_of p v) d s.results) c.new.ensures in
+    let none : None ≡ looked_up skip (look_in s) d s.results =
+    sym (ap (option_map text_items) c.in-None.is) ∙ c.in_ok-found.ensures.text
+    ∙ ap (λ (v : SightValue). looked_up skip (texts_of p v) d s.results) c.new.ensures in
     let is : execute slots s skip d ≡ by_looking s d None = execute_looks slots s skip d on few ∙ ap (by_looking s d) (sym none) in
-    subst (λ (x : ExecuteDone). Answers answer_shown c.answer_prepared.result x.answer) (sym is) (c.answer_prepared.ensures.answer c.args.results.now)
+    subst (λ (x : ExecuteDone). Answers answer_shown c.answer_prepared.result x.answer) (sym is)
+    (c.answer_prepared.ensures.answer c.args.results.now)
 
 pub returns-in-None-clause-after : goal.returns-in-None-clause-after
 returns-in-None-clause-after c =
@@ -54,6 +60,10 @@ returns-in-None-clause-after c =
     let d : Digest = c.args.asked.now.action in
     let on : nat_eq slots 0 ≡ false = search rules in
     let few : nat_lt LAST_NUMBER s.jobs.next ≡ false = search rules in
-    let none : None ≡ looked_up skip (look_in s) d s.results = sym (ap (option_map text_items) c.in-None.is) ∙ c.in_ok-found.ensures.text ∙ ap (λ (v : SightValue). looked_up skip (texts_of p v) d s.results) c.new.ensures in
+    let none : None ≡ looked_up skip (look_in s) d s.results =
+    sym (ap (option_map text_items) c.in-None.is) ∙ c.in_ok-found.ensures.text
+    ∙ ap (λ (v : SightValue). looked_up skip (texts_of p v) d s.results) c.new.ensures in
     let is : execute slots s skip d ≡ by_looking s d None = execute_looks slots s skip d on few ∙ ap (by_looking s d) (sym none) in
-    subst (λ (x : ExecuteDone). OnOk c.answer_prepared.result (execution_in c.answer_prepared.new.pool (sight_of c.answer_prepared.new.view c.args.parent.now) c.args.results.now c.answer_prepared.new.queue ≡ after_changes x.changes s)) (sym is) (c.answer_prepared.ensures.after c.args.results.now)
+    subst (λ (x : ExecuteDone). OnOk c.answer_prepared.result
+    (execution_in c.answer_prepared.new.pool (sight_of c.answer_prepared.new.view c.args.parent.now) c.args.results.now
+    c.answer_prepared.new.queue ≡ after_changes x.changes s)) (sym is) (c.answer_prepared.ensures.after c.args.results.now)

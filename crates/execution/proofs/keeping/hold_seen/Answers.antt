@@ -16,5 +16,6 @@ returns-in-Text-clause-moves c =
     let text : kept_entry t ≡ (d, c.in-Text.text) = ap (λ (k : ℕ). (d, k)) c.hold_again-text.ensures.kept in
     let same : kept_entries c.push.new.self.items ≡ kept_entries ts ++ (d, c.in-Text.text) ∷ [] =
     ap kept_entries pushed ∙ kept_pushed ts t ∙ ap (λ (e : ViewEntry). kept_entries ts ++ e ∷ []) text in
-    subst (λ (es : List ViewEntry). Moves c.args.pool.now c.hold_again-text.new.self (entry_holders (kept_entries ts)) (entry_holders es)) (sym same)
+    subst (λ (es : List ViewEntry). Moves c.args.pool.now c.hold_again-text.new.self (entry_holders (kept_entries ts)) (entry_holders es))
+    (sym same)
     (pushed_moves c.args.pool.now c.hold_again-text.new.self (kept_entries ts) d c.in-Text.text c.hold_again-text.ensures.moves)

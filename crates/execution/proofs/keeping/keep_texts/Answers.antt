@@ -8,4 +8,5 @@ room : (now before held few most limit : ℕ) → now + 0 ≡ before + held → 
 room now before held few most limit e a b h = omega arith
 
 pub keep_one-requires-clause-room : goal.keep_one-requires-clause-room
-keep_one-requires-clause-room c = λ k. room _ _ _ _ _ _ (c.loop-left.invariant.moves.counts k) (holders-few (kept_entries c.loop-left.kept.items) k) (rw length-map (first_of (omega arith, search rules))) (c.requires.room k)
+keep_one-requires-clause-room c = λ k. room _ _ _ _ _ _ (c.loop-left.invariant.moves.counts k)
+    (holders-few (kept_entries c.loop-left.kept.items) k) (rw length-map (first_of (omega arith, search rules))) (c.requires.room k)

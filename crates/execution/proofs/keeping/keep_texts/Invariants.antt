@@ -9,7 +9,8 @@ use Rattle.execution.proofs.keeping.keep_texts.Given as goal
 
 abbrev pub invariant-loop-left : goal.invariant-loop-left
 invariant-loop-left l = record {
-  kept : (p : Slots) → blobs_in p (kept_entries l.kept.items) ++ kept_along (texts_of p l.view) l.left ≡ kept_along (texts_of p l.view) l.digests;
+  kept : (p : Slots) → blobs_in p (kept_entries l.kept.items) ++ kept_along (texts_of p l.view) l.left
+      ≡ kept_along (texts_of p l.view) l.digests;
   moves : Moves l.fn.pool l.pool no_holders (entry_holders (kept_entries l.kept.items));
   space : vec_len l.kept + length l.left ≤ vec_capacity l.kept;
 }

@@ -24,6 +24,9 @@ returns-clause-job c =
     let once : c.deref.result.now ≡ distinct (met d ready) =
     c.deref.ensures.value ∙ c.in_ok-once.ensures ∙ ap distinct c.requires.met in
     let kept : blobs_in q es ≡ kept_along (texts_of p view) c.deref.result.now =
-    kept_same p q view (entry_holders es) es c.deref.result.now c.requires.held c.in_ok-texts.ensures.moves (c.in_ok-texts.ensures.kept q) in
-    let job_with : TaskValue → JobValue = λ t. record { action = d; timeout = ready.action.timeout; is_stored = ready.action.is_stored; task = t } in
-    ap job_with (ap (task_read d) (kept ∙ ap (kept_along (texts_of p view)) once) ∙ sym (task_again (seen_in p view) d ready c.requires.prepared))
+    kept_same p q view (entry_holders es) es c.deref.result.now c.requires.held c.in_ok-texts.ensures.moves
+    (c.in_ok-texts.ensures.kept q) in
+    let job_with : TaskValue → JobValue = λ t. record
+    { action = d; timeout = ready.action.timeout; is_stored = ready.action.is_stored; task = t } in
+    ap job_with (ap (task_read d) (kept ∙ ap (kept_along (texts_of p view)) once)
+    ∙ sym (task_again (seen_in p view) d ready c.requires.prepared))

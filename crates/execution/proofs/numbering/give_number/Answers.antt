@@ -8,4 +8,5 @@ returns-then-contains_key c = λ d.
 
 pub returns : goal.returns
 returns c = λ d.
-    number_put c.args.numbers.now.entries c.insert.new.self.entries c.args.digest d c.args.number (sym c.contains_key.ensures ∙ c.if-contains_key.false) (c.in_ok-insert.ensures.updates.0 d)
+    number_put c.args.numbers.now.entries c.insert.new.self.entries c.args.digest d c.args.number
+    (sym c.contains_key.ensures ∙ c.if-contains_key.false) (c.in_ok-insert.ensures.updates.0 d)

@@ -11,7 +11,8 @@ use Rattle.execution.proofs.numbering.text_numbers.Goals as goal
 pub texts-init : goal.texts-init
 texts-init c = record {
   found = λ d.
-      ap (λ (es : List (Digest × ℕ)). unwrap_or (lookup (same_digest d) es) (0 + digest_number (kept_digests c.args.texts.now) d)) c.in_ok-numbers.ensures.empty
+      ap (λ (es : List (Digest × ℕ)). unwrap_or (lookup (same_digest d) es) (0 + digest_number (kept_digests c.args.texts.now) d))
+      c.in_ok-numbers.ensures.empty
       ∙ omega arith;
   counted = omega arith;
 }

@@ -7,7 +7,8 @@ use Rattle.execution.proofs.numbering.text_numbers.Given as goal
 
 abbrev pub invariant-texts : goal.invariant-texts
 invariant-texts l = record {
-  found : (d : Digest) → unwrap_or (lookup (same_digest d) l.numbers.entries) (l.number + digest_number (kept_digests l.left) d) ≡ digest_number (kept_digests l.texts) d;
+  found : (d : Digest) → unwrap_or (lookup (same_digest d) l.numbers.entries) (l.number + digest_number (kept_digests l.left) d)
+      ≡ digest_number (kept_digests l.texts) d;
   counted : l.number + length l.left ≡ length l.texts;
 }
 

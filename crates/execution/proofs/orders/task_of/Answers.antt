@@ -12,9 +12,11 @@ pub returns-in_err-job : goal.returns-in_err-job
 returns-in_err-job c = λ p.
     let none : running_job c.args.number c.args.queue.now ≡ None = sym c.running_job.ensures ∙ ap option_copied c.in_err-job.was in
     ap (option_map (λ (task : Bor Task). task_in p task.now)) c.from_residual.ensures
-    ∙ sym (ap (option_map (λ (job : JobValue). job.task)) (shown-running p c.args.number c.args.queue.now ∙ ap (option_map (job_in p)) none))
+    ∙ sym (ap (option_map (λ (job : JobValue). job.task))
+    (shown-running p c.args.number c.args.queue.now ∙ ap (option_map (job_in p)) none))
 
 pub returns : goal.returns
 returns c = λ p.
-    let some : running_job c.args.number c.args.queue.now ≡ Some c.in_ok-job.job.now = sym c.running_job.ensures ∙ ap option_copied c.in_ok-job.was in
+    let some : running_job c.args.number c.args.queue.now ≡ Some c.in_ok-job.job.now =
+    sym c.running_job.ensures ∙ ap option_copied c.in_ok-job.was in
     sym (ap (option_map (λ (job : JobValue). job.task)) (shown-running p c.args.number c.args.queue.now ∙ ap (option_map (job_in p)) some))

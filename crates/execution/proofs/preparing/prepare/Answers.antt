@@ -18,6 +18,9 @@ returns-in-Err c =
     let command : Option (List ℕ) = option_map items_of c.in_ok-command.command in
     let meaning : Nodes = walk (texts_of c.args.pool.now c.args.view.now) a.root in
     let there : c.is_some.result ≡ is_some command = c.is_some.ensures ∙ is_some-map items_of c.in_ok-command.command in
-    let faulty : (value : TreeFaultValue) → IsFault c.in-Err.fault value → FailsWith c.walk_fault.result (walk_fault a.command (is_some command) value) =
-    λ value is. subst (λ (b : Bool). FailsWith c.walk_fault.result (walk_fault a.command b value)) there (c.walk_fault.ensures.fault value is) in
-    rw (c.in_ok-action.ensures, c.in_ok-command.ensures) (walk-fails c.in-Err.fault meaning a command c.walk_fault.result c.in-Err.ensures faulty c.walk_fault.ensures.memory)
+    let faulty : (value : TreeFaultValue) → IsFault c.in-Err.fault value →
+    FailsWith c.walk_fault.result (walk_fault a.command (is_some command) value) =
+    λ value is. subst (λ (b : Bool). FailsWith c.walk_fault.result (walk_fault a.command b value)) there
+    (c.walk_fault.ensures.fault value is) in
+    rw (c.in_ok-action.ensures, c.in_ok-command.ensures)
+    (walk-fails c.in-Err.fault meaning a command c.walk_fault.result c.in-Err.ensures faulty c.walk_fault.ensures.memory)

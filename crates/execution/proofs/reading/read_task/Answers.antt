@@ -12,6 +12,9 @@ returns c =
     let es : List ViewEntry = kept_entries c.args.task.now.texts.items in
     let same : c.new-texts.result ≡ es = c.new-texts.ensures ∙ ap kept_entries c.deref-2.ensures.value in
     record {
-      says = task_is c.args.pool.now c.new-texts.result es c.args.task.now.action (option_map action_taken_shown c.in_ok-action.action) c.in_ok-command.command.items (nodes_shown c.in_ok-plan.plan.nodes.items) same c.in_ok-action.ensures c.in_ok-command.ensures c.in_ok-plan.ensures;
-      numbers = subst (λ (ts : List KeptText). AreNumbers (kept_digests ts) c.in_ok-numbers.numbers.entries) c.deref.ensures.value c.in_ok-numbers.ensures;
+      says = task_is c.args.pool.now c.new-texts.result es c.args.task.now.action
+          (option_map action_taken_shown c.in_ok-action.action) c.in_ok-command.command.items
+          (nodes_shown c.in_ok-plan.plan.nodes.items) same c.in_ok-action.ensures c.in_ok-command.ensures c.in_ok-plan.ensures;
+      numbers = subst (λ (ts : List KeptText). AreNumbers (kept_digests ts) c.in_ok-numbers.numbers.entries) c.deref.ensures.value
+          c.in_ok-numbers.ensures;
     }

@@ -9,7 +9,9 @@ use Rattle.execution.proofs.steps.add_starts.Goals as goal
 
 pub returns-in_default : goal.returns-in_default
 returns-in_default c = λ p.
-    starts_done p c.args.moment c.args.most c.loop-place.place c.args.queue.now.waiting (steps_shown c.loop-place.steps.items) (steps_shown c.args.steps.now.items ++ starts_of c.args.most c.args.moment (map (waiting_in p) c.args.queue.now.waiting)) c.in_default.ensures (c.loop-place.invariant.steps p)
+    starts_done p c.args.moment c.args.most c.loop-place.place c.args.queue.now.waiting (steps_shown c.loop-place.steps.items)
+    (steps_shown c.args.steps.now.items ++ starts_of c.args.most c.args.moment (map (waiting_in p) c.args.queue.now.waiting))
+    c.in_default.ensures (c.loop-place.invariant.steps p)
 
 pub loop-place-preserved : goal.loop-place-preserved
 loop-place-preserved c =
@@ -17,6 +19,10 @@ loop-place-preserved c =
     let s : Step = c.in_ok-step.step in
     let pushed : c.push.new.self.items ≡ old ++ s ∷ [] = search rules in
     record {
-      steps = λ p. starts_more p c.args.moment c.args.most c.loop-place.place c.args.queue.now.waiting c.in-Some.waiting.now (steps_shown old) (steps_shown c.push.new.self.items) (steps_shown c.args.steps.now.items ++ starts_of c.args.most c.args.moment (map (waiting_in p) c.args.queue.now.waiting)) (step_shown s) c.in-Some.ensures c.loop-place-test.true (c.in_ok-step.ensures p) (ap (map step_shown) pushed ∙ map-append step_shown old (s ∷ [])) (c.loop-place.invariant.steps p);
+      steps = λ p. starts_more p c.args.moment c.args.most c.loop-place.place c.args.queue.now.waiting c.in-Some.waiting.now
+          (steps_shown old) (steps_shown c.push.new.self.items)
+          (steps_shown c.args.steps.now.items ++ starts_of c.args.most c.args.moment (map (waiting_in p) c.args.queue.now.waiting))
+          (step_shown s) c.in-Some.ensures c.loop-place-test.true (c.in_ok-step.ensures p)
+          (ap (map step_shown) pushed ∙ map-append step_shown old (s ∷ [])) (c.loop-place.invariant.steps p);
       few = let less = c.loop-place-test.true in omega (arith, less);
     }

@@ -11,4 +11,5 @@ pub returns : goal.returns
 returns c = λ p.
     let operation : List ℕ = c.in_ok-operation.operation.value.items in
     let pushed : steps_shown c.push.new.self.items ≡ ends c.args.number operation ∷ [] = search rules in
-    pushed ∙ ended_some p c.args.number (end_shown c.args.end) c.args.queue.now c.in-Some.job.now operation c.in-Some.ensures (ap (λ (v : Vec ℕ Global). v.items) c.in_ok-operation.ensures.ok ∙ c.in_ok-text.ensures)
+    pushed ∙ ended_some p c.args.number (end_shown c.args.end) c.args.queue.now c.in-Some.job.now operation c.in-Some.ensures
+    (ap (λ (v : Vec ℕ Global). v.items) c.in_ok-operation.ensures.ok ∙ c.in_ok-text.ensures)

@@ -6,7 +6,8 @@ use Rattle.execution.specs.Taking.{steps_shown}
 use Rattle.execution.proofs.steps.steps_due.Given as goal
 
 abbrev pub invariant-loop-left : goal.invariant-loop-left
-invariant-loop-left l = (p : Slots) → steps_shown l.steps.items ++ timings_out l.moment (map (running_in p) l.left) ≡ timings_out l.moment (map (running_in p) l.running)
+invariant-loop-left l = (p : Slots) → steps_shown l.steps.items ++ timings_out l.moment (map (running_in p) l.left)
+    ≡ timings_out l.moment (map (running_in p) l.running)
 
 abbrev pub decreases-loop-left : goal.decreases-loop-left
 decreases-loop-left l = length l.left

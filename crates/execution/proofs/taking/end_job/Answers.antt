@@ -19,8 +19,10 @@ release_texts-requires c =
     let operation : List ℕ = c.args.operation.value.items in
     let jobs : Jobs Job = c.args.queue.now in
     let job : Job = c.unwrap-job.result in
-    let found : running_job n jobs ≡ Some job = subst (λ (r : Result Job JobError). IfOk r (λ (j : Job). running_job n jobs ≡ Some j)) c.unwrap-job.ensures c.end.ensures.job in
-    subst (λ (ts : List KeptText). (k : ℕ) → entry_holders (kept_entries ts) k ≤ count_at p k) (sym c.deref.ensures.value) (job_held p n operation job jobs found c.requires.held)
+    let found : running_job n jobs ≡ Some job = subst
+    (λ (r : Result Job JobError). IfOk r (λ (j : Job). running_job n jobs ≡ Some j)) c.unwrap-job.ensures c.end.ensures.job in
+    subst (λ (ts : List KeptText). (k : ℕ) → entry_holders (kept_entries ts) k ≤ count_at p k) (sym c.deref.ensures.value)
+    (job_held p n operation job jobs found c.requires.held)
 
 pub returns-clause-ended : goal.returns-clause-ended
 returns-clause-ended c =
@@ -29,10 +31,15 @@ returns-clause-ended c =
     let operation : List ℕ = c.args.operation.value.items in
     let jobs : Jobs Job = c.args.queue.now in
     let job : Job = c.unwrap-job.result in
-    let found : running_job n jobs ≡ Some job = subst (λ (r : Result Job JobError). IfOk r (λ (j : Job). running_job n jobs ≡ Some j)) c.unwrap-job.ensures c.end.ensures.job in
+    let found : running_job n jobs ≡ Some job = subst
+    (λ (r : Result Job JobError). IfOk r (λ (j : Job). running_job n jobs ≡ Some j)) c.unwrap-job.ensures c.end.ensures.job in
     let q : Slots = c.release_texts.new.pool in
-    let after : c.end.new.self ≡ jobs_after_end n operation jobs = subst (λ (r : Result Job JobError). OnOk r (c.end.new.self ≡ jobs_after_end n operation jobs)) c.unwrap-job.ensures c.end.ensures.ok in
-    let moved : Moves p q (job_holders job) no_holders = subst (λ (ts : List KeptText). Moves p q (entry_holders (kept_entries ts)) no_holders) c.deref.ensures.value c.release_texts.ensures in
+    let after : c.end.new.self ≡ jobs_after_end n operation jobs =
+    subst (λ (r : Result Job JobError). OnOk r (c.end.new.self ≡ jobs_after_end n operation jobs)) c.unwrap-job.ensures
+    c.end.ensures.ok in
+    let moved : Moves p q (job_holders job) no_holders =
+    subst (λ (ts : List KeptText). Moves p q (entry_holders (kept_entries ts)) no_holders) c.deref.ensures.value
+    c.release_texts.ensures in
     rw after (ended_shown p q n operation job jobs found c.requires.held moved)
 
 pub returns-clause-moves : goal.returns-clause-moves
@@ -42,8 +49,13 @@ returns-clause-moves c =
     let operation : List ℕ = c.args.operation.value.items in
     let jobs : Jobs Job = c.args.queue.now in
     let job : Job = c.unwrap-job.result in
-    let found : running_job n jobs ≡ Some job = subst (λ (r : Result Job JobError). IfOk r (λ (j : Job). running_job n jobs ≡ Some j)) c.unwrap-job.ensures c.end.ensures.job in
+    let found : running_job n jobs ≡ Some job = subst
+    (λ (r : Result Job JobError). IfOk r (λ (j : Job). running_job n jobs ≡ Some j)) c.unwrap-job.ensures c.end.ensures.job in
     let q : Slots = c.release_texts.new.pool in
-    let after : c.end.new.self ≡ jobs_after_end n operation jobs = subst (λ (r : Result Job JobError). OnOk r (c.end.new.self ≡ jobs_after_end n operation jobs)) c.unwrap-job.ensures c.end.ensures.ok in
-    let moved : Moves p q (job_holders job) no_holders = subst (λ (ts : List KeptText). Moves p q (entry_holders (kept_entries ts)) no_holders) c.deref.ensures.value c.release_texts.ensures in
+    let after : c.end.new.self ≡ jobs_after_end n operation jobs =
+    subst (λ (r : Result Job JobError). OnOk r (c.end.new.self ≡ jobs_after_end n operation jobs)) c.unwrap-job.ensures
+    c.end.ensures.ok in
+    let moved : Moves p q (job_holders job) no_holders =
+    subst (λ (ts : List KeptText). Moves p q (entry_holders (kept_entries ts)) no_holders) c.deref.ensures.value
+    c.release_texts.ensures in
     rw after (end_moves p q n operation job jobs found moved)

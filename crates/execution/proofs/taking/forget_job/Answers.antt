@@ -17,7 +17,8 @@ release_texts-requires c =
     let n : ℕ = c.args.number in
     let jobs : Jobs Job = c.args.queue.now in
     let found : running_job n jobs ≡ Some c.in-Some.job = sym c.in-Some.ensures.job in
-    subst (λ (ts : List KeptText). (k : ℕ) → entry_holders (kept_entries ts) k ≤ count_at p k) (sym c.deref.ensures.value) (job_held p n [] c.in-Some.job jobs found c.requires.held)
+    subst (λ (ts : List KeptText). (k : ℕ) → entry_holders (kept_entries ts) k ≤ count_at p k) (sym c.deref.ensures.value)
+    (job_held p n [] c.in-Some.job jobs found c.requires.held)
 
 pub returns-in-Some-clause-forgotten : goal.returns-in-Some-clause-forgotten
 returns-in-Some-clause-forgotten c =
@@ -27,7 +28,9 @@ returns-in-Some-clause-forgotten c =
     let job : Job = c.in-Some.job in
     let found : running_job n jobs ≡ Some job = sym c.in-Some.ensures.job in
     let q : Slots = c.release_texts.new.pool in
-    let moved : Moves p q (job_holders job) no_holders = subst (λ (ts : List KeptText). Moves p q (entry_holders (kept_entries ts)) no_holders) c.deref.ensures.value c.release_texts.ensures in
+    let moved : Moves p q (job_holders job) no_holders =
+    subst (λ (ts : List KeptText). Moves p q (entry_holders (kept_entries ts)) no_holders) c.deref.ensures.value
+    c.release_texts.ensures in
     rw c.in-Some.ensures.gone (forgotten_shown p q n job jobs found c.requires.held moved)
 
 pub returns-in-Some-clause-moves : goal.returns-in-Some-clause-moves
@@ -38,7 +41,9 @@ returns-in-Some-clause-moves c =
     let job : Job = c.in-Some.job in
     let found : running_job n jobs ≡ Some job = sym c.in-Some.ensures.job in
     let q : Slots = c.release_texts.new.pool in
-    let moved : Moves p q (job_holders job) no_holders = subst (λ (ts : List KeptText). Moves p q (entry_holders (kept_entries ts)) no_holders) c.deref.ensures.value c.release_texts.ensures in
+    let moved : Moves p q (job_holders job) no_holders =
+    subst (λ (ts : List KeptText). Moves p q (entry_holders (kept_entries ts)) no_holders) c.deref.ensures.value
+    c.release_texts.ensures in
     rw c.in-Some.ensures.gone (end_moves p q n [] job jobs found moved)
 
 pub returns-in_default-clause-forgotten : goal.returns-in_default-clause-forgotten

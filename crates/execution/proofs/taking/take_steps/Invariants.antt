@@ -10,7 +10,8 @@ use Rattle.execution.proofs.taking.take_steps.Given as goal
 abbrev pub invariant-loop-first : goal.invariant-loop-first
 invariant-loop-first l = record {
   can : CanTake (steps_shown l.left.items) (jobs_in l.pool l.queue);
-  leads : jobs_after_steps (steps_shown l.left.items) (jobs_in l.pool l.queue) ≡ jobs_after_steps (steps_shown l.fn.steps.items) (jobs_in l.fn.pool l.fn.queue);
+  leads : jobs_after_steps (steps_shown l.left.items) (jobs_in l.pool l.queue)
+      ≡ jobs_after_steps (steps_shown l.fn.steps.items) (jobs_in l.fn.pool l.fn.queue);
   held : (k : ℕ) → jobs_holders l.queue k ≤ count_at l.pool k;
   moves : Moves l.fn.pool l.pool (jobs_holders l.fn.queue) (jobs_holders l.queue);
 }

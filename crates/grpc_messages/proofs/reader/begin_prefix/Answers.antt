@@ -5,5 +5,6 @@ use Rattle.grpc_messages.proofs.reader.begin_prefix.Goals as goal
 
 pub returns-else-given-len-clause-rest : goal.returns-else-given-len-clause-rest
 returns-else-given-len-clause-rest c =
-    let is : c.append_to_prefix.new.prefix.items ≡ take c.min-count.result (drop c.args.given.now c.args.behind.now.items) = grind (arith, common_steps) in
+    let is : c.append_to_prefix.new.prefix.items ≡ take c.min-count.result (drop c.args.given.now c.args.behind.now.items) =
+    grind (arith, common_steps) in
     prefix_begun c.append_to_prefix.new.prefix.items c.args.behind.now.items c.args.given.now c.min-count.result is

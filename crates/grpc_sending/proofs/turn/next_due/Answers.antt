@@ -7,7 +7,9 @@ use Rattle.grpc_sending.proofs.turn.next_due.Goals as goal
 
 pub returns-clause-below : goal.returns-clause-below
 returns-clause-below c =
-    let first : c.first_turn.result ≡ next_due c.args.queues.now (window_left c.args.streams.now.connection_window) c.args.streams.now.live = search rules in
+    let first : c.first_turn.result ≡ next_due c.args.queues.now
+    (window_left c.args.streams.now.connection_window) c.args.streams.now.live = search rules in
     let rise = subst (RiseTo c.args.streams.now.highest) c.live.ensures.list c.live.ensures.rise in
-    below_if c.first_turn.result c.args.streams.now.highest c.args.queues.now (window_left c.args.streams.now.connection_window) c.args.streams.now.live first
+    below_if c.first_turn.result c.args.streams.now.highest c.args.queues.now
+    (window_left c.args.streams.now.connection_window) c.args.streams.now.live first
     rise

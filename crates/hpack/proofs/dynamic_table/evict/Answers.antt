@@ -17,7 +17,8 @@ entries-preserved c =
     let total = total_dropped c.entries.entries.items c.pop_back.new.self.items c.in-Some.oldest c.in-Some.ensures.items in
     record {
       counted = omega arith;
-      same = longest_dropped c.entries.entries.items c.pop_back.new.self.items c.in-Some.oldest c.args.room c.in-Some.ensures.items (omega arith) ∙ c.entries.invariant.same;
+      same = longest_dropped c.entries.entries.items c.pop_back.new.self.items c.in-Some.oldest c.args.room c.in-Some.ensures.items
+          (omega arith) ∙ c.entries.invariant.same;
       capacity = c.pop_back.ensures.capacity ∙ c.entries.invariant.capacity;
       len = omega (arith, c.in-Some.ensures.cases);
     }

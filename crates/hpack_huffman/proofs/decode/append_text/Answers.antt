@@ -8,7 +8,8 @@ use Rattle.hpack_huffman.proofs.decode.append_text.Goals as goal
 pub loop-symbol-init : goal.loop-symbol-init
 unfolding text_of_octets
 loop-symbol-init c =
-    let whole : length (bits_left c.new-reader.result) ≡ 8 * length c.args.octets.now = ap length c.new-reader.ensures.left ∙ length-bits_of c.args.octets.now in
+    let whole : length (bits_left c.new-reader.result) ≡ 8 * length c.args.octets.now =
+    ap length c.new-reader.ensures.left ∙ length-bits_of c.args.octets.now in
     record {
       read = search rules;
       front = take_all (length c.args.text.now.items) c.args.text.now.items (omega arith);

@@ -8,14 +8,17 @@ use Rattle.http2_streams.specs.Step.{is_ended_by, with_end}
 use Rattle.http2_streams.proofs.live.end_by.Goals as goal
 
 -- what a closure keeps and changes that stays as it is
-retained : {S X : Type 0} (R : S → X → Bool → S → X → Type 0) (keep : X → Bool) (change : X → X) (s : S) → ((x : X) (b : Bool) (t : S) (y : X) → R s x b t y → (b ≡ keep x) × (y ≡ change x) × (t ≡ s)) → (xs ys : List X) → RetainsInTurn R s xs ys → ys ≡ retain_mut keep change xs
+retained : {S X : Type 0} (R : S → X → Bool → S → X → Type 0) (keep : X → Bool) (change : X → X) (s : S) →
+    ((x : X) (b : Bool) (t : S) (y : X) → R s x b t y → (b ≡ keep x) × (y ≡ change x) × (t ≡ s)) → (xs ys : List X) →
+    RetainsInTurn R s xs ys → ys ≡ retain_mut keep change xs
 retained R keep change s f [] ys h = h
 retained R keep change s f (x ∷ xs) ys h =
     let said = f x h.0 h.1 h.2 h.3 in
     let rest = retained R keep change s f xs h.4 (subst (λ t. RetainsInTurn R t xs h.4) said.2 h.5) in
     h.6 ∙ (λ i. cond (said.0 i) (said.1 i ∷ rest i) (rest i))
 
-kept_then : {X : Type 0} (change : X → X) (x : X) (ys zs : List X) → ys ≡ map change zs → (b : Bool) → cond b (change x ∷ ys) ys ≡ map change (cond b (x ∷ zs) zs)
+kept_then : {X : Type 0} (change : X → X) (x : X) (ys zs : List X) → ys ≡ map change zs → (b : Bool) →
+    cond b (change x ∷ ys) ys ≡ map change (cond b (x ∷ zs) zs)
 kept_then change x ys zs same true = ap (λ l. change x ∷ l) same
 kept_then change x ys zs same false = same
 

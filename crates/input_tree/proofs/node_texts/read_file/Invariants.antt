@@ -5,7 +5,8 @@ use Rattle.input_tree.specs.NodeTexts.{with_left, file_after, no_file}
 use Rattle.input_tree.proofs.node_texts.read_file.Given as goal
 
 abbrev pub invariant-records : goal.invariant-records
-invariant-records l = with_left file_after (file_node_shown l.node) (items_left record_at l.reader) ≡ with_left file_after no_file (records_of l.text)
+invariant-records l = with_left file_after (file_node_shown l.node) (items_left record_at l.reader)
+    ≡ with_left file_after no_file (records_of l.text)
 
 abbrev pub decreases-records : goal.decreases-records
 decreases-records l = count_left l.reader

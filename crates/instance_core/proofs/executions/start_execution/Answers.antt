@@ -15,8 +15,10 @@ returns-in_err-answer c =
     let from = err_from_is_err_and c.from_residual-in_err-answer.result c.from_residual-in_err-answer.ensures.1 in
     record {
       carried = rw (from.1, from.2)
-          (carries_failed settings c.args.parent.now c.args.message.now c.args.pool.now c.execute.new.pool old c.execute.new.view c.execute.new.results c.execute.new.executions asked _
-          c.requires.kept c.requires.slots (own_held (contents_holders old) (holders c.args.parent.now) c.args.pool.now c.requires.beside) is
+          (carries_failed settings c.args.parent.now c.args.message.now c.args.pool.now c.execute.new.pool old c.execute.new.view
+          c.execute.new.results c.execute.new.executions asked _
+          c.requires.kept c.requires.slots (own_held (contents_holders old) (holders c.args.parent.now) c.args.pool.now c.requires.beside)
+          is
           c.in_err-answer.ensures.answer c.in_err-answer.ensures.err c.in_err-answer.ensures.still c.execute.ensures.slots);
     }
 
@@ -28,7 +30,9 @@ returns c =
     let is = rw c.deref.ensures at c.in_ok-asked.ensures in
     record {
       carried = rw c.execute_answer.ensures
-          (carries_executed settings c.args.parent.now c.args.message.now c.args.pool.now c.execute.new.pool old c.execute.new.view c.execute.new.results c.execute.new.executions asked c.in_ok-answer.answer
+          (carries_executed settings c.args.parent.now c.args.message.now c.args.pool.now c.execute.new.pool old c.execute.new.view
+          c.execute.new.results c.execute.new.executions asked c.in_ok-answer.answer
           c.requires.kept c.requires.slots is
-          c.in_ok-answer.ensures.answer c.in_ok-answer.ensures.after c.execute.ensures.moves c.execute.ensures.slots c.execute.ensures.holders c.execute.ensures.limit);
+          c.in_ok-answer.ensures.answer c.in_ok-answer.ensures.after c.execute.ensures.moves c.execute.ensures.slots
+          c.execute.ensures.holders c.execute.ensures.limit);
     }

@@ -3,7 +3,8 @@ use Rattle.instance_core.proofs.WatchTold.{told_there, starts_rest, late_rest, e
 use Rattle.instance_core.proofs.laws.starts_are_told_on_one_connection.Goals as goal
 
 pub returns-clause-kept : goal.returns-clause-kept
-returns-clause-kept c = λ k s t event on w made during. (made_watched k s t event on made (record { numbers = open_given s.jobs w.jobs; during = during })).during
+returns-clause-kept c = λ k s t event on w made during.
+    (made_watched k s t event on made (record { numbers = open_given s.jobs w.jobs; during = during })).during
 
 pub returns-clause-told : goal.returns-clause-told
 returns-clause-told c = λ k s w during. told_there k s during

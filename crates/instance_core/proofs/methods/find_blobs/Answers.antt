@@ -19,6 +19,7 @@ returns c = record {
       let used = rw c.deref.ensures at c.find_missing-outcome.ensures.used p settings.quota in
       rw c.one_message.ensures
       (carries_uses FindMissingBlobs settings (visible_in p c.args.parent.now) c.args.message.now p old view c.find_missing-outcome.result
-      (digests_asked own c.args.message.now) (λ digests. missing_reply (missing_digests seen digests)) (λ calls. refl) (λ calls. refl) kept reply used c.find_missing-outcome.ensures.err
+      (digests_asked own c.args.message.now) (λ digests. missing_reply (missing_digests seen digests)) (λ calls. refl)
+      (λ calls. refl) kept reply used c.find_missing-outcome.ensures.err
       c.find_missing-outcome.ensures.holders c.find_missing-outcome.ensures.limit (c.find_missing-outcome.ensures.kept p settings.quota));
 }

@@ -19,6 +19,7 @@ returns c = record {
       let used = rw c.deref.ensures at c.batch_read-outcome.ensures.used p settings.quota in
       rw c.one_message.ensures
       (carries_uses BatchReadBlobs settings (visible_in p c.args.parent.now) c.args.message.now p old view c.batch_read-outcome.result
-      (digests_to_read own c.args.message.now) (λ digests. read_reply seen digests) (λ calls. refl) (λ calls. refl) c.requires.kept reply used c.batch_read-outcome.ensures.err
+      (digests_to_read own c.args.message.now) (λ digests. read_reply seen digests) (λ calls. refl)
+      (λ calls. refl) c.requires.kept reply used c.batch_read-outcome.ensures.err
       c.batch_read-outcome.ensures.holders c.batch_read-outcome.ensures.limit (c.batch_read-outcome.ensures.kept p settings.quota));
 }

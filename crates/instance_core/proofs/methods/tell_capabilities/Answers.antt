@@ -14,5 +14,6 @@ returns c = record {
       let old = c.args.contents.now in
       let reply = rw c.deref.ensures at c.get_capabilities-outcome.ensures in
       rw c.one_message.ensures
-      (carries_nothing GetCapabilities settings parent c.args.message.now p old c.get_capabilities-outcome.result (get_capabilities_reply own settings.slots c.args.message.now) (λ calls. refl) (λ calls. refl) kept reply);
+      (carries_nothing GetCapabilities settings parent c.args.message.now p old c.get_capabilities-outcome.result
+      (get_capabilities_reply own settings.slots c.args.message.now) (λ calls. refl) (λ calls. refl) kept reply);
 }

@@ -15,5 +15,6 @@ returns c = record {
       let old = c.args.contents.now in
       let reply = rw c.deref.ensures at c.query-outcome.ensures p in
       rw c.one_message.ensures
-      (carries_nothing QueryWriteStatus settings parent c.args.message.now p old c.query-outcome.result (query_reply own (visible_in p old.view) old.uploads c.args.message.now) (λ calls. refl) (λ calls. refl) kept reply);
+      (carries_nothing QueryWriteStatus settings parent c.args.message.now p old c.query-outcome.result
+      (query_reply own (visible_in p old.view) old.uploads c.args.message.now) (λ calls. refl) (λ calls. refl) kept reply);
 }

@@ -21,6 +21,8 @@ returns c = record {
       let memory = rw c.deref.ensures at outcome.ensures.memory in
       rw c.one_message.ensures
       (carries_stores settings parent c.args.message.now p q old view outcome.result c.requires.kept reply
-      (stores_answered outcome.result (blobs_sent own c.args.message.now) (λ sent. update_reply sent.function settings.quota sent.requests) old.view.limit (limits_value settings.limits).blobs settings.quota p q old.view view c.requires.kept.limit reply stored outcome.ensures.refused)
+      (stores_answered outcome.result (blobs_sent own c.args.message.now)
+      (λ sent. update_reply sent.function settings.quota sent.requests) old.view.limit
+      (limits_value settings.limits).blobs settings.quota p q old.view view c.requires.kept.limit reply stored outcome.ensures.refused)
       memory outcome.ensures.moves outcome.ensures.limit outcome.ensures.kept);
 }

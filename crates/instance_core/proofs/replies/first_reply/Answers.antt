@@ -6,10 +6,13 @@ use Rattle.instance_core.proofs.replies.first_reply.Goals as goal
 
 pub returns-clause-replies : goal.returns-clause-replies
 returns-clause-replies c = λ p.
-    let items : c.push-2.new.self.items ≡ Begins ∷ Says c.args.operation ∷ [] = rw (c.in_ok-push-2.ensures.items, c.in_ok-push.ensures.items, c.new-items.ensures.items) refl in
-    items_given p c.reply_of.result c.args.call c.push-2.new.self.items (begins ∷ says c.args.operation.items ∷ []) (rw items refl) (c.reply_of.ensures.replies p)
+    let items : c.push-2.new.self.items ≡ Begins ∷ Says c.args.operation ∷ [] =
+    rw (c.in_ok-push-2.ensures.items, c.in_ok-push.ensures.items, c.new-items.ensures.items) refl in
+    items_given p c.reply_of.result c.args.call c.push-2.new.self.items (begins ∷ says c.args.operation.items ∷ []) (rw items refl)
+    (c.reply_of.ensures.replies p)
 
 pub returns-clause-given : goal.returns-clause-given
 returns-clause-given c = λ k.
-    let items : c.push-2.new.self.items ≡ Begins ∷ Says c.args.operation ∷ [] = rw (c.in_ok-push-2.ensures.items, c.in_ok-push.ensures.items, c.new-items.ensures.items) refl in
+    let items : c.push-2.new.self.items ≡ Begins ∷ Says c.args.operation ∷ [] =
+    rw (c.in_ok-push-2.ensures.items, c.in_ok-push.ensures.items, c.new-items.ensures.items) refl in
     nothing_held c.reply_of.result c.push-2.new.self.items k (rw items refl) (c.reply_of.ensures.given k)

@@ -29,7 +29,14 @@ messages-preserved c =
     let steps : into_iter_items at.message-iterator ≡ x ∷ into_iter_items c.next.new.self = c.in-Some.ensures.steps.0 in
     let pushed = c.in_ok-push-2.ensures.items in (
       append_assoc at.yielded (x ∷ []) _ ∙ rw (← steps) at.invariant.0,
-      (λ p. rw (pushed, map-append (item_shown p) at.items.items (Says x ∷ []), at.invariant.1 p, map-append bytes_of at.yielded (x ∷ []), map-append says (map bytes_of at.yielded) (x.items ∷ [])) refl),
+      (λ p. rw (
+        pushed,
+        map-append (item_shown p) at.items.items (Says x ∷ []),
+        at.invariant.1 p,
+        map-append bytes_of at.yielded
+            (x ∷ []),
+        map-append says (map bytes_of at.yielded) (x.items ∷ []),
+      ) refl),
       (λ k. rw pushed (said_holds at.items.items x k ∙ at.invariant.2 k)),
       let was = at.invariant.3 in
           let gone = c.in-Some.ensures.steps.1 in

@@ -28,11 +28,16 @@ returns c = record {
       let reply = rw c.deref.ensures at outcome.ensures.reply in
       let left = rw c.deref.ensures at outcome.ensures.results in
       let used = rw c.deref.ensures at outcome.ensures.used p settings.quota in
-      let limited = subst (λ (n : ℕ). IfAnswered outcome.result (visible_in p view ≡ visible_after_changes n settings.quota cs (visible_in p old.view))) c.requires.kept.limit used in
+      let limited = subst (λ (n : ℕ). IfAnswered outcome.result
+      (visible_in p view ≡ visible_after_changes n settings.quota cs (visible_in p old.view))) c.requires.kept.limit used in
       let within = outcome.ensures.kept p settings.quota c.requires.kept.kept in
-      let few = settled_results (limits_value settings.limits) outcome.result old.results kept results left (both_same outcome.result (results ≡ old.results) (view ≡ old.view) outcome.ensures.err) c.requires.kept.results (get_stays_within (limits_value settings.limits) own seen old.results message c.requires.kept.results) in
+      let few = settled_results (limits_value settings.limits) outcome.result old.results kept results left
+      (both_same outcome.result (results ≡ old.results) (view ≡ old.view) outcome.ensures.err) c.requires.kept.results
+      (get_stays_within (limits_value settings.limits) own seen old.results message c.requires.kept.results) in
       rw c.one_message.ensures
-      (carries_results GetActionResult settings (visible_in p c.args.parent.now) message p old view results outcome.result (get_action_result_reply own seen old.results message) kept cs
-      (λ calls. refl) (λ calls. refl) c.requires.kept reply limited left (seen_same outcome.result results old.results p old.view view outcome.ensures.err)
+      (carries_results GetActionResult settings (visible_in p c.args.parent.now) message p old view results outcome.result
+      (get_action_result_reply own seen old.results message) kept cs
+      (λ calls. refl) (λ calls. refl) c.requires.kept reply limited left
+      (seen_same outcome.result results old.results p old.view view outcome.ensures.err)
       outcome.ensures.holders outcome.ensures.limit within few);
 }

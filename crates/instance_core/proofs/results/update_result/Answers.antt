@@ -24,7 +24,10 @@ returns c = record {
       let stored = rw c.deref.ensures at outcome.ensures.results in
       let shown = visible_in p old.view in
       rw c.one_message.ensures
-      (carries_results UpdateActionResult settings parent message p old old.view results outcome.result (update_action_result_reply own message) left []
-      (λ calls. refl) (λ calls. refl) kept reply (on_answered outcome.result (shown ≡ shown) refl) stored (err_both outcome.result (results ≡ old.results) (shown ≡ shown) outcome.ensures.err refl)
-      (λ k. refl) refl kept.kept (settled_results (limits_value settings.limits) outcome.result old.results left results stored outcome.ensures.err kept.results (update_stays_within (limits_value settings.limits) own old.results message kept.results)));
+      (carries_results UpdateActionResult settings parent message p old old.view results outcome.result
+      (update_action_result_reply own message) left []
+      (λ calls. refl) (λ calls. refl) kept reply (on_answered outcome.result (shown ≡ shown) refl) stored
+      (err_both outcome.result (results ≡ old.results) (shown ≡ shown) outcome.ensures.err refl)
+      (λ k. refl) refl kept.kept (settled_results (limits_value settings.limits) outcome.result old.results left results stored
+      outcome.ensures.err kept.results (update_stays_within (limits_value settings.limits) own old.results message kept.results)));
 }

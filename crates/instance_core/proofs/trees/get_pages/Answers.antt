@@ -29,11 +29,17 @@ returns c = record {
       let used = rw c.deref.ensures at outcome.ensures.used p settings.quota in
       rw c.messages.ensures
       (carries_texts GetTree settings (visible_in p c.args.parent.now) c.args.message.now p p old view outcome.result Messages cs
-      (λ calls. answers_shaped pages_said Messages messages p outcome.result (get_tree_replies own seen c.args.message.now) (λ x. refl) replies)
+      (λ calls. answers_shaped pages_said Messages messages p outcome.result (get_tree_replies own seen c.args.message.now)
+      (λ x. refl) replies)
       (λ calls. refl)
-      (subst (λ (n : ℕ). IfAnswered outcome.result (visible_in p view ≡ visible_after_changes n settings.quota cs (visible_in p old.view))) c.requires.kept.limit used)
-      (if_no_memory outcome.result (view ≡ old.view) (MadeInPart (limits_value settings.limits).blobs settings.quota cs (visible_in p old.view) (visible_in p view))
-      (λ is. none_made (limits_value settings.limits).blobs settings.quota cs (visible_in p old.view) (visible_in p view) (ap (visible_in p) is)) outcome.ensures.err)
-      (still p old.view view (answer_holders (shaped Messages outcome.result)) outcome.ensures.holders (message_holds Messages (λ x k. refl) outcome.result))
-      (kept_within settings p old p view c.requires.kept outcome.ensures.limit (outcome.ensures.kept p settings.quota c.requires.kept.kept)));
+      (subst (λ (n : ℕ). IfAnswered outcome.result (visible_in p view ≡ visible_after_changes n settings.quota cs (visible_in p old.view)))
+      c.requires.kept.limit used)
+      (if_no_memory outcome.result (view ≡ old.view)
+      (MadeInPart (limits_value settings.limits).blobs settings.quota cs (visible_in p old.view) (visible_in p view))
+      (λ is. none_made (limits_value settings.limits).blobs settings.quota cs (visible_in p old.view) (visible_in p view)
+      (ap (visible_in p) is)) outcome.ensures.err)
+      (still p old.view view (answer_holders (shaped Messages outcome.result)) outcome.ensures.holders
+      (message_holds Messages (λ x k. refl) outcome.result))
+      (kept_within settings p old p view c.requires.kept outcome.ensures.limit
+      (outcome.ensures.kept p settings.quota c.requires.kept.kept)));
 }

@@ -19,8 +19,10 @@ returns-clause-replies c = λ p.
     let watches : is_watching t.number c.args.call.now.progress ≡ true = search rules in
     let hears-it : hears c.args.only c.args.id.now ≡ true = search rules in
     let pushed : c.push.new.self.items ≡ old ++ reply ∷ [] = search rules in
-    is_heard c.args.only t c.args.id.now c.args.call.now (map (reply_shown p) old) (map (reply_shown p) c.push.new.self.items) watches hears-it
-    (ap (map (reply_shown p)) pushed ∙ map-append (reply_shown p) old (reply ∷ []) ∙ ap (λ (r : ReplyValue). map (reply_shown p) old ++ r ∷ []) (c.in_ok-reply.ensures.reply p))
+    is_heard c.args.only t c.args.id.now c.args.call.now (map (reply_shown p) old)
+    (map (reply_shown p) c.push.new.self.items) watches hears-it
+    (ap (map (reply_shown p)) pushed ∙ map-append (reply_shown p) old (reply ∷ [])
+    ∙ ap (λ (r : ReplyValue). map (reply_shown p) old ++ r ∷ []) (c.in_ok-reply.ensures.reply p))
 
 pub returns-clause-given : goal.returns-clause-given
 returns-clause-given c = λ k.

@@ -18,7 +18,13 @@ loop-left-preserved c =
     let calls : Calls = c.args.calls.now in
     let front : steps_shown left ≡ step_shown x ∷ steps_shown rest = steps_front left x c.in-len1-up.len_at_least c.first-item.is in
     record {
-      replies = λ p. watchers_next c.args.only calls (step_shown x) (steps_shown left) (steps_shown rest) (map (reply_shown p) c.loop-left.replies.items) (map (reply_shown p) c.tell_watchers.new.replies.items) (replies_to c.args.only (replies_to_watchers calls (steps_shown c.args.steps.items))) front (c.in_ok-tell_watchers.ensures.replies p ∙ ap (λ (t : ToldValue). map (reply_shown p) c.loop-left.replies.items ++ replies_to c.args.only (replies_told calls t)) c.told.ensures) (c.loop-left.invariant.replies p);
+      replies = λ p. watchers_next c.args.only calls (step_shown x) (steps_shown left) (steps_shown rest)
+          (map (reply_shown p) c.loop-left.replies.items) (map (reply_shown p) c.tell_watchers.new.replies.items)
+          (replies_to c.args.only (replies_to_watchers calls (steps_shown c.args.steps.items))) front
+          (c.in_ok-tell_watchers.ensures.replies p ∙ ap
+          (λ (t : ToldValue). map (reply_shown p) c.loop-left.replies.items ++ replies_to c.args.only (replies_told calls t))
+          c.told.ensures) (c.loop-left.invariant.replies p);
       given = λ k. c.in_ok-tell_watchers.ensures.given k ∙ c.loop-left.invariant.given k;
-      orders = orders_next (step_shown x) (steps_shown left) (steps_shown rest) c.loop-left.orders.items c.add_order.new.orders.items (orders_by (steps_shown c.args.steps.items)) front c.in_ok-add_order.ensures c.loop-left.invariant.orders;
+      orders = orders_next (step_shown x) (steps_shown left) (steps_shown rest) c.loop-left.orders.items c.add_order.new.orders.items
+          (orders_by (steps_shown c.args.steps.items)) front c.in_ok-add_order.ensures c.loop-left.invariant.orders;
     }

@@ -10,7 +10,8 @@ use Rattle.instance_core.proofs.turns.make_ready.Given as goal
 
 abbrev pub invariant-loop-left : goal.invariant-loop-left
 invariant-loop-left l = record {
-  replies : (p : Slots) → map (reply_shown p) l.replies.items ++ replies_to l.only (replies_to_watchers l.calls (steps_shown l.left)) ≡ replies_to l.only (replies_to_watchers l.calls (steps_shown l.fn.steps.items));
+  replies : (p : Slots) → map (reply_shown p) l.replies.items ++ replies_to l.only (replies_to_watchers l.calls (steps_shown l.left))
+      ≡ replies_to l.only (replies_to_watchers l.calls (steps_shown l.fn.steps.items));
   given : (k : ℕ) → replies_holders l.replies.items k ≡ 0;
   orders : l.orders.items ++ orders_by (steps_shown l.left) ≡ orders_by (steps_shown l.fn.steps.items);
 }

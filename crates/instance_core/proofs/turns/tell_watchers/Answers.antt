@@ -13,9 +13,13 @@ pub loop-id-preserved : goal.loop-id-preserved
 loop-id-preserved c =
     let t : ToldValue = told_shown c.args.told.now in
     let calls : Calls = c.args.calls.now in
-    let within : c.loop-id.place < length calls = slice_get_within calls c.loop-id.place (c.in-Some.id.now, c.in-Some.call.now) (sym c.in-Some.ensures.there) in
+    let within : c.loop-id.place < length calls =
+    slice_get_within calls c.loop-id.place (c.in-Some.id.now, c.in-Some.call.now) (sym c.in-Some.ensures.there) in
     record {
-      replies = λ p. told_next c.args.only t calls c.loop-id.place (c.in-Some.id.now, c.in-Some.call.now) (map (reply_shown p) c.loop-id.replies.items) (map (reply_shown p) c.add_reply.new.replies.items) (map (reply_shown p) c.args.replies.now.items ++ replies_to c.args.only (replies_told calls t)) c.in-Some.ensures.there (c.in_ok-add_reply.ensures.replies p) (c.loop-id.invariant.replies p);
+      replies = λ p. told_next c.args.only t calls c.loop-id.place (c.in-Some.id.now, c.in-Some.call.now)
+          (map (reply_shown p) c.loop-id.replies.items) (map (reply_shown p) c.add_reply.new.replies.items)
+          (map (reply_shown p) c.args.replies.now.items ++ replies_to c.args.only (replies_told calls t)) c.in-Some.ensures.there
+          (c.in_ok-add_reply.ensures.replies p) (c.loop-id.invariant.replies p);
       given = λ k. c.in_ok-add_reply.ensures.given k ∙ c.loop-id.invariant.given k;
       within = omega (arith, within);
     }
@@ -24,4 +28,6 @@ pub returns-clause-replies : goal.returns-clause-replies
 returns-clause-replies c = λ p.
     let t : ToldValue = told_shown c.args.told.now in
     let calls : Calls = c.args.calls.now in
-    told_all c.args.only t calls c.loop-id.place (map (reply_shown p) c.loop-id.replies.items) (map (reply_shown p) c.args.replies.now.items ++ replies_to c.args.only (replies_told calls t)) c.in_default.ensures.there (c.loop-id.invariant.replies p)
+    told_all c.args.only t calls c.loop-id.place (map (reply_shown p) c.loop-id.replies.items)
+    (map (reply_shown p) c.args.replies.now.items ++ replies_to c.args.only (replies_told calls t)) c.in_default.ensures.there
+    (c.loop-id.invariant.replies p)

@@ -9,7 +9,8 @@ use Rattle.instance_core.proofs.turns.tell_watchers.Given as goal
 
 abbrev pub invariant-loop-id : goal.invariant-loop-id
 invariant-loop-id l = record {
-  replies : (p : Slots) → map (reply_shown p) l.replies.items ++ replies_to l.only (replies_told (drop l.place l.calls) (told_shown l.told)) ≡ map (reply_shown p) l.fn.replies.items ++ replies_to l.only (replies_told l.calls (told_shown l.told));
+  replies : (p : Slots) → map (reply_shown p) l.replies.items ++ replies_to l.only (replies_told (drop l.place l.calls) (told_shown l.told))
+      ≡ map (reply_shown p) l.fn.replies.items ++ replies_to l.only (replies_told l.calls (told_shown l.told));
   given : (k : ℕ) → replies_holders l.replies.items k ≡ replies_holders l.fn.replies.items k;
   within : l.place ≤ length l.calls;
 }

@@ -5,7 +5,8 @@ use Rattle.message_fields.specs.Joining.{with_numbers}
 use Rattle.message_fields.proofs.fields.add_packed.Given as goal
 
 abbrev pub invariant-loop-number : goal.invariant-loop-number
-invariant-loop-number l = with_numbers l.values.items (of_wire (items_left number_at l.numbers)) ≡ with_numbers l.fn.values.items (of_wire (numbers_of l.payload))
+invariant-loop-number l = with_numbers l.values.items (of_wire (items_left number_at l.numbers))
+    ≡ with_numbers l.fn.values.items (of_wire (numbers_of l.payload))
 
 abbrev pub decreases-loop-number : goal.decreases-loop-number
 decreases-loop-number l = count_left l.numbers

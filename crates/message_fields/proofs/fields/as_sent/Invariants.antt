@@ -5,7 +5,8 @@ use Rattle.message_fields.specs.Joining.{payloads_after}
 use Rattle.message_fields.proofs.fields.as_sent.Given as goal
 
 abbrev pub invariant-records : goal.invariant-records
-invariant-records l = payloads_after (option_map (λ v. v.items) l.joined) (payloads l.field (map record_shown l.left)) ≡ bytes_as_sent l.field (map record_shown l.records)
+invariant-records l = payloads_after (option_map (λ v. v.items) l.joined) (payloads l.field (map record_shown l.left))
+    ≡ bytes_as_sent l.field (map record_shown l.records)
 
 abbrev pub decreases-records : goal.decreases-records
 decreases-records l = length l.left

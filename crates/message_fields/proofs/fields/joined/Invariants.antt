@@ -5,7 +5,8 @@ use Rattle.message_fields.specs.Joining.{joined_records}
 use Rattle.message_fields.proofs.fields.joined.Given as goal
 
 abbrev pub invariant-records : goal.invariant-records
-invariant-records l = joined_records (option_map (λ v. map record_shown v.items) l.joined) (payloads l.field (map record_shown l.left)) ≡ joined_records None (payloads l.field (map record_shown l.records))
+invariant-records l = joined_records (option_map (λ v. map record_shown v.items) l.joined) (payloads l.field (map record_shown l.left))
+    ≡ joined_records None (payloads l.field (map record_shown l.records))
 
 abbrev pub decreases-records : goal.decreases-records
 decreases-records l = length l.left

@@ -4,7 +4,8 @@ use Rattle.message_fields.specs.Fields.{payloads, last_or}
 use Rattle.message_fields.proofs.fields.octets.Given as goal
 
 abbrev pub invariant-records : goal.invariant-records
-invariant-records l = last_or l.last (payloads l.field (map record_shown l.left)) ≡ last_or [] (payloads l.field (map record_shown l.records))
+invariant-records l = last_or l.last (payloads l.field (map record_shown l.left))
+    ≡ last_or [] (payloads l.field (map record_shown l.records))
 
 abbrev pub decreases-records : goal.decreases-records
 decreases-records l = length l.left

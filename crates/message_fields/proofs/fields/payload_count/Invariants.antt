@@ -4,7 +4,8 @@ use Rattle.message_fields.specs.Fields.{payloads}
 use Rattle.message_fields.proofs.fields.payload_count.Given as goal
 
 abbrev pub invariant-records : goal.invariant-records
-invariant-records l = (l.count + length (payloads l.field (map record_shown l.left)) ≡ length (payloads l.field (map record_shown l.records))) × (l.count + length l.left ≤ length l.records)
+invariant-records l = (l.count + length (payloads l.field (map record_shown l.left))
+    ≡ length (payloads l.field (map record_shown l.records))) × (l.count + length l.left ≤ length l.records)
 
 abbrev pub decreases-records : goal.decreases-records
 decreases-records l = length l.left

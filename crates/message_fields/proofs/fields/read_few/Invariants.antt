@@ -5,7 +5,8 @@ use Rattle.message_fields.proofs.Lists.{after}
 use Rattle.message_fields.proofs.fields.read_few.Given as goal
 
 abbrev pub invariant-loop-field : goal.invariant-loop-field
-invariant-loop-field l = (after (map record_shown (take l.count l.few)) (items_left record_at l.reader) ≡ records_of l.text) × (l.count ≤ length l.few)
+invariant-loop-field l = (after (map record_shown (take l.count l.few)) (items_left record_at l.reader) ≡ records_of l.text)
+    × (l.count ≤ length l.few)
 
 abbrev pub decreases-loop-field : goal.decreases-loop-field
 decreases-loop-field l = count_left l.reader

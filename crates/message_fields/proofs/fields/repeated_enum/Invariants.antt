@@ -5,7 +5,8 @@ use Rattle.message_fields.specs.Joining.{with_numbers}
 use Rattle.message_fields.proofs.fields.repeated_enum.Given as goal
 
 abbrev pub invariant-records : goal.invariant-records
-invariant-records l = with_numbers l.values.items (repeated_numbers l.field (map record_shown l.left)) ≡ repeated_enum l.field (map record_shown l.records)
+invariant-records l = with_numbers l.values.items (repeated_numbers l.field (map record_shown l.left))
+    ≡ repeated_enum l.field (map record_shown l.records)
 
 abbrev pub decreases-records : goal.decreases-records
 decreases-records l = length l.left

@@ -4,7 +4,8 @@ use Rattle.message_fields.specs.Fields.{repeated_octets}
 use Rattle.message_fields.proofs.fields.repeated_octets.Given as goal
 
 abbrev pub invariant-records : goal.invariant-records
-invariant-records l = map (λ b. b.now) l.all.items ++ repeated_octets l.field (map record_shown l.left) ≡ repeated_octets l.field (map record_shown l.records)
+invariant-records l = map (λ b. b.now) l.all.items ++ repeated_octets l.field (map record_shown l.left)
+    ≡ repeated_octets l.field (map record_shown l.records)
 
 abbrev pub decreases-records : goal.decreases-records
 decreases-records l = length l.left

@@ -5,7 +5,8 @@ use Rattle.message_fields.proofs.Lists.{after}
 use Rattle.message_fields.proofs.fields.repeated_string.Given as goal
 
 abbrev pub invariant-records : goal.invariant-records
-invariant-records l = after (map (λ s. s.now) l.texts.items) (repeated_string l.field (map record_shown l.left)) ≡ repeated_string l.field (map record_shown l.records)
+invariant-records l = after (map (λ s. s.now) l.texts.items) (repeated_string l.field (map record_shown l.left))
+    ≡ repeated_string l.field (map record_shown l.records)
 
 abbrev pub decreases-records : goal.decreases-records
 decreases-records l = length l.left

@@ -7,7 +7,8 @@ use Rattle.message_fields.proofs.Lists.{last_after}
 use Rattle.message_fields.proofs.fields.string.Given as goal
 
 abbrev pub invariant-records : goal.invariant-records
-invariant-records l = (last_after l.last (repeated_string l.field (map record_shown l.left)) ≡ last_after [] (repeated_string l.field (map record_shown l.records))) × shadow (Utf8 l.last)
+invariant-records l = (last_after l.last (repeated_string l.field (map record_shown l.left))
+    ≡ last_after [] (repeated_string l.field (map record_shown l.records))) × shadow (Utf8 l.last)
 
 abbrev pub decreases-records : goal.decreases-records
 decreases-records l = length l.left

@@ -16,7 +16,8 @@ loop-output-preserved c =
       taken = sym (ap (λ (b : Bool). b && list_all (is_output like) (map output_shown rest)) taken)
           ∙ ap (λ (os : List Output). list_all (is_output like) (map output_shown os)) (sym is)
           ∙ c.loop-output.invariant.taken;
-      same = ap (λ (k : CollectionValue). with_outputs like k (map output_shown rest)) (c.in_ok-collect_output.ensures.1 c.if-not-branch.false)
+      same = ap (λ (k : CollectionValue). with_outputs like k (map output_shown rest))
+          (c.in_ok-collect_output.ensures.1 c.if-not-branch.false)
           ∙ ap (λ (os : List Output). with_outputs like (collection_shown c.loop-output.collection) (map output_shown os)) (sym is)
           ∙ c.loop-output.invariant.same;
     }

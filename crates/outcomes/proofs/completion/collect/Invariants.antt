@@ -8,7 +8,8 @@ use Rattle.outcomes.proofs.completion.collect.Given as goal
 abbrev pub invariant-loop-output : goal.invariant-loop-output
 invariant-loop-output l = record {
   taken : list_all (is_output l.like) (map output_shown l.left.items) ≡ list_all (is_output l.like) (map output_shown l.fn.outputs.items);
-  same : with_outputs l.like (collection_shown l.collection) (map output_shown l.left.items) ≡ with_outputs l.like no_outputs (map output_shown l.fn.outputs.items);
+  same : with_outputs l.like (collection_shown l.collection) (map output_shown l.left.items)
+      ≡ with_outputs l.like no_outputs (map output_shown l.fn.outputs.items);
 }
 
 abbrev pub decreases-loop-output : goal.decreases-loop-output

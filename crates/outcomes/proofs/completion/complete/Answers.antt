@@ -19,10 +19,17 @@ returns c =
     let outputs = map output_shown c.args.exited.outputs.items in
     let collected = collection_shown c.in-Some.collection in
     let known : are_asked asked outputs ≡ true = search (rules, c.deref.ensures.value, c.are_asked.ensures, c.if-not-are_asked.false) in
-    let there = subst (λ (os : Vec Output). IsCollected like (map output_shown os.items) c.in_ok-collection.field-0) c.into_parts-code.ensures.outputs c.in_ok-collection.ensures in
+    let there = subst (λ (os : Vec Output). IsCollected like (map output_shown os.items) c.in_ok-collection.field-0)
+    c.into_parts-code.ensures.outputs c.in_ok-collection.ensures in
     let both = subst (λ found. IsCollected like outputs found) c.in-Some.is there in
     let lent : c.deref-2.result.now ≡ c.args.exited.streams.value = search (rules, c.deref-2.ensures, c.into_parts-code.ensures.streams) in
-    let moved : c.into_inner-stdout.result ≡ c.args.exited.streams.value = search (rules, c.into_inner-stdout.ensures, c.into_parts-code.ensures.streams) in
-    let result : c.in_ok-result.result.items ≡ text_for action_result_records (result_with c.args.exited.code collected.files collected.trees (stream_digest like c.args.exited.streams.value.stdout) (stream_digest like c.args.exited.streams.value.stderr)) = search (rules, c.in_ok-result.ensures, c.into_parts-code.ensures.code, lent) in
-    let blobs = c.in_ok-blobs.ensures ∙ ap (λ (s : Streams). collected.file_blobs ++ collected.tree_blobs ++ stream_blobs like s.stdout ++ stream_blobs like s.stderr) moved in
-    completed like asked (exited_shown c.args.exited) collected (map blob_shown c.in_ok-blobs.blobs.items) c.in_ok-result.result.items known both.0 both.1 result blobs
+    let moved : c.into_inner-stdout.result ≡ c.args.exited.streams.value =
+    search (rules, c.into_inner-stdout.ensures, c.into_parts-code.ensures.streams) in
+    let result : c.in_ok-result.result.items ≡ text_for action_result_records
+    (result_with c.args.exited.code collected.files collected.trees (stream_digest like c.args.exited.streams.value.stdout)
+    (stream_digest like c.args.exited.streams.value.stderr)) =
+    search (rules, c.in_ok-result.ensures, c.into_parts-code.ensures.code, lent) in
+    let blobs = c.in_ok-blobs.ensures ∙ ap (λ (s : Streams). collected.file_blobs ++ collected.tree_blobs ++ stream_blobs like s.stdout
+    ++ stream_blobs like s.stderr) moved in
+    completed like asked (exited_shown c.args.exited) collected
+    (map blob_shown c.in_ok-blobs.blobs.items) c.in_ok-result.result.items known both.0 both.1 result blobs

@@ -5,7 +5,8 @@ use Rattle.run_outcomes.specs.Shown.{nodes_shown}
 use Rattle.outcomes.proofs.completion.push_nodes.Given as goal
 
 abbrev pub invariant-loop-node : goal.invariant-loop-node
-invariant-loop-node l = map blob_shown l.blobs.items ++ node_blobs l.like (nodes_shown l.left.items) ≡ map blob_shown l.fn.blobs.items ++ node_blobs l.like (nodes_shown l.fn.nodes.items)
+invariant-loop-node l = map blob_shown l.blobs.items ++ node_blobs l.like (nodes_shown l.left.items) ≡ map blob_shown l.fn.blobs.items
+    ++ node_blobs l.like (nodes_shown l.fn.nodes.items)
 
 abbrev pub decreases-loop-node : goal.decreases-loop-node
 decreases-loop-node l = length l.left.items

@@ -11,9 +11,11 @@ use Rattle.outcomes.proofs.ending.admit_blobs.Goals as goal
 
 pub loop-blob-init : goal.loop-blob-init
 loop-blob-init c =
-    let same : map blob_shown c.from_vec-left.result.items ≡ map blob_shown c.args.blobs.items = ap (map blob_shown) c.from_vec-left.ensures.items in
+    let same : map blob_shown c.from_vec-left.result.items ≡ map blob_shown c.args.blobs.items =
+    ap (map blob_shown) c.from_vec-left.ensures.items in
     record {
-      underway = begun c.args.view.now.limit c.args.quota (visible_in c.args.pool.now c.args.view.now) (map blob_shown c.args.blobs.items) (map blob_shown c.from_vec-left.result.items) same;
+      underway = begun c.args.view.now.limit c.args.quota (visible_in c.args.pool.now c.args.view.now) (map blob_shown c.args.blobs.items)
+          (map blob_shown c.from_vec-left.result.items) same;
       named = subst AllNamed (sym same) c.requires.named;
       moves = moves_none c.args.pool.now (holders c.args.view.now) (holders c.args.view.now) (λ k. refl);
       kept = c.requires.kept;
@@ -30,12 +32,15 @@ loop-blob-preserved c =
     let now = visible_in c.loop-blob.pool c.loop-blob.view in
     let next = visible_in c.admit_blob.new.pool c.admit_blob.new.view in
     let is : c.loop-blob.left.items ≡ c.in-Some.blob ∷ rest = c.in-Some.ensures.items in
-    let before = subst (λ (left : List OutputBlob). Underway limit c.args.quota all old now (map blob_shown left)) is c.loop-blob.invariant.underway in
-    let admitted : next ≡ visible_after_admission limit c.args.quota b.0 b.1 now = c.in_ok-admit_blob.ensures.ok ∙ ap (λ (n : ℕ). visible_after_admission n c.args.quota b.0 b.1 now) c.loop-blob.invariant.limit in
+    let before = subst (λ (left : List OutputBlob). Underway limit c.args.quota all old now (map blob_shown left)) is
+    c.loop-blob.invariant.underway in
+    let admitted : next ≡ visible_after_admission limit c.args.quota b.0 b.1 now =
+    c.in_ok-admit_blob.ensures.ok ∙ ap (λ (n : ℕ). visible_after_admission n c.args.quota b.0 b.1 now) c.loop-blob.invariant.limit in
     record {
       underway = gone_on limit c.args.quota all old now next b (map blob_shown rest) before admitted;
       named = (subst (λ (left : List OutputBlob). AllNamed (map blob_shown left)) is c.loop-blob.invariant.named).1;
-      moves = moves_trans c.args.pool.now c.loop-blob.pool c.admit_blob.new.pool (holders c.args.view.now) (holders c.loop-blob.view) (holders c.admit_blob.new.view) c.loop-blob.invariant.moves c.in_ok-admit_blob.ensures.moves;
+      moves = moves_trans c.args.pool.now c.loop-blob.pool c.admit_blob.new.pool (holders c.args.view.now) (holders c.loop-blob.view)
+          (holders c.admit_blob.new.view) c.loop-blob.invariant.moves c.in_ok-admit_blob.ensures.moves;
       kept = c.in_ok-admit_blob.ensures.kept;
       limit = c.in_ok-admit_blob.ensures.limit ∙ c.loop-blob.invariant.limit;
     }

@@ -10,7 +10,8 @@ use Rattle.outcomes.proofs.ending.admit_blobs.Given as goal
 
 abbrev pub invariant-loop-blob : goal.invariant-loop-blob
 invariant-loop-blob l = record {
-  underway : Underway l.fn.view.limit l.quota (admissions (map blob_shown l.fn.blobs.items)) (visible_in l.fn.pool l.fn.view) (visible_in l.pool l.view) (map blob_shown l.left.items);
+  underway : Underway l.fn.view.limit l.quota (admissions (map blob_shown l.fn.blobs.items)) (visible_in l.fn.pool l.fn.view)
+      (visible_in l.pool l.view) (map blob_shown l.left.items);
   named : AllNamed (map blob_shown l.left.items);
   moves : Moves l.fn.pool l.pool (holders l.fn.view) (holders l.view);
   kept : IsViewInPool l.quota l.pool l.view;

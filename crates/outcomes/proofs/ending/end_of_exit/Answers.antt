@@ -17,9 +17,13 @@ returns-in-Some c =
     let job : JobValue = job_in p c.args.job.now in
     let text : c.deref.result.now ≡ job.task.command = c.deref.ensures.value ∙ c.in_ok-command.ensures in
     let asked : map asked_shown c.deref-2.result.now ≡ outputs_asked job =
-    ap (map asked_shown) c.deref-2.ensures.value ∙ c.in_ok-asked.ensures ∙ ap (λ (text : List ℕ). unwrap_or (option_map asked_outputs (command_in text)) []) text in
+    ap (map asked_shown) c.deref-2.ensures.value ∙ c.in_ok-asked.ensures
+    ∙ ap (λ (text : List ℕ). unwrap_or (option_map asked_outputs (command_in text)) []) text in
     let found : Some (completion_shown c.in-Some.completion) ≡ completion_of job.action (outputs_asked job) (exited_shown c.args.run) =
     ap (option_map completion_shown) (sym c.in-Some.is) ∙ c.in_ok-completion.ensures
     ∙ ap (λ (asked : List AskedOutput). completion_of job.action asked (exited_shown c.args.run)) asked in
-    let ends : IfOk c.completed.result (λ e. ending_shown e ≡ completed c.args.quota (visible_in p c.args.view.now) job c.args.run.code (completion_shown c.in-Some.completion)) = search (rules, c.completed.ensures p) in
-    subst (λ (found : Option CompletionValue). IfOk c.completed.result (λ e. ending_shown e ≡ completed_if c.args.quota (visible_in p c.args.view.now) job c.args.run.code found)) found ends
+    let ends : IfOk c.completed.result (λ e. ending_shown e
+    ≡ completed c.args.quota (visible_in p c.args.view.now) job c.args.run.code (completion_shown c.in-Some.completion)) =
+    search (rules, c.completed.ensures p) in
+    subst (λ (found : Option CompletionValue). IfOk c.completed.result
+    (λ e. ending_shown e ≡ completed_if c.args.quota (visible_in p c.args.view.now) job c.args.run.code found)) found ends

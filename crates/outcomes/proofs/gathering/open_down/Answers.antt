@@ -8,5 +8,6 @@ pub loop-alloc-preserved : goal.loop-alloc-preserved
 loop-alloc-preserved c =
     let less : length c.loop-alloc.going.items < c.args.level = omega arith in
     ap (λ (fs : List OpenFolder). down_to c.args.level (map open_shown fs)) c.in_ok-push_front.ensures.items
-    ∙ opened_next c.args.level c.loop-alloc.going.items (record { files = c.new.result; directories = c.new-in-loop-alloc.result }) less (rw (c.new.ensures.items, c.new-in-loop-alloc.ensures.items) refl)
+    ∙ opened_next c.args.level c.loop-alloc.going.items (record { files = c.new.result; directories = c.new-in-loop-alloc.result }) less
+    (rw (c.new.ensures.items, c.new-in-loop-alloc.ensures.items) refl)
     ∙ c.loop-alloc.invariant

@@ -5,7 +5,8 @@ use Rattle.resource_names.proofs.segments.first_segment.Goals as goal
 
 pub returns-in-Some : goal.returns-in-Some
 returns-in-Some c =
-    let (within, front, back) = rw c.in-Some.is at (split_once_first 47 c.args.text.now c.split_once.result c.split_once.ensures.cases (lit< tt)) in
+    let (within, front, back) = rw c.in-Some.is at
+    (split_once_first 47 c.args.text.now c.split_once.result c.split_once.ensures.cases (lit< tt)) in
     segments_of-cut c.args.text.now c.in-Some.segment.now c.in-Some.rest.now within front back
 
 pub returns-in-None : goal.returns-in-None

@@ -28,7 +28,11 @@ returns-in_ok-gathering-in-Nothing-clause-goes g c = λ text p.
     (ap (λ l. map (look_asked (place_shown c.args.place.now)) (map string_bytes l.items)) (sym c.in_ok-gathering-in-Nothing.ensures.left))
     (c.in_ok-gathering-in-Nothing.ensures.items (place_shown c.args.place.now))
     (c.in_ok-gathering-in-Nothing.ensures.told (place_shown c.args.place.now))
-    (inr (done_where (place_shown c.args.place.now) _ _ _ _ _ _ c.next_of.result _ _ c.next_of.ensures c.in-Nothing.is c.count.ensures.count, refl))
+    (inr (
+      done_where (place_shown c.args.place.now) _ _ _ _ _ _ c.next_of.result _ _ c.next_of.ensures c.in-Nothing.is
+          c.count.ensures.count,
+      refl,
+    ))
 
 pub returns-in_ok-gathering-in-Nothing-clause-counted : goal.returns-in_ok-gathering-in-Nothing-clause-counted
 returns-in_ok-gathering-in-Nothing-clause-counted g c =
@@ -48,5 +52,8 @@ returns-in-Directory-clause-stops g c =
 
 pub list_in_tree-requires-clause-counted : goal.list_in_tree-requires-clause-counted
 list_in_tree-requires-clause-counted g c =
-    let next = is_next c.next_of.result (nexts.Directory c.in-Directory.inner) _ _ _ _ _ c.in-Directory.is c.next_of.ensures in
-    (c.requires.counted.0, stack_left _ c.next_of.new.todo.items c.in-Directory.inner (stack_taken _ c.args.tree.todo.items c.next_of.new.todo.items c.in-Directory.inner next.2 c.requires.counted.1))
+    let next = is_next c.next_of.result (nexts.Directory c.in-Directory.inner) _ _ _ _ _ c.in-Directory.is c.next_of.ensures in (
+      c.requires.counted.0,
+      stack_left _ c.next_of.new.todo.items c.in-Directory.inner
+          (stack_taken _ c.args.tree.todo.items c.next_of.new.todo.items c.in-Directory.inner next.2 c.requires.counted.1),
+    )

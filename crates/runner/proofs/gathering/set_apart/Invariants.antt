@@ -6,8 +6,10 @@ use Rattle.runner.proofs.gathering.set_apart.Given as goal
 
 abbrev pub invariant-entries : goal.invariant-entries
 invariant-entries l = record {
-  files : file_names (map entry_shown l.rest.items) ++ map string_bytes l.files.items ≡ file_names (map entry_shown l.fn.entries.items) ++ map string_bytes l.fn.files.items;
-  directories : map inner_shown l.todo.items ++ reverse (inners_of l.level (map entry_shown l.rest.items)) ≡ map inner_shown l.fn.todo.items ++ reverse (inners_of l.level (map entry_shown l.fn.entries.items));
+  files : file_names (map entry_shown l.rest.items) ++ map string_bytes l.files.items ≡ file_names (map entry_shown l.fn.entries.items)
+      ++ map string_bytes l.fn.files.items;
+  directories : map inner_shown l.todo.items ++ reverse (inners_of l.level (map entry_shown l.rest.items)) ≡ map inner_shown l.fn.todo.items
+      ++ reverse (inners_of l.level (map entry_shown l.fn.entries.items));
 }
 
 abbrev pub decreases-entries : goal.decreases-entries

@@ -22,5 +22,7 @@ returns-clause-goes g c = λ text p.
     (tt, [], refl, refl)
 
 pub returns-in_err-of_folder-clause-stops : goal.returns-in_err-of_folder-clause-stops
-returns-in_err-of_folder-clause-stops g c = folder_failed c.from_residual.result _ _ _ _ c.from_residual.ensures.1 c.of_folder.ensures c.in_err-of_folder.was done_of (λ e. refl) (λ fault small text p.
-    folder_stops text (place_shown c.args.place.now) _ fault _ _ p (directory_asked (place_shown c.args.place.now)) _ refl small c.make_working_directory.ensures.adds (_, refl))
+returns-in_err-of_folder-clause-stops g c = folder_failed c.from_residual.result _ _ _ _ c.from_residual.ensures.1 c.of_folder.ensures
+    c.in_err-of_folder.was done_of (λ e. refl) (λ fault small text p.
+    folder_stops text (place_shown c.args.place.now) _ fault _ _ p
+    (directory_asked (place_shown c.args.place.now)) _ refl small c.make_working_directory.ensures.adds (_, refl))

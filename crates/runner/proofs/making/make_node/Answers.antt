@@ -17,7 +17,8 @@ use Rattle.runner.proofs.making.make_node.Goals as goal
 pub returns-in_default-clause-goes : goal.returns-in_default-clause-goes
 returns-in_default-clause-goes g c = λ text p.
     goes_alone text (place_shown c.args.place.now) _ _ _ p
-    (ap (λ ns. nodes_made text c.args.place.now.run (map rc_str_bytes c.args.nodes.above.items) ns ++ prepared_left (place_shown c.args.place.now) c.args.nodes.next)
+    (ap (λ ns. nodes_made text c.args.place.now.run (map rc_str_bytes c.args.nodes.above.items) ns
+    ++ prepared_left (place_shown c.args.place.now) c.args.nodes.next)
     (popped_none _ _ _ c.pop_front.ensures.items c.pop_front.ensures.rest c.in_default.is)
     ∙ ap (prepared_left (place_shown c.args.place.now)) (sym c.next.ensures))
     (ap (λ n. start_asked (place_shown c.args.place.now) (command_shown n.command) ∷ []) (sym c.next.ensures))
@@ -30,7 +31,8 @@ returns-clause-goes g c = λ text p.
     let names = map rc_str_bytes c.push.new.self.items in
     let q = node_asked c.args.place.now.run (map rc_str_bytes c.push.new.self.items) (kind_shown c.in-Some.node.kind) in
     goes_folder text (place_shown c.args.place.now) _ _ _ _ p q _ refl
-    (subst (λ ns. Adds (g.F.Folder.asked c.args.folder.now) (g.F.Folder.asked c.make_node.new.self) (call (node_asked c.args.place.now.run (map rc_str_bytes ns) (kind_shown c.in-Some.node.kind)) (done_of c.make_node.result)))
+    (subst (λ ns. Adds (g.F.Folder.asked c.args.folder.now) (g.F.Folder.asked c.make_node.new.self)
+    (call (node_asked c.args.place.now.run (map rc_str_bytes ns) (kind_shown c.in-Some.node.kind)) (done_of c.make_node.result)))
     c.deref.ensures.value c.make_node.ensures.adds)
     (node_step text c.args.place.now.run (map rc_str_bytes c.args.nodes.above.items) names c.in-Some.node _ _ _ _
     (popped _ _ _ _ c.pop_front.ensures.items c.in-Some.is)
@@ -42,12 +44,16 @@ returns-clause-goes g c = λ text p.
     (tt, [], refl, refl)
 
 pub returns-in_err-of_folder-clause-stops : goal.returns-in_err-of_folder-clause-stops
-returns-in_err-of_folder-clause-stops g c = folder_failed c.from_residual-in_err-of_folder.result _ _ _ _ c.from_residual-in_err-of_folder.ensures.1 c.of_folder.ensures c.in_err-of_folder.was done_of (λ e. refl) (λ fault small text p.
-    folder_stops text (place_shown c.args.place.now) _ fault _ _ p (node_asked c.args.place.now.run (map rc_str_bytes c.push.new.self.items) (kind_shown c.in-Some.node.kind)) _ refl small
-    (subst (λ ns. Adds (g.F.Folder.asked c.args.folder.now) (g.F.Folder.asked c.make_node.new.self) (call (node_asked c.args.place.now.run (map rc_str_bytes ns) (kind_shown c.in-Some.node.kind)) (done_of c.make_node.result)))
+returns-in_err-of_folder-clause-stops g c = folder_failed c.from_residual-in_err-of_folder.result _ _ _ _
+    c.from_residual-in_err-of_folder.ensures.1 c.of_folder.ensures c.in_err-of_folder.was done_of (λ e. refl) (λ fault small text p.
+    folder_stops text (place_shown c.args.place.now) _ fault _ _ p
+    (node_asked c.args.place.now.run (map rc_str_bytes c.push.new.self.items) (kind_shown c.in-Some.node.kind)) _ refl small
+    (subst (λ ns. Adds (g.F.Folder.asked c.args.folder.now) (g.F.Folder.asked c.make_node.new.self)
+    (call (node_asked c.args.place.now.run (map rc_str_bytes ns) (kind_shown c.in-Some.node.kind)) (done_of c.make_node.result)))
     c.deref.ensures.value c.make_node.ensures.adds) (
       _,
-      node_step text c.args.place.now.run (map rc_str_bytes c.args.nodes.above.items) (map rc_str_bytes c.push.new.self.items) c.in-Some.node _ _ _ _
+      node_step text c.args.place.now.run (map rc_str_bytes c.args.nodes.above.items)
+          (map rc_str_bytes c.push.new.self.items) c.in-Some.node _ _ _ _
           (popped _ _ _ _ c.pop_front.ensures.items c.in-Some.is)
           (named rc_str_bytes _ _ _ _ _ _ c.in_ok-push.ensures.items c.truncate.ensures.items c.saturating_sub.ensures)
           refl,
@@ -55,4 +61,5 @@ returns-in_err-of_folder-clause-stops g c = folder_failed c.from_residual-in_err
 
 pub returns-in_err-push-clause-stops : goal.returns-in_err-push-clause-stops
 returns-in_err-push-clause-stops g c =
-    memory_refused c.from_residual.result (place_shown c.args.place.now) (Stages.Making (Makings.Nodes c.args.nodes)) (g.F.Folder.asked c.args.folder.now) c.from_residual.ensures.1
+    memory_refused c.from_residual.result (place_shown c.args.place.now) (Stages.Making (Makings.Nodes c.args.nodes))
+    (g.F.Folder.asked c.args.folder.now) c.from_residual.ensures.1

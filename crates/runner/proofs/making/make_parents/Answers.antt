@@ -26,7 +26,8 @@ returns-clause-goes g c = λ text p.
     let first = popped _ _ _ _ c.pop_front.ensures.items c.in-Some.is in
     let q = parents_asked (place_shown c.args.place.now) (string_bytes c.in-Some.path) in
     goes_folder text (place_shown c.args.place.now) _ _ _ _ p q _ refl
-    (subst (λ s. Adds (g.F.Folder.asked c.args.folder.now) (g.F.Folder.asked c.make_parents.new.self) (call (parents_asked (place_shown c.args.place.now) s) (done_of c.make_parents.result)))
+    (subst (λ s. Adds (g.F.Folder.asked c.args.folder.now) (g.F.Folder.asked c.make_parents.new.self)
+    (call (parents_asked (place_shown c.args.place.now) s) (done_of c.make_parents.result)))
     c.as_str.ensures.value c.make_parents.ensures.adds)
     (ap (map (λ o. parents_item (place_shown c.args.place.now) (string_bytes o))) first)
     refl
@@ -35,15 +36,27 @@ returns-clause-goes g c = λ text p.
     (tt, [], refl, refl)
 
 pub returns-in_err-of_folder-clause-stops : goal.returns-in_err-of_folder-clause-stops
-returns-in_err-of_folder-clause-stops g c = folder_failed c.from_residual.result _ _ _ _ c.from_residual.ensures.1 c.of_folder.ensures c.in_err-of_folder.was done_of (λ e. refl) (λ fault small text p.
-    folder_stops text (place_shown c.args.place.now) _ fault _ _ p (parents_asked (place_shown c.args.place.now) (string_bytes c.in-Some.path)) _ refl small
-    (subst (λ s. Adds (g.F.Folder.asked c.args.folder.now) (g.F.Folder.asked c.make_parents.new.self) (call (parents_asked (place_shown c.args.place.now) s) (done_of c.make_parents.result)))
-    c.as_str.ensures.value c.make_parents.ensures.adds)
-    (_, ap (map (λ o. parents_item (place_shown c.args.place.now) (string_bytes o))) (popped _ _ _ _ c.pop_front.ensures.items c.in-Some.is)))
+returns-in_err-of_folder-clause-stops g c = folder_failed c.from_residual.result _ _ _ _ c.from_residual.ensures.1 c.of_folder.ensures
+    c.in_err-of_folder.was done_of (λ e. refl) (λ fault small text p.
+    folder_stops text (place_shown c.args.place.now) _ fault _ _ p
+    (parents_asked (place_shown c.args.place.now) (string_bytes c.in-Some.path)) _ refl small
+    (subst (λ s. Adds (g.F.Folder.asked c.args.folder.now) (g.F.Folder.asked c.make_parents.new.self)
+    (call (parents_asked (place_shown c.args.place.now) s) (done_of c.make_parents.result)))
+    c.as_str.ensures.value c.make_parents.ensures.adds) (
+      _,
+      ap (map (λ o. parents_item (place_shown c.args.place.now) (string_bytes o)))
+          (popped _ _ _ _ c.pop_front.ensures.items c.in-Some.is),
+    ))
 
 pub returns-in_err-push_back-clause-stops : goal.returns-in_err-push_back-clause-stops
-returns-in_err-push_back-clause-stops g c = memory_failed c.from_residual-in_err-push_back.result _ _ _ (ap done_of (was_ok _ _ _ c.of_folder.ensures c.in_ok-of_folder.was)) c.from_residual-in_err-push_back.ensures.1 (λ fault small text p.
-    folder_stops text (place_shown c.args.place.now) _ fault _ _ p (parents_asked (place_shown c.args.place.now) (string_bytes c.in-Some.path)) _ refl small
-    (subst (λ s. Adds (g.F.Folder.asked c.args.folder.now) (g.F.Folder.asked c.make_parents.new.self) (call (parents_asked (place_shown c.args.place.now) s) (done_of c.make_parents.result)))
-    c.as_str.ensures.value c.make_parents.ensures.adds)
-    (_, ap (map (λ o. parents_item (place_shown c.args.place.now) (string_bytes o))) (popped _ _ _ _ c.pop_front.ensures.items c.in-Some.is)))
+returns-in_err-push_back-clause-stops g c = memory_failed c.from_residual-in_err-push_back.result _ _ _
+    (ap done_of (was_ok _ _ _ c.of_folder.ensures c.in_ok-of_folder.was)) c.from_residual-in_err-push_back.ensures.1 (λ fault small text p.
+    folder_stops text (place_shown c.args.place.now) _ fault _ _ p
+    (parents_asked (place_shown c.args.place.now) (string_bytes c.in-Some.path)) _ refl small
+    (subst (λ s. Adds (g.F.Folder.asked c.args.folder.now) (g.F.Folder.asked c.make_parents.new.self)
+    (call (parents_asked (place_shown c.args.place.now) s) (done_of c.make_parents.result)))
+    c.as_str.ensures.value c.make_parents.ensures.adds) (
+      _,
+      ap (map (λ o. parents_item (place_shown c.args.place.now) (string_bytes o)))
+          (popped _ _ _ _ c.pop_front.ensures.items c.in-Some.is),
+    ))

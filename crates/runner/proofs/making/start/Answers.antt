@@ -17,5 +17,7 @@ returns-clause-goes g c = λ text f.
     refl refl (no_failure q started_of _ _ (programs_ok _ _ _ c.of_programs.ensures c.in_ok-of_programs.was) (λ y. refl))
 
 pub returns-in_err-of_programs-clause-stops : goal.returns-in_err-of_programs-clause-stops
-returns-in_err-of_programs-clause-stops g c = programs_failed c.from_residual.result _ _ _ _ c.from_residual.ensures.1 c.of_programs.ensures c.in_err-of_programs.was started_of (λ e. refl) (λ fault small text f.
-    program_stops text (place_shown c.args.place.now) _ fault f _ _ (start_asked (place_shown c.args.place.now) (command_shown c.args.prepared.command)) _ refl small c.start.ensures.adds refl)
+returns-in_err-of_programs-clause-stops g c = programs_failed c.from_residual.result _ _ _ _ c.from_residual.ensures.1 c.of_programs.ensures
+    c.in_err-of_programs.was started_of (λ e. refl) (λ fault small text f.
+    program_stops text (place_shown c.args.place.now) _ fault f _ _
+    (start_asked (place_shown c.args.place.now) (command_shown c.args.prepared.command)) _ refl small c.start.ensures.adds refl)

@@ -13,7 +13,8 @@ use Rattle.runner.proofs.running.ask.Goals as goal
 pub returns-in-None-clause-goes : goal.returns-in-None-clause-goes
 returns-in-None-clause-goes g c = λ text f.
     let is = programs_ok _ _ _ c.of_programs.ensures c.in_ok-of_programs.was ∙ ap Ok c.in-None.is in
-    goes_program text (place_shown c.args.place.now) _ _ f _ _ (end_asked c.args.place.now.run) _ refl c.ask.ensures.adds refl refl refl refl
+    goes_program text (place_shown c.args.place.now) _ _ f _ _
+    (end_asked c.args.place.now.run) _ refl c.ask.ensures.adds refl refl refl refl
     (sym (ap (λ r. call_told (end_asked c.args.place.now.run) (state_of r)) is))
     (fits_none _ refl)
     refl refl (no_failure (end_asked c.args.place.now.run) state_of _ _ is (λ y. refl))
@@ -21,9 +22,11 @@ returns-in-None-clause-goes g c = λ text f.
 pub returns-in-Some-clause-goes : goal.returns-in-Some-clause-goes
 returns-in-Some-clause-goes g c = λ text f.
     let is = programs_ok _ _ _ c.of_programs.ensures c.in_ok-of_programs.was ∙ ap Ok c.in-Some.is in
-    ended_goes text (place_shown c.args.place.now) _ _ _ _ _ f _ _ c.ask.ensures.adds is c.ask.ensures.range c.ended.ensures refl refl refl refl refl refl refl
+    ended_goes text (place_shown c.args.place.now) _ _ _ _ _ f _ _ c.ask.ensures.adds is c.ask.ensures.range c.ended.ensures refl refl refl
+    refl refl refl refl
     refl
 
 pub returns-in_err-of_programs-clause-stops : goal.returns-in_err-of_programs-clause-stops
-returns-in_err-of_programs-clause-stops g c = programs_failed c.from_residual.result _ _ _ _ c.from_residual.ensures.1 c.of_programs.ensures c.in_err-of_programs.was state_of (λ e. refl) (λ fault small text f.
+returns-in_err-of_programs-clause-stops g c = programs_failed c.from_residual.result _ _ _ _ c.from_residual.ensures.1 c.of_programs.ensures
+    c.in_err-of_programs.was state_of (λ e. refl) (λ fault small text f.
     program_stops text (place_shown c.args.place.now) _ fault f _ _ (end_asked c.args.place.now.run) _ refl small c.ask.ensures.adds refl)

@@ -17,8 +17,10 @@ returns-then-is_empty-clause-goes g c = λ text f.
     let run = c.args.place.now.run in
     let from = c.length-from.result in
     let is = programs_ok _ _ _ c.of_programs.ensures c.in_ok-piece.was in
-    let items = read_says run streams.Output from 65536 c.read.result c.in_ok-piece.piece [] is none ∙ ap (λ n. stream_end run streams.Output n ∷ []) c.length-from.ensures in
-    goes_program text (place_shown c.args.place.now) _ _ f _ _ (read_asked run streams.Output from 65536) _ refl c.read.ensures.adds refl refl refl refl
+    let items = read_says run streams.Output from 65536 c.read.result c.in_ok-piece.piece [] is none
+    ∙ ap (λ n. stream_end run streams.Output n ∷ []) c.length-from.ensures in
+    goes_program text (place_shown c.args.place.now) _ _ f _ _
+    (read_asked run streams.Output from 65536) _ refl c.read.ensures.adds refl refl refl refl
     (output_whole run c.args.ended.code c.args.content c.whole.result c.new.result _ c.whole.ensures c.new.ensures items)
     (fits_still _ _ c.requires.counted (stream_says run streams.Output from 65536 c.read.result c.in_ok-piece.piece is ∙ ap length none))
     refl refl (no_failure (read_asked run streams.Output from 65536) bytes_of _ _ is (λ y. refl))
@@ -29,26 +31,38 @@ returns-clause-goes g c = λ text f.
     let from = c.length-from.result in
     let is = programs_ok _ _ _ c.of_programs.ensures c.in_ok-piece.was in
     let items = read_says run streams.Output from 65536 c.read.result c.in_ok-piece.piece c.deref.result.now is (sym c.deref.ensures.value)
-    ∙ some_told run streams.Output from 65536 c.deref.result.now (λ none. some_piece c.in_ok-piece.piece _ c.is_empty.ensures c.if-is_empty.false (sym c.deref.ensures.value ∙ none)) in
-    let more = more_read run streams.Output c.args.content c.push.new.self c.deref.result.now from _ c.in_ok-push.ensures c.length-from.ensures items in
-    goes_program text (place_shown c.args.place.now) _ _ f _ _ (read_asked run streams.Output from 65536) _ refl c.read.ensures.adds refl refl refl refl
+    ∙ some_told run streams.Output from 65536 c.deref.result.now
+    (λ none. some_piece c.in_ok-piece.piece _ c.is_empty.ensures c.if-is_empty.false (sym c.deref.ensures.value ∙ none)) in
+    let more = more_read run streams.Output c.args.content c.push.new.self c.deref.result.now from _ c.in_ok-push.ensures
+    c.length-from.ensures items in
+    goes_program text (place_shown c.args.place.now) _ _ f _ _
+    (read_asked run streams.Output from 65536) _ refl c.read.ensures.adds refl refl refl refl
     (ap (λ zs. code_item run c.args.ended.code ∷ killed_item run ∷ zs) more)
     (fits_told _ _ _ (stream_says run streams.Output from 65536 c.read.result c.in_ok-piece.piece is)
-    (at_most _ _ _ _ _ c.is_too_large.ensures c.if-is_too_large.false c.length-from.ensures (omega (arith, c.len.ensures, c.in_ok-piece.piece.ok))))
+    (at_most _ _ _ _ _ c.is_too_large.ensures c.if-is_too_large.false c.length-from.ensures
+    (omega (arith, c.len.ensures, c.in_ok-piece.piece.ok))))
     refl refl (no_failure (read_asked run streams.Output from 65536) bytes_of _ _ is (λ y. refl))
 
 pub returns-then-is_too_large-clause-stops : goal.returns-then-is_too_large-clause-stops
 returns-then-is_too_large-clause-stops g c = λ text f.
     let is = programs_ok _ _ _ c.of_programs.ensures c.in_ok-piece.was in
-    program_surpasses text (place_shown c.args.place.now) _ f _ _ (read_asked c.args.place.now.run streams.Output c.length-from.result 65536) _ _ _ refl (ap bytes_of is) c.read.ensures.adds
+    program_surpasses text (place_shown c.args.place.now) _ f _ _
+    (read_asked c.args.place.now.run streams.Output c.length-from.result 65536) _ _ _ refl (ap bytes_of is) c.read.ensures.adds
     (stream_says c.args.place.now.run streams.Output c.length-from.result 65536 c.read.result c.in_ok-piece.piece is)
-    (more_than _ _ _ _ _ c.is_too_large.ensures c.if-is_too_large.true c.length-from.ensures (omega (arith, c.len.ensures, c.in_ok-piece.piece.ok)))
+    (more_than _ _ _ _ _ c.is_too_large.ensures c.if-is_too_large.true c.length-from.ensures
+    (omega (arith, c.len.ensures, c.in_ok-piece.piece.ok)))
     (65536, omega arith, ap (λ n. read_asked c.args.place.now.run streams.Output n 65536) c.length-from.ensures)
 
 pub returns-in_err-piece-clause-stops : goal.returns-in_err-piece-clause-stops
-returns-in_err-piece-clause-stops g c = programs_failed c.from_residual.result _ _ _ _ c.from_residual.ensures.1 c.of_programs.ensures c.in_err-piece.was bytes_of (λ e. refl) (λ fault small text f.
-    program_stops text (place_shown c.args.place.now) _ fault f _ _ (read_asked c.args.place.now.run streams.Output c.length-from.result 65536) _ refl small c.read.ensures.adds (65536, omega arith, ap (λ n. read_asked c.args.place.now.run streams.Output n 65536) c.length-from.ensures))
+returns-in_err-piece-clause-stops g c = programs_failed c.from_residual.result _ _ _ _ c.from_residual.ensures.1 c.of_programs.ensures
+    c.in_err-piece.was bytes_of (λ e. refl) (λ fault small text f.
+    program_stops text (place_shown c.args.place.now) _ fault f _ _
+    (read_asked c.args.place.now.run streams.Output c.length-from.result 65536) _ refl small c.read.ensures.adds
+    (65536, omega arith, ap (λ n. read_asked c.args.place.now.run streams.Output n 65536) c.length-from.ensures))
 
 pub returns-in_err-push-clause-stops : goal.returns-in_err-push-clause-stops
-returns-in_err-push-clause-stops g c = programs_memory_failed c.from_residual-in_err-push.result _ _ _ (ap bytes_of (programs_ok _ _ _ c.of_programs.ensures c.in_ok-piece.was)) c.from_residual-in_err-push.ensures.1 (λ fault small text f.
-    program_stops text (place_shown c.args.place.now) _ fault f _ _ (read_asked c.args.place.now.run streams.Output c.length-from.result 65536) _ refl small c.read.ensures.adds (65536, omega arith, ap (λ n. read_asked c.args.place.now.run streams.Output n 65536) c.length-from.ensures))
+returns-in_err-push-clause-stops g c = programs_memory_failed c.from_residual-in_err-push.result _ _ _
+    (ap bytes_of (programs_ok _ _ _ c.of_programs.ensures c.in_ok-piece.was)) c.from_residual-in_err-push.ensures.1 (λ fault small text f.
+    program_stops text (place_shown c.args.place.now) _ fault f _ _
+    (read_asked c.args.place.now.run streams.Output c.length-from.result 65536) _ refl small c.read.ensures.adds
+    (65536, omega arith, ap (λ n. read_asked c.args.place.now.run streams.Output n 65536) c.length-from.ensures))

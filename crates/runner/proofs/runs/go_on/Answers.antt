@@ -14,11 +14,18 @@ returns-in-Ok-Goes-clause-becomes g c = (
   c.in-Ok-Goes.next,
   c.in-Ok-Goes._spent,
   ap (λ (s : Stage). Some (Live s)) c.new.ensures,
-  subst (λ (x : Step). Goes (g.T.Texts.text_of c.args.texts.now) (place_shown c.args.place.now) c.args.stage x (g.F.Folder.asked c.args.folder.now) (g.F.Folder.asked c.turn.new.folder) (g.P.Programs.asked c.args.programs.now) (g.P.Programs.asked c.turn.new.programs)) c.in-Ok-Goes.field-0-is c.in-Ok-Goes.ensures.goes,
+  subst (λ (x : Step). Goes (g.T.Texts.text_of c.args.texts.now) (place_shown c.args.place.now) c.args.stage x
+      (g.F.Folder.asked c.args.folder.now) (g.F.Folder.asked c.turn.new.folder) (g.P.Programs.asked c.args.programs.now)
+      (g.P.Programs.asked c.turn.new.programs)) c.in-Ok-Goes.field-0-is c.in-Ok-Goes.ensures.goes,
 )
 
 pub returns-in-Err-clause-becomes : goal.returns-in-Err-clause-becomes
-returns-in-Err-clause-becomes g c = (c.in-Err.stopped.ending, left_over c.in-Err.stopped.ending c.map.result c.map.ensures.cases, c.in-Err.ensures.fails)
+returns-in-Err-clause-becomes g c = (
+  c.in-Err.stopped.ending,
+  left_over c.in-Err.stopped.ending c.map.result c.map.ensures.cases,
+  c.in-Err.ensures.fails,
+)
 
 pub returns-in-Ok-Exits-clause-few : goal.returns-in-Ok-Exits-clause-few
-returns-in-Ok-Exits-clause-few g c = exited_few _ c.in-Ok-Exits.field-0 c.in-Ok-Exits.exited _ _ _ _ _ _ c.in-Ok-Exits.is c.in-Ok-Exits.field-0-is c.turn.ensures.few c.forget.ensures.adds
+returns-in-Ok-Exits-clause-few g c = exited_few _ c.in-Ok-Exits.field-0 c.in-Ok-Exits.exited _ _ _ _ _ _ c.in-Ok-Exits.is
+    c.in-Ok-Exits.field-0-is c.turn.ensures.few c.forget.ensures.adds

@@ -10,6 +10,7 @@ returns-then-not-is_ready-clause-goes g c =
     let programs = g.P.Programs.asked c.args.programs.now in
     let text = g.T.Texts.text_of c.args.texts.now in
     let before = g.F.Folder.asked c.args.folder.now in
-    subst (λ asked. Goes text (place_shown c.args.place.now) c.args.stage (steps.Goes c.args.stage 4294967295) before asked programs programs)
+    subst (λ asked. Goes text (place_shown c.args.place.now) c.args.stage
+    (steps.Goes c.args.stage 4294967295) before asked programs programs)
     (sym c.is_ready.ensures.same)
     (goes_nowhere text (place_shown c.args.place.now) c.args.stage 4294967295 before programs)

@@ -17,17 +17,24 @@ remove-requires c = grind (arith, common_steps, place_within c.args.number c.arg
 pub returns-clause-closed : goal.returns-clause-closed
 returns-clause-closed c = λ p seen.
     let left = c.remove.new.self.items in
-    let same : cancels_of c.release_spent.new.connection ≡ cancels_of c.remove.result.connection = ap cancels_of c.release_spent.ensures.rest ∙ ap cancels_of c.close.ensures.rest in
-    closes_by c.args.number (seeing seen (state_in p c.args.instance.now)) (seeing seen (state_in p c.give_up.new.instance)) c.args.connections.now.items left c.args.place c.remove.result
+    let same : cancels_of c.release_spent.new.connection ≡ cancels_of c.remove.result.connection =
+    ap cancels_of c.release_spent.ensures.rest ∙ ap cancels_of c.close.ensures.rest in
+    closes_by c.args.number (seeing seen (state_in p c.args.instance.now))
+    (seeing seen (state_in p c.give_up.new.instance)) c.args.connections.now.items left c.args.place c.remove.result
     c.requires.there c.remove.ensures.value c.remove.ensures.by_index.2
-    (subst (λ (es : List CallEvent). Acts (seeing seen (state_in p c.args.instance.now)) left (seeing seen (state_in p c.give_up.new.instance)) left (after_call_events c.args.number es)) same (c.give_up.ensures.cancelled p seen left))
+    (subst (λ (es : List CallEvent). Acts (seeing seen (state_in p c.args.instance.now)) left
+    (seeing seen (state_in p c.give_up.new.instance)) left (after_call_events c.args.number es)) same
+    (c.give_up.ensures.cancelled p seen left))
 
 pub release_spent-requires : goal.release_spent-requires
 release_spent-requires c = λ k.
-    closed_few c.args.number c.args.connections.now.items c.args.place c.remove.result c.close.new.self.sending (count_at c.args.pool.now k) k
+    closed_few c.args.number c.args.connections.now.items c.args.place c.remove.result c.close.new.self.sending
+    (count_at c.args.pool.now k) k
     c.requires.there c.remove.ensures.value c.close.ensures.sources c.close.ensures.dropped (c.requires.counted k)
 
 pub returns-clause-releases : goal.returns-clause-releases
 returns-clause-releases c =
-    releases_closed c.args.number c.args.pool.now c.release_spent.new.pool c.args.connections.now.items c.remove.new.self.items c.args.place c.remove.result c.close.new.self.sending
-    c.requires.there c.remove.ensures.value c.remove.ensures.by_index.2 c.close.ensures.sources c.close.ensures.dropped c.release_spent.ensures.moves
+    releases_closed c.args.number c.args.pool.now c.release_spent.new.pool c.args.connections.now.items c.remove.new.self.items c.args.place
+    c.remove.result c.close.new.self.sending
+    c.requires.there c.remove.ensures.value c.remove.ensures.by_index.2 c.close.ensures.sources c.close.ensures.dropped
+    c.release_spent.ensures.moves

@@ -30,11 +30,13 @@ events-init c =
     let p = c.args.pool.now in
     let here = slots_of c.args.instance.now c.args.connections.now in
     record {
-      leads = leads_here (state_beside p c.args.parent.now c.args.instance.now) c.args.connections.now (after_due_on c.args.number) (text_at p);
+      leads = leads_here (state_beside p c.args.parent.now c.args.instance.now) c.args.connections.now (after_due_on c.args.number)
+          (text_at p);
       unread = refl;
       moves = moves_none p (holders_of here) (holders_of here) (λ k. refl);
       kept = c.requires.kept;
-      cuts = cut_leads_here (text_at p) (state_beside p c.args.parent.now c.args.instance.now) c.args.connections.now (due_events c.args.number);
+      cuts = cut_leads_here (text_at p) (state_beside p c.args.parent.now c.args.instance.now) c.args.connections.now
+          (due_events c.args.number);
       places = λ k. refl;
       others = refl;
       finds = finds_here p (others_of c.args.number c.args.connections.now);
@@ -51,13 +53,16 @@ happen-requires c =
     let ns = c.pop_event.new.connections in
     record {
       short = c.call_event_on-event.ensures.short;
-      kept = alike_writes c.events.pool c.events.instance os os ns ns refl refl c.pop_event.auto.connections c.events.invariant.kept c.pop_event.ensures.holds;
+      kept = alike_writes c.events.pool c.events.instance os os ns ns refl refl c.pop_event.auto.connections c.events.invariant.kept
+          c.pop_event.ensures.holds;
       beside =
           let p = c.args.pool.now in
           let q = c.events.pool in
           let first = slots_of c.args.instance.now c.args.connections.now in
           moved_beside p q c.args.parent.now first (slots_of c.events.instance ns)
-          (moves_trans p q q (holders_of first) (holders_of (slots_of c.events.instance os)) (holders_of (slots_of c.events.instance ns)) c.events.invariant.moves (alike_moves q c.events.instance (map connection_shown os) (map connection_shown ns) c.pop_event.ensures.holds))
+          (moves_trans p q q (holders_of first) (holders_of (slots_of c.events.instance os))
+          (holders_of (slots_of c.events.instance ns)) c.events.invariant.moves
+          (alike_moves q c.events.instance (map connection_shown os) (map connection_shown ns) c.pop_event.ensures.holds))
           c.requires.beside;
     }
 
@@ -69,7 +74,8 @@ events-smaller c =
     let xs = c.happen.new.connections in
     let at = c.events.invariant.places n ∙ c.requires.there in
     let there : present_at n os ≡ None → ⊥ = place_there n c.args.place os at in
-    let fewer : due_count n ns < due_count n os = changed_fewer (λ v. length v.due) n os ns (Pops (Some c.in-Some.event)) there (c.in-Some.ensures.event n at) (λ v w r. r.fewer) in
+    let fewer : due_count n ns < due_count n os =
+    changed_fewer (λ v. length v.due) n os ns (Pops (Some c.in-Some.event)) there (c.in-Some.ensures.event n at) (λ v w r. r.fewer) in
     subst (λ (m : ℕ). m < due_count n os) (sym (keeps_due n ns xs c.in_ok-happen.ensures.rest)) fewer
 
 pub events-preserved : goal.events-preserved
@@ -88,19 +94,28 @@ events-preserved c =
     let between = holders_of (slots_of c.events.instance ns) in
     let after = holders_of (slots_of c.happen.new.instance xs) in
     let what = event_shown c.call_event_on-event.result in
-    let on : IsCallOn n what = subst (λ (e : CallEventValue). IsCallOn n e) (sym c.call_event_on-event.ensures.event) (event_on n c.in-Some.event) in
+    let on : IsCallOn n what = subst (λ (e : CallEventValue). IsCallOn n e) (sym c.call_event_on-event.ensures.event)
+    (event_on n c.in-Some.event) in
     let same = c.pop_event.ensures.others n at ∙ c.events.invariant.others in
     record {
-      cuts = due_answered (text_at p) (text_at q) (text_at r) n (state_beside p c.args.parent.now c.args.instance.now) (state_beside q c.args.parent.now c.events.instance) (state_beside r c.args.parent.now c.happen.new.instance) c.args.connections.now os ns xs c.in-Some.event what
+      cuts = due_answered (text_at p) (text_at q) (text_at r) n (state_beside p c.args.parent.now c.args.instance.now)
+          (state_beside q c.args.parent.now c.events.instance)
+          (state_beside r c.args.parent.now c.happen.new.instance) c.args.connections.now os ns xs c.in-Some.event what
           c.events.invariant.cuts (c.in-Some.ensures.event n at) there c.call_event_on-event.ensures.event c.in_ok-happen.ensures.happened;
       places = λ m. c.happen.ensures.places m ∙ (c.pop_event.ensures.places m ∙ c.events.invariant.places m);
       others = c.happen.ensures.others n on ∙ same;
-      finds = finds_trans p q r (others_of n c.args.connections.now) (others_of n ns) same c.events.invariant.finds (c.happen.ensures.finds n on);
-      leads = due_leads (text_at p) (text_at q) (text_at r) n (state_beside p c.args.parent.now c.args.instance.now) (state_beside q c.args.parent.now c.events.instance) (state_beside r c.args.parent.now c.happen.new.instance) c.args.connections.now os ns xs c.in-Some.event (event_shown c.call_event_on-event.result)
+      finds = finds_trans p q r (others_of n c.args.connections.now) (others_of n ns) same c.events.invariant.finds
+          (c.happen.ensures.finds n on);
+      leads = due_leads (text_at p) (text_at q) (text_at r) n (state_beside p c.args.parent.now c.args.instance.now)
+          (state_beside q c.args.parent.now c.events.instance)
+          (state_beside r c.args.parent.now c.happen.new.instance) c.args.connections.now os ns xs c.in-Some.event
+          (event_shown c.call_event_on-event.result)
           c.events.invariant.leads (c.in-Some.ensures.event n at) there c.call_event_on-event.ensures.event c.in_ok-happen.ensures.happened;
-      unread = keeps_unread n ns xs c.in_ok-happen.ensures.rest ∙ popped_unread n os ns (Some c.in-Some.event) (c.in-Some.ensures.event n at) ∙ c.events.invariant.unread;
+      unread = keeps_unread n ns xs c.in_ok-happen.ensures.rest
+          ∙ popped_unread n os ns (Some c.in-Some.event) (c.in-Some.ensures.event n at) ∙ c.events.invariant.unread;
       moves = moves_trans p q r first before after c.events.invariant.moves
-          (moves_trans q q r before between after (alike_moves q c.events.instance (map connection_shown os) (map connection_shown ns) c.pop_event.ensures.holds) c.happen.ensures.moves);
+          (moves_trans q q r before between after (alike_moves q c.events.instance (map connection_shown os)
+          (map connection_shown ns) c.pop_event.ensures.holds) c.happen.ensures.moves);
       kept = c.happen.ensures.kept;
     }
 
@@ -112,16 +127,21 @@ returns c =
     let os = c.events.connections in
     let ns = c.pop_event.new.connections in
     let at = c.events.invariant.places n ∙ c.requires.there in
-    let popped : BecomesAt n os ns (Pops None) = subst (λ (o : Option CallEvent). BecomesAt n os ns (Pops o)) c.in_default.is (c.pop_event.ensures.event n at) in
+    let popped : BecomesAt n os ns (Pops None) = subst (λ (o : Option CallEvent). BecomesAt n os ns (Pops o)) c.in_default.is
+    (c.pop_event.ensures.event n at) in
     let first = holders_of (slots_of c.args.instance.now c.args.connections.now) in
     let before = holders_of (slots_of c.events.instance os) in
     let after = holders_of (slots_of c.events.instance ns) in
     record {
-      due = leads_acts_by (text_at p) (text_at q) (text_at q) (state_beside p c.args.parent.now c.args.instance.now) (state_beside q c.args.parent.now c.events.instance) (state_beside q c.args.parent.now c.events.instance) c.args.connections.now os ns (after_due_on n) (after_due_on n)
+      due = leads_acts_by (text_at p) (text_at q) (text_at q) (state_beside p c.args.parent.now c.args.instance.now)
+          (state_beside q c.args.parent.now c.events.instance)
+          (state_beside q c.args.parent.now c.events.instance) c.args.connections.now os ns (after_due_on n) (after_due_on n)
           c.events.invariant.leads (popped_all n (state_beside q c.args.parent.now c.events.instance) os ns popped (text_at q));
       unread = popped_unread n os ns None popped ∙ c.events.invariant.unread;
-      moves = moves_trans p q q first before after c.events.invariant.moves (alike_moves q c.events.instance (map connection_shown os) (map connection_shown ns) c.pop_event.ensures.holds);
-      kept = alike_writes q c.events.instance os os ns ns refl refl c.pop_event.auto.connections c.events.invariant.kept c.pop_event.ensures.holds;
+      moves = moves_trans p q q first before after c.events.invariant.moves
+          (alike_moves q c.events.instance (map connection_shown os) (map connection_shown ns) c.pop_event.ensures.holds);
+      kept = alike_writes q c.events.instance os os ns ns refl refl c.pop_event.auto.connections c.events.invariant.kept
+          c.pop_event.ensures.holds;
       memory = tt;
       places = λ m. c.pop_event.ensures.places m ∙ c.events.invariant.places m;
       others = c.pop_event.ensures.others n at ∙ c.events.invariant.others;
@@ -140,7 +160,8 @@ returns-in_err-happen-clause-moves c =
     let between = holders_of (slots_of c.events.instance ns) in
     let after = holders_of (slots_of c.happen.new.instance c.happen.new.connections) in
     moves_trans p q r first before after c.events.invariant.moves
-    (moves_trans q q r before between after (alike_moves q c.events.instance (map connection_shown os) (map connection_shown ns) c.pop_event.ensures.holds) c.happen.ensures.moves)
+    (moves_trans q q r before between after (alike_moves q c.events.instance (map connection_shown os)
+    (map connection_shown ns) c.pop_event.ensures.holds) c.happen.ensures.moves)
 
 pub returns-in_err-happen-clause-memory : goal.returns-in_err-happen-clause-memory
 returns-in_err-happen-clause-memory c =
@@ -153,22 +174,29 @@ returns-in_err-happen-clause-memory c =
     let at = c.events.invariant.places n ∙ c.requires.there in
     let there : present_at n os ≡ None → ⊥ = place_there n c.args.place os at in
     on_err c.from_residual.result
-    (due_refused (text_at p) (text_at q) n (state_beside p c.args.parent.now c.args.instance.now) (state_beside q c.args.parent.now c.events.instance) (state_beside r c.args.parent.now c.happen.new.instance) c.args.connections.now os ns c.in-Some.event (event_shown c.call_event_on-event.result)
+    (due_refused (text_at p) (text_at q) n (state_beside p c.args.parent.now c.args.instance.now)
+    (state_beside q c.args.parent.now c.events.instance)
+    (state_beside r c.args.parent.now c.happen.new.instance) c.args.connections.now os ns c.in-Some.event
+    (event_shown c.call_event_on-event.result)
     c.events.invariant.cuts (c.in-Some.ensures.event n at) there c.call_event_on-event.ensures.event c.in_err-happen.ensures.memory)
 
 pub returns-in_err-happen-clause-others : goal.returns-in_err-happen-clause-others
 returns-in_err-happen-clause-others c =
     let n = c.args.number in
     let at = c.events.invariant.places n ∙ c.requires.there in
-    let on : IsCallOn n (event_shown c.call_event_on-event.result) = subst (λ (e : CallEventValue). IsCallOn n e) (sym c.call_event_on-event.ensures.event) (event_on n c.in-Some.event) in
+    let on : IsCallOn n (event_shown c.call_event_on-event.result) =
+    subst (λ (e : CallEventValue). IsCallOn n e) (sym c.call_event_on-event.ensures.event) (event_on n c.in-Some.event) in
     c.happen.ensures.others n on ∙ (c.pop_event.ensures.others n at ∙ c.events.invariant.others)
 
 pub returns-in_err-happen-clause-finds : goal.returns-in_err-happen-clause-finds
 returns-in_err-happen-clause-finds c =
     let n = c.args.number in
     let at = c.events.invariant.places n ∙ c.requires.there in
-    let on : IsCallOn n (event_shown c.call_event_on-event.result) = subst (λ (e : CallEventValue). IsCallOn n e) (sym c.call_event_on-event.ensures.event) (event_on n c.in-Some.event) in
-    finds_trans c.args.pool.now c.events.pool c.happen.new.pool (others_of n c.args.connections.now) (others_of n c.pop_event.new.connections) (c.pop_event.ensures.others n at ∙ c.events.invariant.others) c.events.invariant.finds (c.happen.ensures.finds n on)
+    let on : IsCallOn n (event_shown c.call_event_on-event.result) =
+    subst (λ (e : CallEventValue). IsCallOn n e) (sym c.call_event_on-event.ensures.event) (event_on n c.in-Some.event) in
+    finds_trans c.args.pool.now c.events.pool c.happen.new.pool (others_of n c.args.connections.now)
+    (others_of n c.pop_event.new.connections) (c.pop_event.ensures.others n at ∙ c.events.invariant.others) c.events.invariant.finds
+    (c.happen.ensures.finds n on)
 
 pub returns-in_err-happen-clause-places : goal.returns-in_err-happen-clause-places
 returns-in_err-happen-clause-places c = λ m. c.happen.ensures.places m ∙ (c.pop_event.ensures.places m ∙ c.events.invariant.places m)

@@ -10,7 +10,9 @@ use Rattle.served_instance.proofs.calls.give_up.Given as goal
 
 abbrev pub invariant-calls : goal.invariant-calls
 invariant-calls l = record {
-  leads : (p : Slots) (seen : List Blob) (others : List OpenConnection) → LeadsOn (seeing seen (state_in p l.fn.instance)) others (seeing seen (state_in p l.instance)) others (after_call_events l.number (cancels_of l.initial.closed)) (after_call_events l.number (cancels_of l.closed));
+  leads : (p : Slots) (seen : List Blob) (others : List OpenConnection) →
+      LeadsOn (seeing seen (state_in p l.fn.instance)) others (seeing seen (state_in p l.instance)) others
+      (after_call_events l.number (cancels_of l.initial.closed)) (after_call_events l.number (cancels_of l.closed));
   holders : (k : ℕ) → holders_of_instance l.instance k ≡ holders_of_instance l.fn.instance k;
   kept : (p : Slots) → IsInstanceInPool p l.fn.instance → IsInstanceInPool p l.instance;
 }

@@ -48,7 +48,8 @@ returns-in-One-clause-forgotten c =
     let q = c.break_off.new.pool in
     let j = c.break_off.new.instance in
     let xs = c.break_off.new.connections.items in
-    left_state p q i j os xs (λ s. let t : InstanceState = record s { calls = calls_apart c.in-One.number s.calls } in t) c.requires c.break_off.ensures.releases c.break_off.ensures.forgotten
+    left_state p q i j os xs (λ s. let t : InstanceState = record s { calls = calls_apart c.in-One.number s.calls } in t) c.requires
+    c.break_off.ensures.releases c.break_off.ensures.forgotten
     ∙ sym (ap (λ (b : Broken). state_without b (state_in p i)) c.in-One.is)
 
 pub returns-in-One-clause-finds : goal.returns-in-One-clause-finds
@@ -78,7 +79,8 @@ returns-in-One-clause-kept c =
     let q = c.break_off.new.pool in
     let j = c.break_off.new.instance in
     let xs = c.break_off.new.connections.items in
-    left_kept p q i j os xs c.requires c.break_off.ensures.releases c.break_off.ensures.holders c.break_off.ensures.kept c.break_off.ensures.fewer
+    left_kept p q i j os xs c.requires c.break_off.ensures.releases c.break_off.ensures.holders c.break_off.ensures.kept
+    c.break_off.ensures.fewer
 
 pub returns-in-All-clause-left : goal.returns-in-All-clause-left
 returns-in-All-clause-left c =
@@ -92,7 +94,8 @@ returns-in-All-clause-forgotten c =
     let q = c.break_off_all.new.pool in
     let j = c.break_off_all.new.instance in
     let xs = c.break_off_all.new.connections.items in
-    left_state p q i j os xs (λ s. let t : InstanceState = record s { calls = [] } in t) c.requires c.break_off_all.ensures.releases c.break_off_all.ensures.forgotten
+    left_state p q i j os xs (λ s. let t : InstanceState = record s { calls = [] } in t) c.requires c.break_off_all.ensures.releases
+    c.break_off_all.ensures.forgotten
     ∙ sym (ap (λ (b : Broken). state_without b (state_in p i)) c.in-All.is)
 
 pub returns-in-All-clause-finds : goal.returns-in-All-clause-finds
@@ -122,7 +125,8 @@ returns-in-All-clause-kept c =
     let q = c.break_off_all.new.pool in
     let j = c.break_off_all.new.instance in
     let xs = c.break_off_all.new.connections.items in
-    left_kept p q i j os xs c.requires c.break_off_all.ensures.releases c.break_off_all.ensures.holders c.break_off_all.ensures.kept (let none = ap length c.break_off_all.ensures.left in omega (arith, none))
+    left_kept p q i j os xs c.requires c.break_off_all.ensures.releases c.break_off_all.ensures.holders c.break_off_all.ensures.kept
+    (let none = ap length c.break_off_all.ensures.left in omega (arith, none))
 
 pub forget_job-requires : goal.forget_job-requires
 forget_job-requires c =
@@ -133,7 +137,9 @@ forget_job-requires c =
     let j = c.break_off_all-in-AllAndJob.new.instance in
     let xs = c.break_off_all-in-AllAndJob.new.connections.items in
     let none = ap length c.break_off_all-in-AllAndJob.ensures.left in
-    let kept : IsServedInPool q (slots_of j xs) = left_kept p q i j os xs c.requires c.break_off_all-in-AllAndJob.ensures.releases c.break_off_all-in-AllAndJob.ensures.holders c.break_off_all-in-AllAndJob.ensures.kept (omega (arith, none)) in
+    let kept : IsServedInPool q (slots_of j xs) =
+    left_kept p q i j os xs c.requires c.break_off_all-in-AllAndJob.ensures.releases c.break_off_all-in-AllAndJob.ensures.holders
+    c.break_off_all-in-AllAndJob.ensures.kept (omega (arith, none)) in
     let here = slots_of j xs in
     record { kept = instance_kept q here here refl kept }
 
@@ -150,7 +156,9 @@ returns-in-AllAndJob-clause-forgotten c =
     let j = c.break_off_all-in-AllAndJob.new.instance in
     let xs = c.break_off_all-in-AllAndJob.new.connections.items in
     c.forget_job.ensures.changed
-    ∙ ap (without_job c.in-AllAndJob.job) (left_state p q i j os xs (λ s. let t : InstanceState = record s { calls = [] } in t) c.requires c.break_off_all-in-AllAndJob.ensures.releases c.break_off_all-in-AllAndJob.ensures.forgotten)
+    ∙ ap (without_job c.in-AllAndJob.job) (left_state p q i j os xs
+    (λ s. let t : InstanceState = record s { calls = [] } in t) c.requires c.break_off_all-in-AllAndJob.ensures.releases
+    c.break_off_all-in-AllAndJob.ensures.forgotten)
     ∙ sym (ap (λ (b : Broken). state_without b (state_in p i)) c.in-AllAndJob.is)
 
 pub returns-in-AllAndJob-clause-finds : goal.returns-in-AllAndJob-clause-finds
@@ -162,10 +170,13 @@ returns-in-AllAndJob-clause-finds c =
     let j = c.break_off_all-in-AllAndJob.new.instance in
     let xs = c.break_off_all-in-AllAndJob.new.connections.items in
     let none = ap length c.break_off_all-in-AllAndJob.ensures.left in
-    let kept : IsServedInPool q (slots_of j xs) = left_kept p q i j os xs c.requires c.break_off_all-in-AllAndJob.ensures.releases c.break_off_all-in-AllAndJob.ensures.holders c.break_off_all-in-AllAndJob.ensures.kept (omega (arith, none)) in
+    let kept : IsServedInPool q (slots_of j xs) =
+    left_kept p q i j os xs c.requires c.break_off_all-in-AllAndJob.ensures.releases c.break_off_all-in-AllAndJob.ensures.holders
+    c.break_off_all-in-AllAndJob.ensures.kept (omega (arith, none)) in
     let r = c.forget_job.new.pool in
     let k = c.forget_job.new.self in
-    finds_trans p q r xs xs refl (release_finds p q i (map connection_shown os) (map connection_shown xs) c.requires c.break_off_all-in-AllAndJob.ensures.releases)
+    finds_trans p q r xs xs refl (release_finds p q i (map connection_shown os)
+    (map connection_shown xs) c.requires c.break_off_all-in-AllAndJob.ensures.releases)
     (admitted_finds q r j k xs kept c.forget_job.ensures.moves c.forget_job.ensures.kept.within)
 
 pub returns-in-AllAndJob-clause-moves : goal.returns-in-AllAndJob-clause-moves
@@ -177,10 +188,13 @@ returns-in-AllAndJob-clause-moves c =
     let j = c.break_off_all-in-AllAndJob.new.instance in
     let xs = c.break_off_all-in-AllAndJob.new.connections.items in
     let none = ap length c.break_off_all-in-AllAndJob.ensures.left in
-    let kept : IsServedInPool q (slots_of j xs) = left_kept p q i j os xs c.requires c.break_off_all-in-AllAndJob.ensures.releases c.break_off_all-in-AllAndJob.ensures.holders c.break_off_all-in-AllAndJob.ensures.kept (omega (arith, none)) in
+    let kept : IsServedInPool q (slots_of j xs) =
+    left_kept p q i j os xs c.requires c.break_off_all-in-AllAndJob.ensures.releases c.break_off_all-in-AllAndJob.ensures.holders
+    c.break_off_all-in-AllAndJob.ensures.kept (omega (arith, none)) in
     let r = c.forget_job.new.pool in
     let k = c.forget_job.new.self in
-    moves_trans p q r (holders_of (slots_of i os)) (holders_of (slots_of j xs)) (holders_of (slots_of k xs)) (left_moves p q i j os xs c.break_off_all-in-AllAndJob.ensures.releases c.break_off_all-in-AllAndJob.ensures.holders)
+    moves_trans p q r (holders_of (slots_of i os)) (holders_of (slots_of j xs)) (holders_of (slots_of k xs))
+    (left_moves p q i j os xs c.break_off_all-in-AllAndJob.ensures.releases c.break_off_all-in-AllAndJob.ensures.holders)
     (admitted_moves q r j k xs kept c.forget_job.ensures.moves c.forget_job.ensures.kept.within)
 
 pub returns-in-AllAndJob-clause-kept : goal.returns-in-AllAndJob-clause-kept
@@ -192,7 +206,9 @@ returns-in-AllAndJob-clause-kept c =
     let j = c.break_off_all-in-AllAndJob.new.instance in
     let xs = c.break_off_all-in-AllAndJob.new.connections.items in
     let none = ap length c.break_off_all-in-AllAndJob.ensures.left in
-    let kept : IsServedInPool q (slots_of j xs) = left_kept p q i j os xs c.requires c.break_off_all-in-AllAndJob.ensures.releases c.break_off_all-in-AllAndJob.ensures.holders c.break_off_all-in-AllAndJob.ensures.kept (omega (arith, none)) in
+    let kept : IsServedInPool q (slots_of j xs) =
+    left_kept p q i j os xs c.requires c.break_off_all-in-AllAndJob.ensures.releases c.break_off_all-in-AllAndJob.ensures.holders
+    c.break_off_all-in-AllAndJob.ensures.kept (omega (arith, none)) in
     let r = c.forget_job.new.pool in
     let k = c.forget_job.new.self in
     admitted_kept q r j k xs kept c.forget_job.ensures.moves c.forget_job.ensures.kept.within

@@ -10,9 +10,11 @@ pub release_all-requires : goal.release_all-requires
 release_all-requires c = λ k. omega (arith, c.pump_each.ensures.holds.sources k, c.requires.counted k)
 
 pub returns-clause-stands : goal.returns-clause-stands
-returns-clause-stands c = λ ks s. c.release_all.ensures.stands (text_at c.args.pool.now) (open_ones (at_all_open with_pumped ks)) (c.pump_each.ensures.stands ks s)
+returns-clause-stands c = λ ks s. c.release_all.ensures.stands (text_at c.args.pool.now) (open_ones (at_all_open with_pumped ks))
+    (c.pump_each.ensures.stands ks s)
 
 pub returns-clause-releases : goal.returns-clause-releases
 returns-clause-releases c =
-    alike_releases c.args.pool.now c.release_all.new.pool (map connection_shown c.args.connections.now) (map connection_shown c.pump_each.new.connections) (map connection_shown c.release_all.new.connections)
+    alike_releases c.args.pool.now c.release_all.new.pool (map connection_shown c.args.connections.now)
+    (map connection_shown c.pump_each.new.connections) (map connection_shown c.release_all.new.connections)
     c.pump_each.ensures.holds c.release_all.ensures.releases

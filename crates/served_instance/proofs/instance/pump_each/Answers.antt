@@ -13,7 +13,10 @@ loop-kept-init c = record { pumped = refl; holds = alike_here (map connection_sh
 pub pump-requires : goal.pump-requires
 pump-requires c =
     let p = c.args.pool.now in
-    record { fit = fit_at (text_at p) c.loop-kept.connections c.loop-kept.kept-index c.kept-item.result (omega arith) (c.loop-kept.invariant.holds.fit (text_at p) c.requires) }
+    record {
+      fit = fit_at (text_at p) c.loop-kept.connections c.loop-kept.kept-index c.kept-item.result (omega arith)
+          (c.loop-kept.invariant.holds.fit (text_at p) c.requires);
+    }
 
 pub loop-kept-preserved : goal.loop-kept-preserved
 loop-kept-preserved c =
@@ -27,12 +30,14 @@ loop-kept-preserved c =
     let h : Pumps texts x w = (refl, c.pump.ensures.stands) in
     record {
       pumped = rw add-one (pumped_more texts i os ns c.kept-item.result w lt h c.loop-kept.invariant.pumped);
-      holds = alike_trans (map connection_shown os) (map connection_shown ns) (map connection_shown (set ns i w)) c.loop-kept.invariant.holds
+      holds = alike_trans (map connection_shown os) (map connection_shown ns)
+          (map connection_shown (set ns i w)) c.loop-kept.invariant.holds
           (alike_set ns i c.kept-item.result w lt (record { sources = c.pump.ensures.sources; fit = c.pump.ensures.fit }));
     }
 
 pub returns-clause-stands : goal.returns-clause-stands
-returns-clause-stands c = pump_serves (text_at c.args.pool.now) c.loop-kept.kept-index c.args.connections.now c.loop-kept.connections (omega arith) c.loop-kept.invariant.pumped
+returns-clause-stands c = pump_serves (text_at c.args.pool.now) c.loop-kept.kept-index c.args.connections.now c.loop-kept.connections
+    (omega arith) c.loop-kept.invariant.pumped
 
 pub returns-clause-holds : goal.returns-clause-holds
 returns-clause-holds c = c.loop-kept.invariant.holds

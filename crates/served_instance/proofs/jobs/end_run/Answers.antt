@@ -31,7 +31,8 @@ settle-requires-clause-can c =
 
 pub settle-requires-clause-kept : goal.settle-requires-clause-kept
 settle-requires-clause-kept c =
-    admitted_kept c.args.pool.now c.ready_end.new.pool c.args.instance.now c.ready_end.new.self c.args.connections.now c.requires.kept c.ready_end.ensures.moves c.ready_end.ensures.within
+    admitted_kept c.args.pool.now c.ready_end.new.pool c.args.instance.now c.ready_end.new.self c.args.connections.now c.requires.kept
+    c.ready_end.ensures.moves c.ready_end.ensures.within
 
 pub returns-clause-acted : goal.returns-clause-acted
 returns-clause-acted c =
@@ -48,9 +49,18 @@ returns-clause-acted c =
     let ss = steps_shown c.in_ok-turn.turn.steps.items in
     let ready = c.in_ok-turn.ensures.ready q in
     let first = admitted_moves p q i j os c.requires.kept c.ready_end.ensures.moves c.ready_end.ensures.within in
-    let moves : Moves p r (holders_of (slots_of i os)) (holders_of (slots_of k ns)) = moves_trans p q r (holders_of (slots_of i os)) (holders_of (slots_of j os)) (holders_of (slots_of k ns)) first c.settle.ensures.moves in
-    let had : HasAdmitted n outcome p q i j os = record { kept = c.requires.kept; moves = c.ready_end.ensures.moves; within = c.ready_end.ensures.within; after = c.in_ok-turn.ensures.changed } in
-    end_acts c.settle.result n outcome p q r i j k os ns c.in_ok-turn.turn.replies.items ss had ready.replies ready.steps moves c.settle.ensures.texts c.settle.ensures.told c.settle.ensures.settled
+    let moves : Moves p r (holders_of (slots_of i os)) (holders_of (slots_of k ns)) =
+    moves_trans p q r (holders_of (slots_of i os)) (holders_of (slots_of j os))
+    (holders_of (slots_of k ns)) first c.settle.ensures.moves in
+    let had : HasAdmitted n outcome p q i j os = record {
+      kept = c.requires.kept;
+      moves = c.ready_end.ensures.moves;
+      within = c.ready_end.ensures.within;
+      after =
+          c.in_ok-turn.ensures.changed;
+    } in
+    end_acts c.settle.result n outcome p q r i j k os ns c.in_ok-turn.turn.replies.items ss had ready.replies ready.steps moves
+    c.settle.ensures.texts c.settle.ensures.told c.settle.ensures.settled
 
 pub returns-clause-orders : goal.returns-clause-orders
 returns-clause-orders c =
@@ -65,7 +75,8 @@ returns-clause-orders c =
     let k = c.settle.new.instance in
     let ss = steps_shown c.in_ok-turn.turn.steps.items in
     let ready = c.in_ok-turn.ensures.ready q in
-    end_ordered c.settle.result n outcome p q r i j k os ss c.in_ok-turn.turn.orders c.in_ok-turn.ensures.changed ready.orders ready.steps c.settle.ensures.settled c.settle.ensures.orders
+    end_ordered c.settle.result n outcome p q r i j k os ss c.in_ok-turn.turn.orders c.in_ok-turn.ensures.changed ready.orders ready.steps
+    c.settle.ensures.settled c.settle.ensures.orders
 
 pub returns-clause-memory : goal.returns-clause-memory
 returns-clause-memory c =
@@ -80,8 +91,11 @@ returns-clause-memory c =
     let k = c.settle.new.instance in
     let ns = c.settle.new.connections in
     let first = admitted_moves p q i j os c.requires.kept c.ready_end.ensures.moves c.ready_end.ensures.within in
-    let moves : Moves p r (holders_of (slots_of i os)) (holders_of (slots_of k ns)) = moves_trans p q r (holders_of (slots_of i os)) (holders_of (slots_of j os)) (holders_of (slots_of k ns)) first c.settle.ensures.moves in
-    err_map c.settle.result (λ same. end_cut n outcome p r i k os ns moves (all_made (state_in p i) (state_in q j) (state_in r k) n outcome c.in_ok-turn.ensures.changed same)) c.settle.ensures.err
+    let moves : Moves p r (holders_of (slots_of i os)) (holders_of (slots_of k ns)) =
+    moves_trans p q r (holders_of (slots_of i os)) (holders_of (slots_of j os))
+    (holders_of (slots_of k ns)) first c.settle.ensures.moves in
+    err_map c.settle.result (λ same. end_cut n outcome p r i k os ns moves
+    (all_made (state_in p i) (state_in q j) (state_in r k) n outcome c.in_ok-turn.ensures.changed same)) c.settle.ensures.err
 
 pub returns-in_err-turn-clause-memory : goal.returns-in_err-turn-clause-memory
 returns-in_err-turn-clause-memory c =
@@ -110,7 +124,8 @@ returns-clause-moves c =
 
 pub returns-in_err-turn-clause-moves : goal.returns-in_err-turn-clause-moves
 returns-in_err-turn-clause-moves c =
-    admitted_moves c.args.pool.now c.ready_end.new.pool c.args.instance.now c.ready_end.new.self c.args.connections.now c.requires.kept c.ready_end.ensures.moves c.ready_end.ensures.within
+    admitted_moves c.args.pool.now c.ready_end.new.pool c.args.instance.now c.ready_end.new.self c.args.connections.now c.requires.kept
+    c.ready_end.ensures.moves c.ready_end.ensures.within
 
 pub returns-clause-kept : goal.returns-clause-kept
 returns-clause-kept c =
@@ -124,8 +139,11 @@ returns-clause-kept c =
     let ss = steps_shown c.in_ok-turn.turn.steps.items in
     let ready = c.in_ok-turn.ensures.ready q in
     c.settle.ensures.kept
-    (end_within c.settle.result (state_in p i) (state_in q j) (state_in c.settle.new.pool c.settle.new.instance) n outcome ss c.in_ok-turn.ensures.after c.ready_end.ensures.within c.in_ok-turn.ensures.changed ready.steps c.settle.ensures.settled c.settle.ensures.err)
+    (end_within c.settle.result (state_in p i) (state_in q j)
+    (state_in c.settle.new.pool c.settle.new.instance) n outcome ss c.in_ok-turn.ensures.after c.ready_end.ensures.within
+    c.in_ok-turn.ensures.changed ready.steps c.settle.ensures.settled c.settle.ensures.err)
 
 pub returns-in_err-turn-clause-kept : goal.returns-in_err-turn-clause-kept
 returns-in_err-turn-clause-kept c =
-    admitted_kept c.args.pool.now c.ready_end.new.pool c.args.instance.now c.ready_end.new.self c.args.connections.now c.requires.kept c.ready_end.ensures.moves c.ready_end.ensures.within
+    admitted_kept c.args.pool.now c.ready_end.new.pool c.args.instance.now c.ready_end.new.self c.args.connections.now c.requires.kept
+    c.ready_end.ensures.moves c.ready_end.ensures.within

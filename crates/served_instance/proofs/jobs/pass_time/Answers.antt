@@ -51,7 +51,9 @@ returns-clause-acted c =
     let ns = c.settle.new.connections in
     let ss = steps_shown c.in_ok-turn.turn.steps.items in
     let ready = c.in_ok-turn.ensures.ready p in
-    late_ends_act c.settle.result p q i j k os ns c.in_ok-turn.turn.replies.items ss c.tick.ensures.holders (c.tick.ensures.changed p) ready.replies ready.steps c.settle.ensures.moves c.settle.ensures.texts c.settle.ensures.told c.settle.ensures.settled
+    late_ends_act c.settle.result p q i j k os ns c.in_ok-turn.turn.replies.items ss c.tick.ensures.holders
+    (c.tick.ensures.changed p) ready.replies ready.steps c.settle.ensures.moves c.settle.ensures.texts c.settle.ensures.told
+    c.settle.ensures.settled
 
 pub returns-clause-orders : goal.returns-clause-orders
 returns-clause-orders c =
@@ -63,7 +65,8 @@ returns-clause-orders c =
     let k = c.settle.new.instance in
     let ss = steps_shown c.in_ok-turn.turn.steps.items in
     let ready = c.in_ok-turn.ensures.ready p in
-    late_ends_ordered c.settle.result p q i j k os ss c.in_ok-turn.turn.orders (c.tick.ensures.changed p) ready.orders ready.steps c.settle.ensures.settled c.settle.ensures.orders
+    late_ends_ordered c.settle.result p q i j k os ss c.in_ok-turn.turn.orders
+    (c.tick.ensures.changed p) ready.orders ready.steps c.settle.ensures.settled c.settle.ensures.orders
 
 pub returns-clause-memory : goal.returns-clause-memory
 returns-clause-memory c =
@@ -74,7 +77,8 @@ returns-clause-memory c =
     let q = c.settle.new.pool in
     let k = c.settle.new.instance in
     let ns = c.settle.new.connections in
-    err_map c.settle.result (λ same. late_ends_cut p q i j k os ns c.tick.ensures.holders (c.tick.ensures.changed p) c.settle.ensures.moves same) c.settle.ensures.err
+    err_map c.settle.result (λ same. late_ends_cut p q i j k os ns c.tick.ensures.holders
+    (c.tick.ensures.changed p) c.settle.ensures.moves same) c.settle.ensures.err
 
 pub returns-in_err-turn-clause-memory : goal.returns-in_err-turn-clause-memory
 returns-in_err-turn-clause-memory c =
@@ -83,7 +87,8 @@ returns-in_err-turn-clause-memory c =
     let j = c.tick.new.self in
     let os = c.args.connections.now in
     on_err c.from_residual.result
-    (late_ends_cut p p i j j os os c.tick.ensures.holders (c.tick.ensures.changed p) (moves_none p (holders_of (slots_of j os)) (holders_of (slots_of j os)) (λ n. refl)) refl)
+    (late_ends_cut p p i j j os os c.tick.ensures.holders (c.tick.ensures.changed p)
+    (moves_none p (holders_of (slots_of j os)) (holders_of (slots_of j os)) (λ n. refl)) refl)
 
 pub returns-clause-moves : goal.returns-clause-moves
 returns-clause-moves c =
@@ -94,7 +99,8 @@ returns-clause-moves c =
     let q = c.settle.new.pool in
     let k = c.settle.new.instance in
     let ns = c.settle.new.connections in
-    let first : Moves p p (holders_of (slots_of i os)) (holders_of (slots_of j os)) = moves_none p (holders_of (slots_of i os)) (holders_of (slots_of j os)) (λ n. omega (arith, c.tick.ensures.holders n)) in
+    let first : Moves p p (holders_of (slots_of i os)) (holders_of (slots_of j os)) =
+    moves_none p (holders_of (slots_of i os)) (holders_of (slots_of j os)) (λ n. omega (arith, c.tick.ensures.holders n)) in
     moves_trans p p q (holders_of (slots_of i os)) (holders_of (slots_of j os)) (holders_of (slots_of k ns)) first c.settle.ensures.moves
 
 pub returns-in_err-turn-clause-moves : goal.returns-in_err-turn-clause-moves
@@ -103,7 +109,8 @@ returns-in_err-turn-clause-moves c =
     let i = c.args.instance.now in
     let j = c.tick.new.self in
     let os = c.args.connections.now in
-    let first : Moves p p (holders_of (slots_of i os)) (holders_of (slots_of j os)) = moves_none p (holders_of (slots_of i os)) (holders_of (slots_of j os)) (λ n. omega (arith, c.tick.ensures.holders n)) in
+    let first : Moves p p (holders_of (slots_of i os)) (holders_of (slots_of j os)) =
+    moves_none p (holders_of (slots_of i os)) (holders_of (slots_of j os)) (λ n. omega (arith, c.tick.ensures.holders n)) in
     first
 
 pub returns-clause-kept : goal.returns-clause-kept
@@ -117,7 +124,8 @@ returns-clause-kept c =
     let ss = steps_shown c.in_ok-turn.turn.steps.items in
     let ready = c.in_ok-turn.ensures.ready p in
     c.settle.ensures.kept
-    (late_ends_within c.settle.result (state_in p j) (state_in c.settle.new.pool c.settle.new.instance) ss own.within ready.steps c.settle.ensures.settled c.settle.ensures.err)
+    (late_ends_within c.settle.result (state_in p j)
+    (state_in c.settle.new.pool c.settle.new.instance) ss own.within ready.steps c.settle.ensures.settled c.settle.ensures.err)
 
 pub returns-in_err-turn-clause-kept : goal.returns-in_err-turn-clause-kept
 returns-in_err-turn-clause-kept c =

@@ -21,7 +21,8 @@ pub settle-requires-clause-can : goal.settle-requires-clause-can
 settle-requires-clause-can c =
     let q = c.receive.new.pool in
     let ready = c.in_ok-turn.ensures.ready q in
-    starts_can (state_in q c.receive.new.instance) (steps_shown c.in_ok-turn.turn.steps.items) c.receive.ensures.kept.within.instance ready.steps
+    starts_can (state_in q c.receive.new.instance)
+    (steps_shown c.in_ok-turn.turn.steps.items) c.receive.ensures.kept.within.instance ready.steps
 
 pub returns-clause-acted : goal.returns-clause-acted
 returns-clause-acted c =
@@ -38,9 +39,18 @@ returns-clause-acted c =
     let k = c.settle.new.instance in
     let xs = c.settle.new.connections in
     let ss = steps_shown c.in_ok-turn.turn.steps.items in
-    let come : HaveCome n bytes parent p q i j os ns = record { kept = c.requires.kept; beside = c.requires.beside; moves = c.receive.ensures.moves; after = c.receive.ensures.kept; acts = c.in_ok-receive.ensures.came } in
+    let come : HaveCome n bytes parent p q i j os ns =
+    record {
+      kept = c.requires.kept;
+      beside = c.requires.beside;
+      moves = c.receive.ensures.moves;
+      after = c.receive.ensures.kept;
+      acts =
+          c.in_ok-receive.ensures.came;
+    } in
     let ready = c.in_ok-turn.ensures.ready q in
-    starts_act c.settle.result n bytes parent p q r i j k os ns xs c.in_ok-turn.turn.replies.items ss come ready.replies ready.steps c.settle.ensures.moves c.settle.ensures.texts c.settle.ensures.told c.settle.ensures.settled
+    starts_act c.settle.result n bytes parent p q r i j k os ns xs c.in_ok-turn.turn.replies.items ss come ready.replies ready.steps
+    c.settle.ensures.moves c.settle.ensures.texts c.settle.ensures.told c.settle.ensures.settled
 
 pub returns-clause-orders : goal.returns-clause-orders
 returns-clause-orders c =
@@ -58,7 +68,8 @@ returns-clause-orders c =
     let xs = c.settle.new.connections in
     let ss = steps_shown c.in_ok-turn.turn.steps.items in
     let ready = c.in_ok-turn.ensures.ready q in
-    starts_ordered c.settle.result n bytes parent p q r i j k os ns ss c.in_ok-turn.turn.orders c.in_ok-receive.ensures.came ready.orders ready.steps c.settle.ensures.settled c.settle.ensures.orders
+    starts_ordered c.settle.result n bytes parent p q r i j k os ns ss c.in_ok-turn.turn.orders c.in_ok-receive.ensures.came ready.orders
+    ready.steps c.settle.ensures.settled c.settle.ensures.orders
 
 pub returns-clause-memory : goal.returns-clause-memory
 returns-clause-memory c =
@@ -75,7 +86,15 @@ returns-clause-memory c =
     let k = c.settle.new.instance in
     let xs = c.settle.new.connections in
     let ss = steps_shown c.in_ok-turn.turn.steps.items in
-    let come : HaveCome n bytes parent p q i j os ns = record { kept = c.requires.kept; beside = c.requires.beside; moves = c.receive.ensures.moves; after = c.receive.ensures.kept; acts = c.in_ok-receive.ensures.came } in
+    let come : HaveCome n bytes parent p q i j os ns =
+    record {
+      kept = c.requires.kept;
+      beside = c.requires.beside;
+      moves = c.receive.ensures.moves;
+      after = c.receive.ensures.kept;
+      acts =
+          c.in_ok-receive.ensures.came;
+    } in
     err_map c.settle.result (λ same. starts_cut n bytes parent p q r i j k os ns xs come c.settle.ensures.moves same) c.settle.ensures.err
 
 pub returns-in_err-turn-clause-memory : goal.returns-in_err-turn-clause-memory
@@ -89,9 +108,18 @@ returns-in_err-turn-clause-memory c =
     let q = c.receive.new.pool in
     let j = c.receive.new.instance in
     let ns = c.receive.new.connections in
-    let come : HaveCome n bytes parent p q i j os ns = record { kept = c.requires.kept; beside = c.requires.beside; moves = c.receive.ensures.moves; after = c.receive.ensures.kept; acts = c.in_ok-receive.ensures.came } in
+    let come : HaveCome n bytes parent p q i j os ns =
+    record {
+      kept = c.requires.kept;
+      beside = c.requires.beside;
+      moves = c.receive.ensures.moves;
+      after = c.receive.ensures.kept;
+      acts =
+          c.in_ok-receive.ensures.came;
+    } in
     on_err c.from_residual-in_err-turn.result
-    (starts_cut n bytes parent p q q i j j os ns ns come (moves_none q (holders_of (slots_of j ns)) (holders_of (slots_of j ns)) (λ k. refl)) refl)
+    (starts_cut n bytes parent p q q i j j os ns ns come
+    (moves_none q (holders_of (slots_of j ns)) (holders_of (slots_of j ns)) (λ k. refl)) refl)
 
 pub returns-clause-others : goal.returns-clause-others
 returns-clause-others c =
@@ -101,7 +129,8 @@ pub returns-clause-finds : goal.returns-clause-finds
 returns-clause-finds c =
     let n = c.args.number in
     on_err c.settle.result
-    (finds_trans c.args.pool.now c.receive.new.pool c.settle.new.pool (others_of n c.args.connections.now) (others_of n c.receive.new.connections) c.receive.ensures.others c.receive.ensures.finds (c.settle.ensures.finds n))
+    (finds_trans c.args.pool.now c.receive.new.pool c.settle.new.pool (others_of n c.args.connections.now)
+    (others_of n c.receive.new.connections) c.receive.ensures.others c.receive.ensures.finds (c.settle.ensures.finds n))
 
 pub returns-clause-moves : goal.returns-clause-moves
 returns-clause-moves c =
@@ -117,7 +146,8 @@ returns-clause-moves c =
     let r = c.settle.new.pool in
     let k = c.settle.new.instance in
     let xs = c.settle.new.connections in
-    moves_trans p q r (holders_of (slots_of i os)) (holders_of (slots_of j ns)) (holders_of (slots_of k xs)) c.receive.ensures.moves c.settle.ensures.moves
+    moves_trans p q r (holders_of (slots_of i os)) (holders_of (slots_of j ns))
+    (holders_of (slots_of k xs)) c.receive.ensures.moves c.settle.ensures.moves
 
 pub returns-clause-kept : goal.returns-clause-kept
 returns-clause-kept c =
@@ -126,4 +156,5 @@ returns-clause-kept c =
     let t = state_in c.settle.new.pool c.settle.new.instance in
     let ready = c.in_ok-turn.ensures.ready q in
     c.settle.ensures.kept
-    (starts_within c.settle.result s t (steps_shown c.in_ok-turn.turn.steps.items) c.receive.ensures.kept.within.instance ready.steps c.settle.ensures.settled c.settle.ensures.err)
+    (starts_within c.settle.result s t (steps_shown c.in_ok-turn.turn.steps.items) c.receive.ensures.kept.within.instance ready.steps
+    c.settle.ensures.settled c.settle.ensures.err)

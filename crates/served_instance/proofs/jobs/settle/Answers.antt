@@ -26,8 +26,16 @@ take_turn-requires-clause-can c =
     let os = c.args.connections.now in
     let ns = c.give_all.new.connections in
     let rs = c.args.turn.replies.items in
-    let owed : AreOwed p q i os ns rs = record { kept = c.requires.kept; given = c.requires.given; short = c.requires.short; takes = c.give_all.ensures.takes; count = c.give_all.auto.connections } in
-    subst (λ (s : InstanceState). CanTake (steps_shown c.args.turn.steps.items) s.jobs) (sym (owed_state p q i os ns rs owed)) c.requires.can
+    let owed : AreOwed p q i os ns rs = record {
+      kept = c.requires.kept;
+      given = c.requires.given;
+      short = c.requires.short;
+      takes =
+          c.give_all.ensures.takes;
+      count = c.give_all.auto.connections;
+    } in
+    subst (λ (s : InstanceState). CanTake (steps_shown c.args.turn.steps.items) s.jobs)
+    (sym (owed_state p q i os ns rs owed)) c.requires.can
 
 pub take_turn-requires-clause-counted : goal.take_turn-requires-clause-counted
 take_turn-requires-clause-counted c =
@@ -37,7 +45,14 @@ take_turn-requires-clause-counted c =
     let os = c.args.connections.now in
     let ns = c.give_all.new.connections in
     let rs = c.args.turn.replies.items in
-    let owed : AreOwed p q i os ns rs = record { kept = c.requires.kept; given = c.requires.given; short = c.requires.short; takes = c.give_all.ensures.takes; count = c.give_all.auto.connections } in
+    let owed : AreOwed p q i os ns rs = record {
+      kept = c.requires.kept;
+      given = c.requires.given;
+      short = c.requires.short;
+      takes =
+          c.give_all.ensures.takes;
+      count = c.give_all.auto.connections;
+    } in
     owed_counted p q i os ns rs owed
 
 pub returns-clause-settled : goal.returns-clause-settled
@@ -48,7 +63,14 @@ returns-clause-settled c =
     let os = c.args.connections.now in
     let ns = c.give_all.new.connections in
     let rs = c.args.turn.replies.items in
-    let owed : AreOwed p q i os ns rs = record { kept = c.requires.kept; given = c.requires.given; short = c.requires.short; takes = c.give_all.ensures.takes; count = c.give_all.auto.connections } in
+    let owed : AreOwed p q i os ns rs = record {
+      kept = c.requires.kept;
+      given = c.requires.given;
+      short = c.requires.short;
+      takes =
+          c.give_all.ensures.takes;
+      count = c.give_all.auto.connections;
+    } in
     c.take_turn.ensures.changed ∙ ap (state_after_change (Settles (steps_shown c.args.turn.steps.items))) (owed_state p q i os ns rs owed)
 
 pub returns-in_err-give_all-clause-err : goal.returns-in_err-give_all-clause-err
@@ -59,7 +81,14 @@ returns-in_err-give_all-clause-err c =
     let os = c.args.connections.now in
     let ns = c.give_all.new.connections in
     let rs = c.args.turn.replies.items in
-    let owed : AreOwed p q i os ns rs = record { kept = c.requires.kept; given = c.requires.given; short = c.requires.short; takes = c.give_all.ensures.takes; count = c.give_all.auto.connections } in
+    let owed : AreOwed p q i os ns rs = record {
+      kept = c.requires.kept;
+      given = c.requires.given;
+      short = c.requires.short;
+      takes =
+          c.give_all.ensures.takes;
+      count = c.give_all.auto.connections;
+    } in
     on_err c.from_residual.result (owed_state p q i os ns rs owed)
 
 pub returns-clause-finds : goal.returns-clause-finds
@@ -70,7 +99,14 @@ returns-clause-finds c =
     let os = c.args.connections.now in
     let ns = c.give_all.new.connections in
     let rs = c.args.turn.replies.items in
-    let owed : AreOwed p q i os ns rs = record { kept = c.requires.kept; given = c.requires.given; short = c.requires.short; takes = c.give_all.ensures.takes; count = c.give_all.auto.connections } in
+    let owed : AreOwed p q i os ns rs = record {
+      kept = c.requires.kept;
+      given = c.requires.given;
+      short = c.requires.short;
+      takes =
+          c.give_all.ensures.takes;
+      count = c.give_all.auto.connections;
+    } in
     let r = c.take_turn.new.pool in
     let j = c.take_turn.new.self in
     λ n. others_agree n (text_at p) (text_at r) os (turned_old p q r i j os ns rs owed c.take_turn.ensures.moves)
@@ -83,8 +119,16 @@ returns-in_err-give_all-clause-finds c =
     let os = c.args.connections.now in
     let ns = c.give_all.new.connections in
     let rs = c.args.turn.replies.items in
-    let owed : AreOwed p q i os ns rs = record { kept = c.requires.kept; given = c.requires.given; short = c.requires.short; takes = c.give_all.ensures.takes; count = c.give_all.auto.connections } in
-    let still : Moves q q (holders_of_instance i) (holders_of_instance i) = moves_none q (holders_of_instance i) (holders_of_instance i) (λ k. refl) in
+    let owed : AreOwed p q i os ns rs = record {
+      kept = c.requires.kept;
+      given = c.requires.given;
+      short = c.requires.short;
+      takes =
+          c.give_all.ensures.takes;
+      count = c.give_all.auto.connections;
+    } in
+    let still : Moves q q (holders_of_instance i) (holders_of_instance i) =
+    moves_none q (holders_of_instance i) (holders_of_instance i) (λ k. refl) in
     λ n. others_agree n (text_at p) (text_at q) os (turned_old p q q i i os ns rs owed still)
 
 pub returns-clause-texts : goal.returns-clause-texts
@@ -95,7 +139,14 @@ returns-clause-texts c =
     let os = c.args.connections.now in
     let ns = c.give_all.new.connections in
     let rs = c.args.turn.replies.items in
-    let owed : AreOwed p q i os ns rs = record { kept = c.requires.kept; given = c.requires.given; short = c.requires.short; takes = c.give_all.ensures.takes; count = c.give_all.auto.connections } in
+    let owed : AreOwed p q i os ns rs = record {
+      kept = c.requires.kept;
+      given = c.requires.given;
+      short = c.requires.short;
+      takes =
+          c.give_all.ensures.takes;
+      count = c.give_all.auto.connections;
+    } in
     let r = c.take_turn.new.pool in
     let j = c.take_turn.new.self in
     turned_new p q r i j os ns rs owed c.take_turn.ensures.moves
@@ -108,8 +159,16 @@ returns-in_err-give_all-clause-texts c =
     let os = c.args.connections.now in
     let ns = c.give_all.new.connections in
     let rs = c.args.turn.replies.items in
-    let owed : AreOwed p q i os ns rs = record { kept = c.requires.kept; given = c.requires.given; short = c.requires.short; takes = c.give_all.ensures.takes; count = c.give_all.auto.connections } in
-    let still : Moves q q (holders_of_instance i) (holders_of_instance i) = moves_none q (holders_of_instance i) (holders_of_instance i) (λ k. refl) in
+    let owed : AreOwed p q i os ns rs = record {
+      kept = c.requires.kept;
+      given = c.requires.given;
+      short = c.requires.short;
+      takes =
+          c.give_all.ensures.takes;
+      count = c.give_all.auto.connections;
+    } in
+    let still : Moves q q (holders_of_instance i) (holders_of_instance i) =
+    moves_none q (holders_of_instance i) (holders_of_instance i) (λ k. refl) in
     turned_new p q q i i os ns rs owed still
 
 pub returns-clause-moves : goal.returns-clause-moves
@@ -120,7 +179,14 @@ returns-clause-moves c =
     let os = c.args.connections.now in
     let ns = c.give_all.new.connections in
     let rs = c.args.turn.replies.items in
-    let owed : AreOwed p q i os ns rs = record { kept = c.requires.kept; given = c.requires.given; short = c.requires.short; takes = c.give_all.ensures.takes; count = c.give_all.auto.connections } in
+    let owed : AreOwed p q i os ns rs = record {
+      kept = c.requires.kept;
+      given = c.requires.given;
+      short = c.requires.short;
+      takes =
+          c.give_all.ensures.takes;
+      count = c.give_all.auto.connections;
+    } in
     let r = c.take_turn.new.pool in
     let j = c.take_turn.new.self in
     turned_moves p q r i j os ns rs owed c.take_turn.ensures.moves
@@ -133,8 +199,16 @@ returns-in_err-give_all-clause-moves c =
     let os = c.args.connections.now in
     let ns = c.give_all.new.connections in
     let rs = c.args.turn.replies.items in
-    let owed : AreOwed p q i os ns rs = record { kept = c.requires.kept; given = c.requires.given; short = c.requires.short; takes = c.give_all.ensures.takes; count = c.give_all.auto.connections } in
-    let still : Moves q q (holders_of_instance i) (holders_of_instance i) = moves_none q (holders_of_instance i) (holders_of_instance i) (λ k. refl) in
+    let owed : AreOwed p q i os ns rs = record {
+      kept = c.requires.kept;
+      given = c.requires.given;
+      short = c.requires.short;
+      takes =
+          c.give_all.ensures.takes;
+      count = c.give_all.auto.connections;
+    } in
+    let still : Moves q q (holders_of_instance i) (holders_of_instance i) =
+    moves_none q (holders_of_instance i) (holders_of_instance i) (λ k. refl) in
     turned_moves p q q i i os ns rs owed still
 
 pub returns-clause-kept : goal.returns-clause-kept
@@ -145,7 +219,14 @@ returns-clause-kept c =
     let os = c.args.connections.now in
     let ns = c.give_all.new.connections in
     let rs = c.args.turn.replies.items in
-    let owed : AreOwed p q i os ns rs = record { kept = c.requires.kept; given = c.requires.given; short = c.requires.short; takes = c.give_all.ensures.takes; count = c.give_all.auto.connections } in
+    let owed : AreOwed p q i os ns rs = record {
+      kept = c.requires.kept;
+      given = c.requires.given;
+      short = c.requires.short;
+      takes =
+          c.give_all.ensures.takes;
+      count = c.give_all.auto.connections;
+    } in
     let r = c.take_turn.new.pool in
     let j = c.take_turn.new.self in
     λ within. turned_kept p q r i j os ns rs owed c.take_turn.ensures.moves within
@@ -158,6 +239,14 @@ returns-in_err-give_all-clause-kept c =
     let os = c.args.connections.now in
     let ns = c.give_all.new.connections in
     let rs = c.args.turn.replies.items in
-    let owed : AreOwed p q i os ns rs = record { kept = c.requires.kept; given = c.requires.given; short = c.requires.short; takes = c.give_all.ensures.takes; count = c.give_all.auto.connections } in
-    let still : Moves q q (holders_of_instance i) (holders_of_instance i) = moves_none q (holders_of_instance i) (holders_of_instance i) (λ k. refl) in
+    let owed : AreOwed p q i os ns rs = record {
+      kept = c.requires.kept;
+      given = c.requires.given;
+      short = c.requires.short;
+      takes =
+          c.give_all.ensures.takes;
+      count = c.give_all.auto.connections;
+    } in
+    let still : Moves q q (holders_of_instance i) (holders_of_instance i) =
+    moves_none q (holders_of_instance i) (holders_of_instance i) (λ k. refl) in
     λ within. turned_kept p q q i i os ns rs owed still within

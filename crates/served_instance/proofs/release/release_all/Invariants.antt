@@ -8,7 +8,8 @@ use Rattle.served_instance.proofs.release.release_all.Given as goal
 
 abbrev pub invariant-loop-kept : goal.invariant-loop-kept
 invariant-loop-kept l = record {
-  stands : (texts : SourceTexts) (ls : List LoneConnection) → AreServed texts (map connection_shown l.fn.connections) ls → AreServed texts (map connection_shown l.connections) ls;
+  stands : (texts : SourceTexts) (ls : List LoneConnection) → AreServed texts (map connection_shown l.fn.connections) ls →
+      AreServed texts (map connection_shown l.connections) ls;
   releases : Releases l.fn.pool (map connection_shown l.fn.connections) l.pool (map connection_shown l.connections);
   tidy : AreTidy (map connection_shown (take l.kept-index l.connections));
 }

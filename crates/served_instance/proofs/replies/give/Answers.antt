@@ -20,19 +20,25 @@ returns-in-Some-clause-given c =
     let r = c.args.reply in
     let os = c.args.connections.now in
     let d = c.index-connections-place.result in
-    changed_ok c.owe.result r.call.connection os c.in-Some.place d c.owe.new.connection (Owes (with_owed r.call.stream r.items.items)) (sym c.find.ensures ∙ c.in-Some.is)
-    (subst (λ (items : List ReplyItem). OnOk c.owe.result (Owes (with_owed r.call.stream items) (get_or os c.in-Some.place d).connection c.owe.new.connection)) c.from-items.ensures.0 c.owe.ensures.owes)
+    changed_ok c.owe.result r.call.connection os c.in-Some.place d c.owe.new.connection (Owes (with_owed r.call.stream r.items.items))
+    (sym c.find.ensures ∙ c.in-Some.is)
+    (subst (λ (items : List ReplyItem). OnOk c.owe.result
+    (Owes (with_owed r.call.stream items) (get_or os c.in-Some.place d).connection c.owe.new.connection)) c.from-items.ensures.0
+    c.owe.ensures.owes)
 
 pub returns-in-Some-clause-takes : goal.returns-in-Some-clause-takes
 returns-in-Some-clause-takes c =
     let r = c.args.reply in
     let os = c.args.connections.now in
     let d = c.index-connections-place.result in
-    take_at (items_holders r.items.items) (ReplyEndsWithin r) c.args.pool.now c.owe.new.pool r.call.connection os c.in-Some.place d c.owe.new.connection (sym c.find.ensures ∙ c.in-Some.is)
-    (subst (λ (items : List ReplyItem). TakesRanges (items_holders items) (ItemsEndWithin items) c.args.pool.now (get_or os c.in-Some.place d).connection c.owe.new.pool c.owe.new.connection) c.from-items.ensures.0 c.owe.ensures.takes)
+    take_at (items_holders r.items.items) (ReplyEndsWithin r) c.args.pool.now c.owe.new.pool r.call.connection os c.in-Some.place d
+    c.owe.new.connection (sym c.find.ensures ∙ c.in-Some.is)
+    (subst (λ (items : List ReplyItem). TakesRanges (items_holders items) (ItemsEndWithin items) c.args.pool.now
+    (get_or os c.in-Some.place d).connection c.owe.new.pool c.owe.new.connection) c.from-items.ensures.0 c.owe.ensures.takes)
 
 pub returns-in-Some-clause-others : goal.returns-in-Some-clause-others
-returns-in-Some-clause-others c = others_kept c.args.reply.call.connection c.args.connections.now c.in-Some.place c.index-connections-place.result c.owe.new.connection (sym c.find.ensures ∙ c.in-Some.is)
+returns-in-Some-clause-others c = others_kept c.args.reply.call.connection c.args.connections.now c.in-Some.place
+    c.index-connections-place.result c.owe.new.connection (sym c.find.ensures ∙ c.in-Some.is)
 
 pub returns-in-Some-clause-places : goal.returns-in-Some-clause-places
 returns-in-Some-clause-places c = places_kept c.args.connections.now c.in-Some.place c.index-connections-place.result c.owe.new.connection

@@ -26,14 +26,19 @@ replies-preserved c =
     let os = c.replies.connections in
     let ns = c.give.new.connections in
     let takes = c.give.ensures.takes in
-    let less : (k : ℕ) → count_at p k ≤ count_at q k + items_holders r.items.items k = λ k. omega (arith, takes.moves.counts k, takes.fewer k) in
+    let less : (k : ℕ) → count_at p k ≤ count_at q k + items_holders r.items.items k =
+    λ k. omega (arith, takes.moves.counts k, takes.fewer k) in
     record {
-      given = λ xs more. c.replies.invariant.given xs (give_more c.replies.left.items rest r os ns xs is c.in_default-give.ensures.given more);
-      rest = keeps_trans c.args.connections.now os ns c.replies.invariant.rest (give_keeps r.call.connection (with_owed r.call.stream r.items.items) os ns c.in_default-give.ensures.given);
-      takes = λ x ws more. c.replies.invariant.takes x ws (take_more c.replies.left.items rest r p q x (map connection_shown os) (map connection_shown ns) ws is takes more);
+      given = λ xs more. c.replies.invariant.given xs
+          (give_more c.replies.left.items rest r os ns xs is c.in_default-give.ensures.given more);
+      rest = keeps_trans c.args.connections.now os ns c.replies.invariant.rest
+          (give_keeps r.call.connection (with_owed r.call.stream r.items.items) os ns c.in_default-give.ensures.given);
+      takes = λ x ws more. c.replies.invariant.takes x ws
+          (take_more c.replies.left.items rest r p q x (map connection_shown os) (map connection_shown ns) ws is takes more);
       counted = replies_left p q c.replies.left.items rest r is c.replies.invariant.counted less;
       owed = (replies_owed c.replies.left.items rest r is c.replies.invariant.owed).1;
-      others = λ n all. given_others n c.replies.left.items rest r c.args.connections.now os ns is (c.replies.invariant.others n all) c.give.ensures.others;
+      others = λ n all. given_others n c.replies.left.items rest r c.args.connections.now os ns is
+          (c.replies.invariant.others n all) c.give.ensures.others;
       places = λ n. c.give.ensures.places n ∙ c.replies.invariant.places n;
     }
 
@@ -46,17 +51,21 @@ returns-in-Err-clause-takes c =
     let r = c.release_replies.new.pool in
     let os = c.replies.connections in
     let ns = c.give.new.connections in
-    c.replies.invariant.takes r (map connection_shown ns) (take_more c.replies.left.items rest c.in-Some.first p q r (map connection_shown os) (map connection_shown ns) (map connection_shown ns) is c.give.ensures.takes (take_released _ _ q r (map connection_shown ns) c.release_replies.ensures))
+    c.replies.invariant.takes r (map connection_shown ns)
+    (take_more c.replies.left.items rest c.in-Some.first p q r (map connection_shown os) (map connection_shown ns)
+    (map connection_shown ns) is c.give.ensures.takes (take_released _ _ q r (map connection_shown ns) c.release_replies.ensures))
 
 pub returns-clause-takes : goal.returns-clause-takes
 returns-clause-takes c =
     let none : c.replies.left.items ≡ [] = search rules in
-    c.replies.invariant.takes c.replies.pool (map connection_shown c.replies.connections) (take_end c.replies.left.items c.replies.pool (map connection_shown c.replies.connections) none)
+    c.replies.invariant.takes c.replies.pool (map connection_shown c.replies.connections)
+    (take_end c.replies.left.items c.replies.pool (map connection_shown c.replies.connections) none)
 
 pub returns-in-Err-clause-others : goal.returns-in-Err-clause-others
 returns-in-Err-clause-others c = λ n all.
     let is : c.replies.left.items ≡ c.in-Some.first ∷ c.pop_front.new.self.items = c.in-Some.ensures.items in
-    (given_others n c.replies.left.items c.pop_front.new.self.items c.in-Some.first c.args.connections.now c.replies.connections c.give.new.connections is (c.replies.invariant.others n all) c.give.ensures.others).0
+    (given_others n c.replies.left.items c.pop_front.new.self.items c.in-Some.first c.args.connections.now c.replies.connections
+    c.give.new.connections is (c.replies.invariant.others n all) c.give.ensures.others).0
 
 pub returns-clause-others : goal.returns-clause-others
 returns-clause-others c = λ n all. (c.replies.invariant.others n all).0

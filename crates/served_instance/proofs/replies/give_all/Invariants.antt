@@ -18,7 +18,10 @@ abbrev pub invariant-replies : goal.invariant-replies
 invariant-replies l = record {
   given : (ns : List OpenConnection) → AreGiven l.left.items l.connections ns → AreGiven l.fn.replies.items l.fn.connections ns;
   rest : Keeps l.fn.connections l.connections;
-  takes : (r : Slots) (ws : List ServedConnection) → AllTakeRanges (replies_holders l.left.items) (RepliesEndWithin l.left.items) l.pool (map connection_shown l.connections) r ws → AllTakeRanges (replies_holders l.fn.replies.items) (RepliesEndWithin l.fn.replies.items) l.fn.pool (map connection_shown l.fn.connections) r ws;
+  takes : (r : Slots) (ws : List ServedConnection) →
+      AllTakeRanges (replies_holders l.left.items) (RepliesEndWithin l.left.items) l.pool (map connection_shown l.connections) r ws →
+      AllTakeRanges (replies_holders l.fn.replies.items) (RepliesEndWithin l.fn.replies.items) l.fn.pool
+      (map connection_shown l.fn.connections) r ws;
   counted : (k : ℕ) → replies_holders l.left.items k ≤ count_at l.pool k;
   owed : AllByRecursion ReplyCanBeOwed l.left.items;
   places : StayInPlace l.fn.connections l.connections;

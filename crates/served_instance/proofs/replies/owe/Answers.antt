@@ -25,7 +25,8 @@ items-preserved c =
     let takes = c.owe_item.ensures.takes in
     let less : (k : ℕ) → count_at p k ≤ count_at q k + item_holders item k = λ k. omega (arith, takes.moves.counts k, takes.fewer k) in
     record {
-      owes = λ x more. c.items.invariant.owes x (owes_more c.args.stream c.items.left.items rest item v w x is c.in_default-owe_item.ensures.owes more);
+      owes = λ x more. c.items.invariant.owes x (owes_more c.args.stream c.items.left.items rest item v w x is
+          c.in_default-owe_item.ensures.owes more);
       takes = λ r x more. c.items.invariant.takes r x (takes_more c.items.left.items rest item p q r v w x is takes more);
       counted = items_left p q c.items.left.items rest item is c.items.invariant.counted less;
       owed = (items_owed c.items.left.items rest item is c.items.invariant.owed).1;
@@ -40,7 +41,8 @@ returns-in-Err-clause-takes c =
     let r = c.release_items.new.pool in
     let v = c.items.connection in
     let w = c.owe_item.new.connection in
-    c.items.invariant.takes r w (takes_more c.items.left.items rest c.in-Some.first p q r v w w is c.owe_item.ensures.takes (takes_released _ _ q r w w refl c.release_items.ensures))
+    c.items.invariant.takes r w (takes_more c.items.left.items rest c.in-Some.first p q r v w w is c.owe_item.ensures.takes
+    (takes_released _ _ q r w w refl c.release_items.ensures))
 
 pub returns-clause-owes : goal.returns-clause-owes
 returns-clause-owes c =

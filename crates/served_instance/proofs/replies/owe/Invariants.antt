@@ -10,8 +10,11 @@ use Rattle.served_instance.proofs.replies.owe.Given as goal
 -- what is left is owed behind what was, and its ranges are held
 abbrev pub invariant-items : goal.invariant-items
 invariant-items l = record {
-  owes : (w : ConnectionValue) → Owes (with_owed l.stream l.left.items) l.connection w → Owes (with_owed l.stream l.fn.items.items) l.fn.connection w;
-  takes : (r : Slots) (w : ConnectionValue) → TakesRanges (items_holders l.left.items) (ItemsEndWithin l.left.items) l.pool l.connection r w → TakesRanges (items_holders l.fn.items.items) (ItemsEndWithin l.fn.items.items) l.fn.pool l.fn.connection r w;
+  owes : (w : ConnectionValue) → Owes (with_owed l.stream l.left.items) l.connection w →
+      Owes (with_owed l.stream l.fn.items.items) l.fn.connection w;
+  takes : (r : Slots) (w : ConnectionValue) → TakesRanges (items_holders l.left.items)
+      (ItemsEndWithin l.left.items) l.pool l.connection r w →
+      TakesRanges (items_holders l.fn.items.items) (ItemsEndWithin l.fn.items.items) l.fn.pool l.fn.connection r w;
   counted : (k : ℕ) → items_holders l.left.items k ≤ count_at l.pool k;
   owed : AllByRecursion CanBeOwed l.left.items;
 }

@@ -6,7 +6,8 @@ use Rattle.served_instance.proofs.replies.release_items.Given as goal
 
 abbrev pub invariant-items : goal.invariant-items
 invariant-items l = record {
-  moves : (r : Slots) → Moves l.pool r (items_holders l.left.items) no_holders → Moves l.fn.pool r (items_holders l.fn.items.items) no_holders;
+  moves : (r : Slots) → Moves l.pool r (items_holders l.left.items) no_holders →
+      Moves l.fn.pool r (items_holders l.fn.items.items) no_holders;
   counted : (k : ℕ) → items_holders l.left.items k ≤ count_at l.pool k;
 }
 

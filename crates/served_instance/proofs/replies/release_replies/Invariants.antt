@@ -6,7 +6,8 @@ use Rattle.served_instance.proofs.replies.release_replies.Given as goal
 
 abbrev pub invariant-replies : goal.invariant-replies
 invariant-replies l = record {
-  moves : (r : Slots) → Moves l.pool r (replies_holders l.left.items) no_holders → Moves l.fn.pool r (replies_holders l.fn.replies.items) no_holders;
+  moves : (r : Slots) → Moves l.pool r (replies_holders l.left.items) no_holders →
+      Moves l.fn.pool r (replies_holders l.fn.replies.items) no_holders;
   counted : (k : ℕ) → replies_holders l.left.items k ≤ count_at l.pool k;
 }
 

@@ -5,4 +5,5 @@ use Rattle.server_events.proofs.configs.first_own_fault.Given as goal
 
 abbrev pub invariant-loop-number : goal.invariant-loop-number
 invariant-loop-number l =
-    first_own_fault (map config_value (take l.number l.instances)) (map config_value (drop l.number l.instances)) ≡ first_own_fault [] (map config_value l.instances)
+    first_own_fault (map config_value (take l.number l.instances)) (map config_value (drop l.number l.instances))
+    ≡ first_own_fault [] (map config_value l.instances)

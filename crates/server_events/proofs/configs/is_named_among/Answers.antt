@@ -8,5 +8,6 @@ use Rattle.server_events.proofs.configs.is_named_among.Goals as goal
 
 pub returns : goal.returns
 returns c =
-    any_from_yields_List (λ instance. bytes_eq (config_value instance).name c.args.name.now) _ _ _ c.any.ensures.ran (YieldsList-from_slice c.args.instances.now c.iter.ensures.rest) (λ x b q k. search (rules, tests))
+    any_from_yields_List (λ instance. bytes_eq (config_value instance).name c.args.name.now) _ _ _ c.any.ensures.ran
+    (YieldsList-from_slice c.args.instances.now c.iter.ensures.rest) (λ x b q k. search (rules, tests))
     ∙ sym (list_any-map (λ config. bytes_eq config.name c.args.name.now) config_value c.args.instances.now)

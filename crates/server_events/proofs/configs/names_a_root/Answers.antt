@@ -9,5 +9,6 @@ use Rattle.server_events.proofs.configs.names_a_root.Goals as goal
 
 pub returns : goal.returns
 returns c =
-    any_from_yields_List (λ instance. bytes_eq (config_value instance).name c.args.name.now && is_none (config_value instance).parent) _ _ _ c.any.ensures.ran (YieldsList-from_slice c.args.instances.now c.iter.ensures.rest) (λ x b q k. search (rules, tests))
+    any_from_yields_List (λ instance. bytes_eq (config_value instance).name c.args.name.now && is_none (config_value instance).parent) _ _ _
+    c.any.ensures.ran (YieldsList-from_slice c.args.instances.now c.iter.ensures.rest) (λ x b q k. search (rules, tests))
     ∙ sym (list_any-map (λ config. bytes_eq config.name c.args.name.now && is_none config.parent) config_value c.args.instances.now)

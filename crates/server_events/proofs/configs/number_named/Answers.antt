@@ -8,5 +8,6 @@ use Rattle.server_events.proofs.configs.number_named.Goals as goal
 
 pub returns : goal.returns
 returns c =
-    position_from_yields_List (λ instance. bytes_eq (config_value instance).name c.args.name.now) _ _ _ c.position.ensures.ran (YieldsList-from_slice c.args.instances.now c.iter.ensures.rest) (λ x b q k. search (rules, tests))
+    position_from_yields_List (λ instance. bytes_eq (config_value instance).name c.args.name.now) _ _ _ c.position.ensures.ran
+    (YieldsList-from_slice c.args.instances.now c.iter.ensures.rest) (λ x b q k. search (rules, tests))
     ∙ sym (position-map (λ config. bytes_eq config.name c.args.name.now) config_value c.args.instances.now)

@@ -14,16 +14,21 @@ returns-in-Ok-clause-used c = λ p quota.
     let visible = seen_in c.args.pool.now (sight_of c.args.view.now c.args.parent.now) in
     let asked = tree_asked_shown c.in_ok-asked.asked in
     let listed = digests_of (tree_list (texts_seen visible) asked.root) in
-    let changes = tree_changes c.args.own.now visible c.args.message.now asked _ _ c.in_ok-asked.ensures (search rules) c.in-Ok.ensures.pages in
+    let changes = tree_changes c.args.own.now visible c.args.message.now asked _ _ c.in_ok-asked.ensures
+    (search rules) c.in-Ok.ensures.pages in
     c.in-Ok.ensures.used p
     ∙ all_changed c.args.view.now.limit quota listed (visible_in p c.args.view.now)
     ∙ ap (λ (cs : List TextChange). visible_after_changes c.args.view.now.limit quota cs (visible_in p c.args.view.now)) (sym changes)
 
 pub returns-in-Ok-clause-kept : goal.returns-in-Ok-clause-kept
 returns-in-Ok-clause-kept c = λ p quota kept.
-    let listed = digests_of (tree_list (texts_seen (seen_in c.args.pool.now (sight_of c.args.view.now c.args.parent.now))) c.in_ok-asked.asked.root) in
-    all_kept quota listed p c.args.view.now c.get_tree.new.view kept c.get_tree.ensures.limit (c.in-Ok.ensures.used p) c.get_tree.ensures.holders
+    let listed = digests_of (tree_list (texts_seen (seen_in c.args.pool.now (sight_of c.args.view.now c.args.parent.now)))
+    c.in_ok-asked.asked.root) in
+    all_kept quota listed p c.args.view.now c.get_tree.new.view kept c.get_tree.ensures.limit
+    (c.in-Ok.ensures.used p) c.get_tree.ensures.holders
 
 pub returns-in-Err-clause-replies : goal.returns-in-Err-clause-replies
 returns-in-Err-clause-replies c =
-    tree_fails c.args.own.now (seen_in c.args.pool.now (sight_of c.args.view.now c.args.parent.now)) c.args.message.now (tree_asked_shown c.in_ok-asked.asked) _ c.in-Err.error c.tree_error.result c.in_ok-asked.ensures (search rules) c.in-Err.ensures.pages c.tree_error.ensures
+    tree_fails c.args.own.now (seen_in c.args.pool.now (sight_of c.args.view.now c.args.parent.now)) c.args.message.now
+    (tree_asked_shown c.in_ok-asked.asked) _ c.in-Err.error c.tree_error.result c.in_ok-asked.ensures
+    (search rules) c.in-Err.ensures.pages c.tree_error.ensures

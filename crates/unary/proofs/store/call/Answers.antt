@@ -17,13 +17,16 @@ own_alone p view nobody none = ap (λ (bs : List Blob). visible_in p view ++ bs)
 pub returns-in-FindMissingBlobs-clause-reply : goal.returns-in-FindMissingBlobs-clause-reply
 returns-in-FindMissingBlobs-clause-reply c =
     rw c.in-FindMissingBlobs.is
-    (subst (λ (bs : List Blob). Answers (λ (reply : Vec ℕ Global). reply.items) c.find_missing.result (find_missing_reply c.args.own.now bs c.args.message.now))
-    (own_alone c.args.texts.now.pool c.args.texts.now.view c.args.texts.now.nobody c.requires.nobody) (c.find_missing.ensures.reply c.args.texts.now.pool))
+    (subst (λ (bs : List Blob). Answers (λ (reply : Vec ℕ Global). reply.items) c.find_missing.result
+    (find_missing_reply c.args.own.now bs c.args.message.now))
+    (own_alone c.args.texts.now.pool c.args.texts.now.view c.args.texts.now.nobody c.requires.nobody)
+    (c.find_missing.ensures.reply c.args.texts.now.pool))
 
 pub returns-in-BatchReadBlobs-clause-reply : goal.returns-in-BatchReadBlobs-clause-reply
 returns-in-BatchReadBlobs-clause-reply c =
     rw c.in-BatchReadBlobs.is
-    (subst (λ (bs : List Blob). Answers (λ (reply : Vec ℕ Global). reply.items) c.batch_read.result (batch_read_reply c.args.own.now bs c.args.message.now))
+    (subst (λ (bs : List Blob). Answers (λ (reply : Vec ℕ Global). reply.items) c.batch_read.result
+    (batch_read_reply c.args.own.now bs c.args.message.now))
     (own_alone c.args.texts.now.pool c.args.texts.now.view c.args.texts.now.nobody c.requires.nobody) c.batch_read.ensures.reply)
 
 pub returns-in-FindMissingBlobs-clause-called : goal.returns-in-FindMissingBlobs-clause-called
@@ -31,7 +34,9 @@ returns-in-FindMissingBlobs-clause-called c =
     let p = c.args.texts.now.pool in
     let view = c.args.texts.now.view in
     rw c.in-FindMissingBlobs.is
-    (uses_answered c.find_missing.result (digests_asked c.args.own.now c.args.message.now) (λ digests. missing_reply (missing_digests (visible_in p view ++ visible_in p c.args.texts.now.nobody) digests)) view.limit c.args.quota p view c.find_missing.new.view
+    (uses_answered c.find_missing.result (digests_asked c.args.own.now c.args.message.now)
+    (λ digests. missing_reply (missing_digests (visible_in p view ++ visible_in p c.args.texts.now.nobody) digests)) view.limit
+    c.args.quota p view c.find_missing.new.view
     (c.find_missing.ensures.reply p) (c.find_missing.ensures.used p c.args.quota) c.find_missing.ensures.err)
 
 pub returns-in-BatchReadBlobs-clause-called : goal.returns-in-BatchReadBlobs-clause-called
@@ -39,7 +44,9 @@ returns-in-BatchReadBlobs-clause-called c =
     let p = c.args.texts.now.pool in
     let view = c.args.texts.now.view in
     rw c.in-BatchReadBlobs.is
-    (uses_answered c.batch_read.result (digests_to_read c.args.own.now c.args.message.now) (λ digests. read_reply (visible_in p view ++ visible_in p c.args.texts.now.nobody) digests) view.limit c.args.quota p view c.batch_read.new.view
+    (uses_answered c.batch_read.result (digests_to_read c.args.own.now c.args.message.now)
+    (λ digests. read_reply (visible_in p view ++ visible_in p c.args.texts.now.nobody) digests) view.limit c.args.quota p view
+    c.batch_read.new.view
     c.batch_read.ensures.reply (c.batch_read.ensures.used p c.args.quota) c.batch_read.ensures.err)
 
 pub returns-in-FindMissingBlobs-clause-kept : goal.returns-in-FindMissingBlobs-clause-kept

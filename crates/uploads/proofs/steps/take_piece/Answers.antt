@@ -5,4 +5,5 @@ use Rattle.uploads.proofs.steps.take_piece.Goals as goal
 
 pub carry_out-requires-clause-fits : goal.carry_out-requires-clause-fits
 carry_out-requires-clause-fits c =
-    fits_call c.args.first c.args.quota (key_shown c.args.key.now) (piece_shown c.args.piece.now) (map entry_shown c.args.table.now.entries) c.check-answer.result c.requires.quota c.check-answer.ensures
+    fits_call c.args.first c.args.quota (key_shown c.args.key.now) (piece_shown c.args.piece.now)
+    (map entry_shown c.args.table.now.entries) c.check-answer.result c.requires.quota c.check-answer.ensures

@@ -5,16 +5,19 @@ use Rattle.uploads.proofs.TableLemmas.{with_shown, whole_with, whole_at, at_show
 use Rattle.uploads.proofs.table.exchange.Goals as goal
 
 pub unwrap-old-requires : goal.unwrap-old-requires
-unwrap-old-requires c = there_ok c.insert-replaced.result c.args.key.now c.args.table.now.entries c.requires.there c.insert-replaced.ensures.absent
+unwrap-old-requires c = there_ok c.insert-replaced.result c.args.key.now c.args.table.now.entries c.requires.there
+    c.insert-replaced.ensures.absent
 
 pub unwrap-requires : goal.unwrap-requires
 unwrap-requires c =
     there_some c.unwrap-old.result c.args.key.now c.args.table.now.entries c.requires.there
-    (old_at c.insert-replaced.result c.unwrap-old.result c.args.key.now c.args.table.now.entries c.insert-replaced.ensures.old c.unwrap-old.ensures)
+    (old_at c.insert-replaced.result c.unwrap-old.result c.args.key.now c.args.table.now.entries c.insert-replaced.ensures.old
+    c.unwrap-old.ensures)
 
 pub returns-clause-old : goal.returns-clause-old
 returns-clause-old c =
-    let at = old_at c.insert-replaced.result c.unwrap-old.result c.args.key.now c.args.table.now.entries c.insert-replaced.ensures.old c.unwrap-old.ensures in
+    let at = old_at c.insert-replaced.result c.unwrap-old.result c.args.key.now c.args.table.now.entries c.insert-replaced.ensures.old
+    c.unwrap-old.ensures in
     sym (at_shown c.args.key.now c.args.table.now.entries) ∙ ap (option_map upload_shown) (sym at ∙ c.unwrap.ensures)
 
 pub returns-clause-new : goal.returns-clause-new
@@ -24,7 +27,8 @@ returns-clause-new c =
 
 pub returns-clause-whole : goal.returns-clause-whole
 returns-clause-whole c =
-    let at = old_at c.insert-replaced.result c.unwrap-old.result c.args.key.now c.args.table.now.entries c.insert-replaced.ensures.old c.unwrap-old.ensures in
+    let at = old_at c.insert-replaced.result c.unwrap-old.result c.args.key.now c.args.table.now.entries c.insert-replaced.ensures.old
+    c.unwrap-old.ensures in
     whole_at c.args.key.now c.args.table.now.entries c.unwrap.result c.requires.all_whole (sym at ∙ c.unwrap.ensures)
 
 pub returns-clause-all_whole : goal.returns-clause-all_whole

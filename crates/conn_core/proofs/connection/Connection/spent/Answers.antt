@@ -4,7 +4,23 @@ use Rattle.conn_core.proofs.Keeps.{spent_by}
 use Rattle.conn_core.proofs.connection.Connection.spent.Goals as goal
 
 pub invariant_of-self : goal.invariant_of-self
-invariant_of-self c = (λ alive. omega (arith, ap (λ (w : StoredSending). length w.pending) c.spent.ensures.rest, c.self.invariant.0 alive), λ yes. subst (λ (w : StoredSending). IsAtRest c.self.inside.streams w) (sym c.spent.ensures.rest) (c.self.invariant.1 yes), c.self.invariant.2)
+invariant_of-self c = (
+  λ alive. omega (arith, ap (λ (w : StoredSending). length w.pending) c.spent.ensures.rest, c.self.invariant.0 alive),
+  λ yes. subst (λ (w : StoredSending). IsAtRest c.self.inside.streams w) (sym c.spent.ensures.rest)
+      (c.self.invariant.1 yes),
+  c.self.invariant.2,
+)
 
 pub returns-clause-stands : goal.returns-clause-stands
-returns-clause-stands c = λ texts. spent_by texts (record { reader = c.self.inside.reader; streams = c.self.inside.streams; sending = c.self.inside.sender; calls = c.self.inside.calls.items; due = c.self.inside.due.items; ended = c.self.inside.ended; reset_count = c.self.inside.reset_count }) c.args.self.now c.spent.new.self c.spent.new.self.spent c.self.view_is c.spent.ensures.rest
+returns-clause-stands c = λ texts. spent_by texts
+    (record {
+      reader = c.self.inside.reader;
+      streams = c.self.inside.streams;
+      sending = c.self.inside.sender;
+      calls =
+          c.self.inside.calls.items;
+      due = c.self.inside.due.items;
+      ended = c.self.inside.ended;
+      reset_count = c.self.inside.reset_count;
+    })
+    c.args.self.now c.spent.new.self c.spent.new.self.spent c.self.view_is c.spent.ensures.rest

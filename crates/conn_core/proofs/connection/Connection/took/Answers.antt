@@ -5,7 +5,30 @@ use Rattle.conn_core.proofs.Keeps.{took_by}
 use Rattle.conn_core.proofs.connection.Connection.took.Goals as goal
 
 pub invariant_of-self : goal.invariant_of-self
-invariant_of-self c = (λ alive. omega (arith, ap (λ (w : StoredSending). length w.pending) c.took.ensures.rest, length-drop c.args.count c.self.inside.sender.pending, c.self.invariant.0 alive), λ no. absurd (true≢false (sym no)), omega (arith, c.after_taking-resets.ensures.fewer, c.self.invariant.2))
+invariant_of-self c = (
+  λ alive. omega (
+    arith,
+    ap
+        (λ (w : StoredSending). length w.pending) c.took.ensures.rest,
+    length-drop c.args.count c.self.inside.sender.pending,
+    c.self.invariant.0
+        alive,
+  ),
+  λ no. absurd (true≢false (sym no)),
+  omega (arith, c.after_taking-resets.ensures.fewer, c.self.invariant.2),
+)
 
 pub returns-clause-stands : goal.returns-clause-stands
-returns-clause-stands c = λ texts. took_by texts (record { reader = c.self.inside.reader; streams = c.self.inside.streams; sending = c.self.inside.sender; calls = c.self.inside.calls.items; due = c.self.inside.due.items; ended = c.self.inside.ended; reset_count = c.self.inside.reset_count }) c.args.self.now c.took.new.self c.after_taking-resets.result c.args.count c.self.view_is c.after_taking-resets.ensures.count (ap (λ (w : StoredSending). w.queues) c.took.ensures.rest) (c.took.ensures.stands texts)
+returns-clause-stands c = λ texts. took_by texts
+    (record {
+      reader = c.self.inside.reader;
+      streams = c.self.inside.streams;
+      sending = c.self.inside.sender;
+      calls =
+          c.self.inside.calls.items;
+      due = c.self.inside.due.items;
+      ended = c.self.inside.ended;
+      reset_count = c.self.inside.reset_count;
+    })
+    c.args.self.now c.took.new.self c.after_taking-resets.result c.args.count c.self.view_is c.after_taking-resets.ensures.count
+    (ap (λ (w : StoredSending). w.queues) c.took.ensures.rest) (c.took.ensures.stands texts)

@@ -7,6 +7,8 @@ use Rattle.conn_core.proofs.connection.greeting.greet.Goals as goal
 
 pub returns-clause-stands : goal.returns-clause-stands
 returns-clause-stands c = λ texts h.
-    let same : c.new-2.result ≡ streams_setting ∷ window_setting c.args.window ∷ [] = c.new-2.ensures ∙ payload_is c.to_be_bytes.result c.args.window (omega arith) c.to_be_bytes.ensures in
+    let same : c.new-2.result ≡ streams_setting ∷ window_setting c.args.window ∷ [] =
+    c.new-2.ensures ∙ payload_is c.to_be_bytes.result c.args.window (omega arith) c.to_be_bytes.ensures in
     let first = c.put_control-2.ensures.stands texts [] [] h in
-    larger (λ (d : List Entry). IsStoredSending texts c.put_control-3.new.self d []) c.args.window c.new-2.result (omega arith) same (c.put_control-3.ensures.stands texts _ [] first)
+    larger (λ (d : List Entry). IsStoredSending texts c.put_control-3.new.self d []) c.args.window c.new-2.result (omega arith) same
+    (c.put_control-3.ensures.stands texts _ [] first)

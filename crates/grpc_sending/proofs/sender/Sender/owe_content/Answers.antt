@@ -12,18 +12,54 @@ use Rattle.grpc_sending.proofs.sender.Sender.owe_content.Goals.{then-has_failed-
 
 pub returns-then-has_failed-clause-ok : goal.returns-then-has_failed-clause-ok
 returns-then-has_failed-clause-ok c = elim c.then-has_failed.branch [
-  | then-has_failed-via-then-has_failed w ↦ λ texts d os at st. stands_failed c.args.streams.now (sending_in texts c.args.self.now) d os c.args.stream (Message (content_bytes c.args.message)) (sym c.has_failed.ensures ∙ w.if-has_failed.true) at st
-  | then-has_failed-via-else-has_failed+then-not-is_live w ↦ λ texts d os at st. stands_unowed c.args.streams.now (sending_in texts c.args.self.now) d os c.args.stream (Message (content_bytes c.args.message)) (sym w.is_live.ensures ∙ w.if-not-is_live.true) at st
+  | then-has_failed-via-then-has_failed w ↦ λ texts d os at st. stands_failed c.args.streams.now
+      (sending_in texts c.args.self.now) d os c.args.stream (Message (content_bytes c.args.message))
+      (sym c.has_failed.ensures ∙ w.if-has_failed.true) at st
+  | then-has_failed-via-else-has_failed+then-not-is_live w ↦ λ texts d os at st. stands_unowed c.args.streams.now
+      (sending_in texts c.args.self.now) d os c.args.stream (Message (content_bytes c.args.message))
+      (sym w.is_live.ensures ∙ w.if-not-is_live.true) at st
 ]
 
 pub returns-clause-ok : goal.returns-clause-ok
-returns-clause-ok c = owe_by c.args.streams.now (record { pending = c.self.inside.buffer; position = c.self.inside.position; queues = c.self.inside.backlog.queues; spent = c.self.inside.backlog.spent }) c.args.self.now c.push.new.self.queues c.args.stream (Message (content_bytes c.args.message)) (Framed c.new-message.result) c.push.result c.self.view_is (sym c.has_failed.ensures ∙ c.if-has_failed.false) (sym c.is_live.ensures ∙ c.if-not-is_live.false) (λ texts. ap (λ x. Part x [] ∷ []) c.new-message.ensures) c.push.ensures.ok
+returns-clause-ok c = owe_by c.args.streams.now
+    (record {
+      pending = c.self.inside.buffer;
+      position = c.self.inside.position;
+      queues = c.self.inside.backlog.queues;
+      spent =
+          c.self.inside.backlog.spent;
+    }) c.args.self.now c.push.new.self.queues c.args.stream (Message (content_bytes c.args.message))
+    (Framed c.new-message.result) c.push.result c.self.view_is (sym c.has_failed.ensures ∙ c.if-has_failed.false)
+    (sym c.is_live.ensures ∙ c.if-not-is_live.false) (λ texts. ap (λ x. Part x [] ∷ []) c.new-message.ensures) c.push.ensures.ok
 
 pub returns-clause-fit : goal.returns-clause-fit
-returns-clause-fit c = λ texts. fit_push c.push.result (record { pending = c.self.inside.buffer; position = c.self.inside.position; queues = c.self.inside.backlog.queues; spent = c.self.inside.backlog.spent }) c.args.self.now c.push.new.self c.args.stream (Framed c.new-message.result) c.self.view_is c.push.ensures.ok c.push.ensures.err texts tt
+returns-clause-fit c = λ texts. fit_push c.push.result
+    (record {
+      pending = c.self.inside.buffer;
+      position = c.self.inside.position;
+      queues = c.self.inside.backlog.queues;
+      spent =
+          c.self.inside.backlog.spent;
+    }) c.args.self.now c.push.new.self c.args.stream
+    (Framed c.new-message.result) c.self.view_is c.push.ensures.ok c.push.ensures.err texts tt
 
 pub returns-clause-sources : goal.returns-clause-sources
-returns-clause-sources c = keeps_push c.push.result (record { pending = c.self.inside.buffer; position = c.self.inside.position; queues = c.self.inside.backlog.queues; spent = c.self.inside.backlog.spent }) c.args.self.now c.push.new.self c.self.view_is c.push.ensures.sources c.push.ensures.err
+returns-clause-sources c = keeps_push c.push.result
+    (record {
+      pending = c.self.inside.buffer;
+      position = c.self.inside.position;
+      queues = c.self.inside.backlog.queues;
+      spent =
+          c.self.inside.backlog.spent;
+    }) c.args.self.now c.push.new.self c.self.view_is c.push.ensures.sources c.push.ensures.err
 
 pub returns-clause-none : goal.returns-clause-none
-returns-clause-none c = none_pushed c.push.result c.args.streams.now (record { pending = c.self.inside.buffer; position = c.self.inside.position; queues = c.self.inside.backlog.queues; spent = c.self.inside.backlog.spent }) c.args.self.now c.push.new.self c.args.stream (Framed c.new-message.result) c.self.view_is (sym c.has_failed.ensures ∙ c.if-has_failed.false) (sym c.is_live.ensures ∙ c.if-not-is_live.false) c.push.ensures.ok c.push.ensures.err
+returns-clause-none c = none_pushed c.push.result c.args.streams.now
+    (record {
+      pending = c.self.inside.buffer;
+      position = c.self.inside.position;
+      queues = c.self.inside.backlog.queues;
+      spent =
+          c.self.inside.backlog.spent;
+    }) c.args.self.now c.push.new.self c.args.stream (Framed c.new-message.result) c.self.view_is
+    (sym c.has_failed.ensures ∙ c.if-has_failed.false) (sym c.is_live.ensures ∙ c.if-not-is_live.false) c.push.ensures.ok c.push.ensures.err

@@ -24,7 +24,8 @@ returns-clause-reads c =
     let short = c.symbol_of-symbol.ensures.short in
     let long = left_at_least r.held r.buffer r.octets.now in
     ap text_of_bits (sym c.fill.ensures.same)
-    ∙ symbol_read s (bits_left r) (bits (r.held - c.symbol_of-symbol.result.1) r.buffer ++ _) (bits (30 - c.symbol_of-symbol.result.1) c.window-window.result)
+    ∙ symbol_read s (bits_left r) (bits (r.held - c.symbol_of-symbol.result.1) r.buffer ++ _)
+    (bits (30 - c.symbol_of-symbol.result.1) c.window-window.result)
     (search rules) (omega arith) (omega arith) (sym c.window-window.ensures.bits ∙ c.symbol_of-symbol.ensures.opens)
     (rw (← used) (left_after r.held r.buffer c.symbol_of-symbol.result.1 r.octets.now (omega arith)))
 
@@ -33,4 +34,5 @@ returns-clause-shorter c some =
     let r = c.fill.new.self in
     let used = c.symbol_of-symbol.ensures.known in
     let known : c.symbol_of-symbol.result.0 ≤ 256 = search rules in
-    rw (← c.fill.ensures.same) (left_shorter c.symbol_of-symbol.result.0 r.held r.buffer c.symbol_of-symbol.result.1 r.octets.now known used (omega arith))
+    rw (← c.fill.ensures.same) (left_shorter c.symbol_of-symbol.result.0 r.held r.buffer c.symbol_of-symbol.result.1 r.octets.now known used
+    (omega arith))

@@ -6,4 +6,5 @@ use Rattle.http2_frames.proofs.reader.FrameReader.frame.Goals as goal
 pub returns-clause-front : goal.returns-clause-front
 returns-clause-front c =
     c.frame_at.ensures.value ∙ ap frame_at c.first.ensures
-    ∙ first_is_front c.self.inside.preface.now c.self.inside.joined c.self.inside.received c.self.inside.fault c.args.self.now c.self.view_is c.self.invariant.2 c.requires
+    ∙ first_is_front c.self.inside.preface.now c.self.inside.joined c.self.inside.received c.self.inside.fault c.args.self.now
+    c.self.view_is c.self.invariant.2 c.requires

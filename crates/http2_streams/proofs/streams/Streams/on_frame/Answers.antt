@@ -14,12 +14,15 @@ use Rattle.http2_streams.proofs.ControlLaw.{answers_are_control}
 use Rattle.http2_streams.proofs.streams.Streams.on_frame.Goals as goal
 
 pub returns-then-is_err-clause-stands : goal.returns-then-is_err-clause-stands
-returns-then-is_err-clause-stands c = stands_after_err _ _ _ _ c.apply-outcome.ensures.answer (sym c.is_err.ensures.value ∙ c.if-is_err.true) refl
+returns-then-is_err-clause-stands c = stands_after_err _ _ _ _ c.apply-outcome.ensures.answer
+    (sym c.is_err.ensures.value ∙ c.if-is_err.true) refl
 
 pub returns-else-is_err-clause-stands : goal.returns-else-is_err-clause-stands
-returns-else-is_err-clause-stands c = stands_after_ok _ _ _ _ c.apply-outcome.ensures.answer c.apply-outcome.ensures.state (sym c.is_err.ensures.value ∙ c.if-is_err.false)
+returns-else-is_err-clause-stands c = stands_after_ok _ _ _ _ c.apply-outcome.ensures.answer c.apply-outcome.ensures.state
+    (sym c.is_err.ensures.value ∙ c.if-is_err.false)
 
-given_control : (v : Standing) (f : RawFrame) (r : Result StreamEvent ConnectionFault) → Gives r (answer_to v f) → IfOk r (λ a. AllByRecursion IsControlAnswer (control_frames a))
+given_control : (v : Standing) (f : RawFrame) (r : Result StreamEvent ConnectionFault) → Gives r (answer_to v f) →
+    IfOk r (λ a. AllByRecursion IsControlAnswer (control_frames a))
 given_control v f (Ok a) is = answers_are_control v f a is
 given_control v f (Err fault) is = tt
 

@@ -18,9 +18,11 @@ returns-clause-ended c =
 pub returns-clause-calls : goal.returns-clause-calls
 returns-clause-calls c =
     kept_by (is_other c.args.number) c.self.inside.by_id.entries _
-    (filter-RetainsPairs _ (is_other c.args.number) _ (λ k v b w g call. search rules) _ _ c.retain.ensures.filtered) c.retain.ensures.unique c.self.invariant
+    (filter-RetainsPairs _ (is_other c.args.number) _ (λ k v b w g call. search rules) _ _ c.retain.ensures.filtered)
+    c.retain.ensures.unique c.self.invariant
 
 pub invariant_of-self : goal.invariant_of-self
 invariant_of-self c =
     kept_by (is_other c.args.number) c.self.inside.by_id.entries _
-    (filter-RetainsPairs _ (is_other c.args.number) _ (λ k v b w g call. search rules) _ _ c.retain.ensures.filtered) c.retain.ensures.unique c.self.invariant
+    (filter-RetainsPairs _ (is_other c.args.number) _ (λ k v b w g call. search rules) _ _ c.retain.ensures.filtered)
+    c.retain.ensures.unique c.self.invariant

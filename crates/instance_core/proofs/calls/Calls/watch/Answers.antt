@@ -17,7 +17,8 @@ returns-clause-watches c = λ call is.
     let found : Some c.in-Some.call.now ≡ Some call = c.in-Some.ensures.value ∙ ap (call_at c.args.id) c.self.view_is ∙ is in
     let same : c.in-Some.call.now ≡ call = cc in
     let method : c.method.result ≡ call.method = c.method.ensures ∙ ap (λ (v : CallValue). v.method) same in
-    let watching : c.new-watching.result ≡ record { method = call.method; progress = watches c.args.number } = rw (c.new-watching.ensures, method) refl in
+    let watching : c.new-watching.result ≡ record { method = call.method; progress = watches c.args.number } =
+    rw (c.new-watching.ensures, method) refl in
     rw (c.replace.ensures.entries, watching, ← c.self.view_is) refl
 
 pub returns-clause-calls : goal.returns-clause-calls

@@ -8,9 +8,12 @@ use Rattle.instance_core.proofs.calls.Calls.watched.Goals as goal
 pub calls-preserved : goal.calls-preserved
 calls-preserved c =
     let calls : Calls = c.args.self.now in
-    let within : c.calls.place < length calls = slice_get_within calls c.calls.place (c.in-Some._id.now, c.in-Some.call.now) (sym c.in-Some.ensures.there) in
+    let within : c.calls.place < length calls = slice_get_within calls c.calls.place (c.in-Some._id.now, c.in-Some.call.now)
+    (sym c.in-Some.ensures.there) in
     record {
-      numbers = watched_next calls c.calls.place (c.in-Some._id.now, c.in-Some.call.now) c.calls.numbers.items c.add_watched.new.numbers.items (watched_numbers calls) c.in-Some.ensures.there (c.in_ok-add_watched.ensures c.in-Some._id.now) c.calls.invariant.numbers;
+      numbers = watched_next calls c.calls.place (c.in-Some._id.now, c.in-Some.call.now) c.calls.numbers.items
+          c.add_watched.new.numbers.items (watched_numbers calls) c.in-Some.ensures.there
+          (c.in_ok-add_watched.ensures c.in-Some._id.now) c.calls.invariant.numbers;
       within = omega (arith, within);
     }
 

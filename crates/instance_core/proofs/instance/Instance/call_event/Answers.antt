@@ -17,14 +17,16 @@ on_message-requires-clause-kept c =
     let i = c.self-in-Message.inside in
     let p = c.args.pool.now in
     let kept = subst (λ (x : InstanceSlots). IsInstanceInPool p x) (sym c.self-in-Message.view_is) c.requires.kept in
-    contents_in_pool p i.settings i.contents i.calls c.self-in-Message.invariant.1 (in_order p i.contents.executions.queue kept.within.jobs) kept
+    contents_in_pool p i.settings i.contents i.calls c.self-in-Message.invariant.1
+    (in_order p i.contents.executions.queue kept.within.jobs) kept
 
 pub on_end-requires-clause-kept : goal.on_end-requires-clause-kept
 on_end-requires-clause-kept c =
     let i = c.self-in-End.inside in
     let p = c.args.pool.now in
     let kept = subst (λ (x : InstanceSlots). IsInstanceInPool p x) (sym c.self-in-End.view_is) c.requires.kept in
-    contents_in_pool p i.settings i.contents i.calls c.self-in-End.invariant.1 (in_order p i.contents.executions.queue kept.within.jobs) kept
+    contents_in_pool p i.settings i.contents i.calls c.self-in-End.invariant.1
+    (in_order p i.contents.executions.queue kept.within.jobs) kept
 
 pub on_end-requires-clause-room : goal.on_end-requires-clause-room
 on_end-requires-clause-room c =
@@ -36,17 +38,22 @@ on_end-requires-clause-room c =
 pub returns-in-Head-clause-short : goal.returns-in-Head-clause-short
 returns-in-Head-clause-short c =
     let i = c.self.inside in
-    event_short c.args.pool.now c.args.pool.now c.args.parent.now (slots_of i.settings i.contents i.calls) c.args.self.now (head c.in-Head.id c.in-Head.method) c.on_head.result c.self.view_is c.requires.kept c.requires.beside (c.on_head.ensures.replies c.args.pool.now) tt
+    event_short c.args.pool.now c.args.pool.now c.args.parent.now (slots_of i.settings i.contents i.calls) c.args.self.now
+    (head c.in-Head.id c.in-Head.method) c.on_head.result c.self.view_is c.requires.kept c.requires.beside
+    (c.on_head.ensures.replies c.args.pool.now) tt
 
 pub returns-in-Fault-clause-short : goal.returns-in-Fault-clause-short
 returns-in-Fault-clause-short c =
     let i = c.self-in-Fault.inside in
-    event_short c.args.pool.now c.args.pool.now c.args.parent.now (slots_of i.settings i.contents i.calls) c.args.self.now (fault c.in-Fault.id c.in-Fault.refusal) c.on_fault.result c.self-in-Fault.view_is c.requires.kept c.requires.beside (c.on_fault.ensures.replies c.args.pool.now) tt
+    event_short c.args.pool.now c.args.pool.now c.args.parent.now (slots_of i.settings i.contents i.calls) c.args.self.now
+    (fault c.in-Fault.id c.in-Fault.refusal) c.on_fault.result c.self-in-Fault.view_is c.requires.kept c.requires.beside
+    (c.on_fault.ensures.replies c.args.pool.now) tt
 
 pub returns-in-End-clause-short : goal.returns-in-End-clause-short
 returns-in-End-clause-short c =
     let i = c.self-in-End.inside in
-    event_short c.args.pool.now c.on_end.new.pool c.args.parent.now (slots_of i.settings i.contents i.calls) c.args.self.now (end c.in-End.id) c.on_end.result c.self-in-End.view_is c.requires.kept c.requires.beside c.on_end.ensures.replies tt
+    event_short c.args.pool.now c.on_end.new.pool c.args.parent.now (slots_of i.settings i.contents i.calls) c.args.self.now
+    (end c.in-End.id) c.on_end.result c.self-in-End.view_is c.requires.kept c.requires.beside c.on_end.ensures.replies tt
 
 pub returns-in-End-clause-replies : goal.returns-in-End-clause-replies
 returns-in-End-clause-replies c =
@@ -58,15 +65,20 @@ returns-in-Message-clause-replies c =
     let i = c.self-in-Message.inside in
     let p = c.args.pool.now in
     rw (c.in-Message.is, ← c.self-in-Message.view_is)
-    (message_replies c.on_message.new.pool (visible_in p c.args.parent.now) (state_in p (slots_of i.settings i.contents i.calls)) c.in-Message.id c.in-Message.message.items c.on_message.result (c.on_message.ensures.replies (jobs_in p i.contents.executions.queue) c.on_message.new.pool))
+    (message_replies c.on_message.new.pool (visible_in p c.args.parent.now)
+    (state_in p (slots_of i.settings i.contents i.calls)) c.in-Message.id c.in-Message.message.items c.on_message.result
+    (c.on_message.ensures.replies (jobs_in p i.contents.executions.queue) c.on_message.new.pool))
 
 pub returns-in-Message-clause-short : goal.returns-in-Message-clause-short
 returns-in-Message-clause-short c =
     let i = c.self-in-Message.inside in
     let p = c.args.pool.now in
     let request = rw c.in-Message.is at c.requires.short in
-    event_short p c.on_message.new.pool c.args.parent.now (slots_of i.settings i.contents i.calls) c.args.self.now (message c.in-Message.id c.in-Message.message.items) c.on_message.result c.self-in-Message.view_is c.requires.kept c.requires.beside
-    (message_replies c.on_message.new.pool (visible_in p c.args.parent.now) (state_in p (slots_of i.settings i.contents i.calls)) c.in-Message.id c.in-Message.message.items c.on_message.result (c.on_message.ensures.replies (jobs_in p i.contents.executions.queue) c.on_message.new.pool)) request
+    event_short p c.on_message.new.pool c.args.parent.now (slots_of i.settings i.contents i.calls) c.args.self.now
+    (message c.in-Message.id c.in-Message.message.items) c.on_message.result c.self-in-Message.view_is c.requires.kept c.requires.beside
+    (message_replies c.on_message.new.pool (visible_in p c.args.parent.now)
+    (state_in p (slots_of i.settings i.contents i.calls)) c.in-Message.id c.in-Message.message.items c.on_message.result
+    (c.on_message.ensures.replies (jobs_in p i.contents.executions.queue) c.on_message.new.pool)) request
 
 pub returns-in-Message-clause-changed : goal.returns-in-Message-clause-changed
 returns-in-Message-clause-changed c =
@@ -76,9 +88,12 @@ returns-in-Message-clause-changed c =
     let old = slots_of i.settings i.contents i.calls in
     let new = slots_of i.settings c.on_message.new.contents c.on_message.new.calls in
     let apart = apart_by p old c.args.self.now c.args.parent.now c.self-in-Message.view_is c.requires.beside.counted in
-    let makes = message_makes i.settings i.contents c.on_message.new.contents i.calls c.on_message.new.calls p q c.args.parent.now c.in-Message.id c.in-Message.message.items c.on_message.result c.on_message.ensures.executions c.on_message.ensures.moves apart (c.on_message.ensures.changed (jobs_in p i.contents.executions.queue)) in
+    let makes = message_makes i.settings i.contents c.on_message.new.contents i.calls c.on_message.new.calls p q c.args.parent.now
+    c.in-Message.id c.in-Message.message.items c.on_message.result c.on_message.ensures.executions c.on_message.ensures.moves apart
+    (c.on_message.ensures.changed (jobs_in p i.contents.executions.queue)) in
     rw (c.in-Message.is, ← c.self-in-Message.view_is)
-    (message_whole p q c.args.parent.now old new (holders c.on_message.new.contents.view) c.in-Message.id c.in-Message.message.items c.on_message.result c.on_message.ensures.moves apart makes)
+    (message_whole p q c.args.parent.now old new (holders c.on_message.new.contents.view) c.in-Message.id c.in-Message.message.items
+    c.on_message.result c.on_message.ensures.moves apart makes)
 
 pub returns-in-Message-clause-memory : goal.returns-in-Message-clause-memory
 returns-in-Message-clause-memory c =
@@ -88,9 +103,12 @@ returns-in-Message-clause-memory c =
     let old = slots_of i.settings i.contents i.calls in
     let new = slots_of i.settings c.on_message.new.contents c.on_message.new.calls in
     let apart = apart_by p old c.args.self.now c.args.parent.now c.self-in-Message.view_is c.requires.beside.counted in
-    let makes = message_makes i.settings i.contents c.on_message.new.contents i.calls c.on_message.new.calls p q c.args.parent.now c.in-Message.id c.in-Message.message.items c.on_message.result c.on_message.ensures.executions c.on_message.ensures.moves apart (c.on_message.ensures.changed (jobs_in p i.contents.executions.queue)) in
+    let makes = message_makes i.settings i.contents c.on_message.new.contents i.calls c.on_message.new.calls p q c.args.parent.now
+    c.in-Message.id c.in-Message.message.items c.on_message.result c.on_message.ensures.executions c.on_message.ensures.moves apart
+    (c.on_message.ensures.changed (jobs_in p i.contents.executions.queue)) in
     rw (c.in-Message.is, ← c.self-in-Message.view_is)
-    (message_front p q c.args.parent.now old new (holders c.on_message.new.contents.view) c.in-Message.id c.in-Message.message.items c.on_message.result c.on_message.ensures.moves apart makes)
+    (message_front p q c.args.parent.now old new (holders c.on_message.new.contents.view) c.in-Message.id c.in-Message.message.items
+    c.on_message.result c.on_message.ensures.moves apart makes)
 
 pub returns-in-Message-clause-within : goal.returns-in-Message-clause-within
 returns-in-Message-clause-within c =
@@ -107,7 +125,9 @@ returns-in-Message-clause-within c =
     let request = rw c.in-Message.is at c.requires.short in
     let kept = subst (λ (x : InstanceSlots). IsInstanceInPool p x) (sym c.self-in-Message.view_is) c.requires.kept in
     let beside = subst (λ (x : InstanceSlots). IsBeside p parent x) (sym c.self-in-Message.view_is) c.requires.beside in
-    let makes = message_makes i.settings i.contents c.on_message.new.contents i.calls c.on_message.new.calls p q parent id bytes r c.on_message.ensures.executions c.on_message.ensures.moves beside.counted (c.on_message.ensures.changed (jobs_in p i.contents.executions.queue)) in
+    let makes = message_makes i.settings i.contents c.on_message.new.contents i.calls c.on_message.new.calls p q parent id bytes r
+    c.on_message.ensures.executions c.on_message.ensures.moves beside.counted
+    (c.on_message.ensures.changed (jobs_in p i.contents.executions.queue)) in
     event_within p q parent old new (message id bytes) r kept beside request
     (message_whole p q parent old new those id bytes r c.on_message.ensures.moves beside.counted makes)
     (message_front p q parent old new those id bytes r c.on_message.ensures.moves beside.counted makes)
@@ -120,7 +140,9 @@ returns-in-End-clause-changed c =
     let new = slots_of i.settings c.on_end.new.contents c.on_end.new.calls in
     let apart = apart_by p old c.args.self.now c.args.parent.now c.self-in-End.view_is c.requires.beside.counted in
     rw (c.in-End.is, ← c.self-in-End.view_is)
-    (end_whole p c.on_end.new.pool c.args.parent.now old new (λ k. holders_of_instance new k + result_holders c.on_end.result k) c.in-End.id c.on_end.result c.on_end.ensures.moves apart c.on_end.ensures.changed)
+    (end_whole p c.on_end.new.pool c.args.parent.now old new
+    (λ k. holders_of_instance new k + result_holders c.on_end.result k) c.in-End.id c.on_end.result c.on_end.ensures.moves apart
+    c.on_end.ensures.changed)
 
 pub returns-in-End-clause-memory : goal.returns-in-End-clause-memory
 returns-in-End-clause-memory c =
@@ -130,7 +152,9 @@ returns-in-End-clause-memory c =
     let new = slots_of i.settings c.on_end.new.contents c.on_end.new.calls in
     let apart = apart_by p old c.args.self.now c.args.parent.now c.self-in-End.view_is c.requires.beside.counted in
     rw (c.in-End.is, ← c.self-in-End.view_is)
-    (end_front p c.on_end.new.pool c.args.parent.now old new (λ k. holders_of_instance new k + result_holders c.on_end.result k) c.in-End.id c.on_end.result c.on_end.ensures.moves apart c.on_end.ensures.changed)
+    (end_front p c.on_end.new.pool c.args.parent.now old new
+    (λ k. holders_of_instance new k + result_holders c.on_end.result k) c.in-End.id c.on_end.result c.on_end.ensures.moves apart
+    c.on_end.ensures.changed)
 
 pub returns-in-End-clause-within : goal.returns-in-End-clause-within
 returns-in-End-clause-within c =
@@ -149,7 +173,8 @@ returns-in-End-clause-within c =
     (end_front p q parent old new those c.in-End.id r c.on_end.ensures.moves beside.counted c.on_end.ensures.changed)
 
 pub returns-in-Cancel-clause-changed : goal.returns-in-Cancel-clause-changed
-returns-in-Cancel-clause-changed c = rw c.in-Cancel.is (c.cancel.ensures.changed c.args.pool.now (visible_in c.args.pool.now c.args.parent.now))
+returns-in-Cancel-clause-changed c = rw c.in-Cancel.is
+    (c.cancel.ensures.changed c.args.pool.now (visible_in c.args.pool.now c.args.parent.now))
 
 pub returns-in-Tick-clause-changed : goal.returns-in-Tick-clause-changed
 returns-in-Tick-clause-changed c = rw c.in-Tick.is (c.tick.ensures.changed c.args.pool.now (visible_in c.args.pool.now c.args.parent.now))

@@ -13,7 +13,8 @@ returns-clause-changed c =
     let p = c.args.pool.now in
     let kept = subst (λ (x : InstanceSlots). IsInstanceInPool p x) (sym c.self.view_is) c.requires.kept in
     rw (← c.self.view_is)
-    (jobs_become p c.forget_job.new.pool old c.forget_job.new.queue i.calls i.calls (jobs_without c.args.job (jobs_in p old.jobs)) kept.counted c.forget_job.ensures.moves c.forget_job.ensures.forgotten refl)
+    (jobs_become p c.forget_job.new.pool old c.forget_job.new.queue i.calls i.calls
+    (jobs_without c.args.job (jobs_in p old.jobs)) kept.counted c.forget_job.ensures.moves c.forget_job.ensures.forgotten refl)
 
 pub returns-clause-kept : goal.returns-clause-kept
 returns-clause-kept c =
@@ -21,5 +22,6 @@ returns-clause-kept c =
     let old = slots_of i.settings i.contents i.calls in
     let p = c.args.pool.now in
     let kept = subst (λ (x : InstanceSlots). IsInstanceInPool p x) (sym c.self.view_is) c.requires.kept in
-    let is = jobs_become p c.forget_job.new.pool old c.forget_job.new.queue i.calls i.calls (jobs_without c.args.job (jobs_in p old.jobs)) kept.counted c.forget_job.ensures.moves c.forget_job.ensures.forgotten refl in
+    let is = jobs_become p c.forget_job.new.pool old c.forget_job.new.queue i.calls i.calls
+    (jobs_without c.args.job (jobs_in p old.jobs)) kept.counted c.forget_job.ensures.moves c.forget_job.ensures.forgotten refl in
     forgotten_in_pool p c.forget_job.new.pool old c.forget_job.new.queue c.args.job kept c.forget_job.ensures.moves is

@@ -26,7 +26,8 @@ on_outcome-requires-clause-jobs c =
     in_order p i.contents.executions.queue kept.within.jobs
 
 pub on_outcome-requires-clause-within : goal.on_outcome-requires-clause-within
-on_outcome-requires-clause-within c = subst (λ (x : InstanceSlots). IsInstanceWithin (state_in c.args.pool.now x)) (sym c.self.view_is) c.requires.kept.within
+on_outcome-requires-clause-within c = subst (λ (x : InstanceSlots). IsInstanceWithin (state_in c.args.pool.now x))
+    (sym c.self.view_is) c.requires.kept.within
 
 pub returns-clause-changed : goal.returns-clause-changed
 returns-clause-changed c =
@@ -38,7 +39,9 @@ returns-clause-changed c =
     let new = c.on_outcome.new.contents in
     let after = contents_state i.settings q new (ongoing_in p i.contents i.calls) in
     let changes = ending_changes s (outcome_shown c.args.outcome) (running_job c.args.job s.jobs) in
-    rw (← c.self.view_is) (ended_whole c.on_outcome.result changes s (state_in q (slots_of i.settings new i.calls)) after (ended_state p q i.settings i.contents new i.calls kept.counted c.on_outcome.ensures.moves c.on_outcome.ensures.executions) c.on_outcome.ensures.changed)
+    rw (← c.self.view_is) (ended_whole c.on_outcome.result changes s (state_in q (slots_of i.settings new i.calls)) after
+    (ended_state p q i.settings i.contents new i.calls kept.counted c.on_outcome.ensures.moves c.on_outcome.ensures.executions)
+    c.on_outcome.ensures.changed)
 
 pub returns-clause-memory : goal.returns-clause-memory
 returns-clause-memory c =
@@ -50,7 +53,9 @@ returns-clause-memory c =
     let new = c.on_outcome.new.contents in
     let after = contents_state i.settings q new (ongoing_in p i.contents i.calls) in
     let changes = ending_changes s (outcome_shown c.args.outcome) (running_job c.args.job s.jobs) in
-    rw (← c.self.view_is) (ended_front c.on_outcome.result changes s (state_in q (slots_of i.settings new i.calls)) after (ended_state p q i.settings i.contents new i.calls kept.counted c.on_outcome.ensures.moves c.on_outcome.ensures.executions) c.on_outcome.ensures.memory)
+    rw (← c.self.view_is) (ended_front c.on_outcome.result changes s (state_in q (slots_of i.settings new i.calls)) after
+    (ended_state p q i.settings i.contents new i.calls kept.counted c.on_outcome.ensures.moves c.on_outcome.ensures.executions)
+    c.on_outcome.ensures.memory)
 
 pub returns-clause-within : goal.returns-clause-within
 returns-clause-within c =
@@ -80,4 +85,5 @@ returns-clause-after c =
     let p = c.args.pool.now in
     let kept = subst (λ (x : InstanceSlots). IsInstanceInPool p x) (sym c.self.view_is) c.requires.kept in
     let s = state_in p (slots_of i.settings i.contents i.calls) in
-    rw (← c.self.view_is) (if_ok c.on_outcome.result (after_keeps s (end_job c.args.job (outcome_shown c.args.outcome)) c.on_outcome.ensures.narrow kept.within))
+    rw (← c.self.view_is) (if_ok c.on_outcome.result
+    (after_keeps s (end_job c.args.job (outcome_shown c.args.outcome)) c.on_outcome.ensures.narrow kept.within))

@@ -18,5 +18,6 @@ returns-clause-changed c =
     let steps = steps_shown c.args.steps.items in
     let held = subst (λ (x : InstanceSlots). (k : ℕ) → holders_of_instance x k ≤ count_at p k) (sym c.self.view_is) c.requires.counted in
     rw (← c.self.view_is)
-    (jobs_become p c.take_steps.new.pool old c.take_steps.new.queue c.end_told.new.self (calls_after_steps steps i.calls) (jobs_after_steps steps (jobs_in p old.jobs)) held c.take_steps.ensures.moves c.take_steps.ensures.taken
+    (jobs_become p c.take_steps.new.pool old c.take_steps.new.queue c.end_told.new.self (calls_after_steps steps i.calls)
+    (jobs_after_steps steps (jobs_in p old.jobs)) held c.take_steps.ensures.moves c.take_steps.ensures.taken
     (c.end_told.ensures.ended ∙ ap (λ (ss : List Step). calls_after_steps (steps_shown ss) i.calls) c.deref.ensures.value))

@@ -13,7 +13,8 @@ abbrev limit_of : ViewValue → ℕ
 limit_of v = v.limit
 
 pub put-requires-clause-absent : goal.put-requires-clause-absent
-put-requires-clause-absent c = rw (ap entries_of c.self.view_is) (unseen_absent c.args.digest.now c.args.self.now.entries (c.requires.absent []))
+put-requires-clause-absent c = rw (ap entries_of c.self.view_is)
+    (unseen_absent c.args.digest.now c.args.self.now.entries (c.requires.absent []))
 
 pub seal-requires : goal.seal-requires
 seal-requires c =
@@ -23,7 +24,12 @@ seal-requires c =
 pub returns-in-Ok-clause-shown : goal.returns-in-Ok-clause-shown
 returns-in-Ok-clause-shown c =
     let entered = on_ok c.put.result (sym c.if-is_err.ensures.value) c.put.ensures.ok in
-    let entries : c.set.new.cache.entries ≡ (c.args.digest.now, c.keep.result) ∷ c.args.self.now.entries = c.set.ensures.entries _ _ entered ∙ ap (λ (k : ℕ). (c.args.digest.now, k) ∷ c.self.inside.cache.entries) c.new-used.ensures ∙ ap (λ (v : ViewValue). (c.args.digest.now, c.keep.result) ∷ v.entries) c.self.view_is in
-    let text : text_at c.seal.new.self c.keep.result ≡ c.args.draft.text = ap (text_at c.seal.new.self) c.keep.ensures ∙ c.in-Ok.ensures.text in
-    let moves : Moves c.args.pool.now c.seal.new.self no_holders (one_at c.keep.result) = subst (λ (k : ℕ). Moves c.args.pool.now c.seal.new.self no_holders (one_at k)) (sym c.keep.ensures) c.in-Ok.ensures.moves in
-    added_shown c.args.pool.now c.seal.new.self c.args.self.now.entries c.set.new.cache.entries c.args.digest.now c.keep.result c.args.draft.text c.requires.held entries text moves
+    let entries : c.set.new.cache.entries ≡ (c.args.digest.now, c.keep.result) ∷ c.args.self.now.entries =
+    c.set.ensures.entries _ _ entered ∙ ap (λ (k : ℕ). (c.args.digest.now, k) ∷ c.self.inside.cache.entries) c.new-used.ensures
+    ∙ ap (λ (v : ViewValue). (c.args.digest.now, c.keep.result) ∷ v.entries) c.self.view_is in
+    let text : text_at c.seal.new.self c.keep.result ≡ c.args.draft.text =
+    ap (text_at c.seal.new.self) c.keep.ensures ∙ c.in-Ok.ensures.text in
+    let moves : Moves c.args.pool.now c.seal.new.self no_holders (one_at c.keep.result) =
+    subst (λ (k : ℕ). Moves c.args.pool.now c.seal.new.self no_holders (one_at k)) (sym c.keep.ensures) c.in-Ok.ensures.moves in
+    added_shown c.args.pool.now c.seal.new.self c.args.self.now.entries c.set.new.cache.entries c.args.digest.now c.keep.result
+    c.args.draft.text c.requires.held entries text moves

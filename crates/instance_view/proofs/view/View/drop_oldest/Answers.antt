@@ -9,17 +9,23 @@ entries_of v = v.entries
 
 pub release_kept-requires : goal.release_kept-requires
 release_kept-requires c =
-    let was : c.args.self.now.entries ≡ c.pop.new.cache.entries ++ c.in-Some.entry ∷ [] = sym (ap entries_of c.self.view_is) ∙ c.in-Some.ensures.some in
+    let was : c.args.self.now.entries ≡ c.pop.new.cache.entries ++ c.in-Some.entry ∷ [] =
+    sym (ap entries_of c.self.view_is) ∙ c.in-Some.ensures.some in
     rw c.kept.ensures (dropped_held c.args.pool.now c.args.self.now.entries c.pop.new.cache.entries c.in-Some.entry c.requires was)
 
 pub returns-in-Some-clause-shown : goal.returns-in-Some-clause-shown
 returns-in-Some-clause-shown c =
-    let was : c.args.self.now.entries ≡ c.pop.new.cache.entries ++ c.in-Some.entry ∷ [] = sym (ap entries_of c.self.view_is) ∙ c.in-Some.ensures.some in
-    let moved = subst (λ (k : ℕ). Moves c.args.pool.now c.release_kept.new.pool (one_at k) no_holders) c.kept.ensures c.release_kept.ensures in
-    dropped_shown c.args.pool.now c.release_kept.new.pool c.args.self.now.entries c.pop.new.cache.entries c.in-Some.entry c.requires was moved
+    let was : c.args.self.now.entries ≡ c.pop.new.cache.entries ++ c.in-Some.entry ∷ [] =
+    sym (ap entries_of c.self.view_is) ∙ c.in-Some.ensures.some in
+    let moved = subst (λ (k : ℕ). Moves c.args.pool.now c.release_kept.new.pool (one_at k) no_holders) c.kept.ensures
+    c.release_kept.ensures in
+    dropped_shown c.args.pool.now c.release_kept.new.pool c.args.self.now.entries c.pop.new.cache.entries c.in-Some.entry c.requires was
+    moved
 
 pub returns-in-Some-clause-moves : goal.returns-in-Some-clause-moves
 returns-in-Some-clause-moves c =
-    let was : c.args.self.now.entries ≡ c.pop.new.cache.entries ++ c.in-Some.entry ∷ [] = sym (ap entries_of c.self.view_is) ∙ c.in-Some.ensures.some in
-    let moved = subst (λ (k : ℕ). Moves c.args.pool.now c.release_kept.new.pool (one_at k) no_holders) c.kept.ensures c.release_kept.ensures in
+    let was : c.args.self.now.entries ≡ c.pop.new.cache.entries ++ c.in-Some.entry ∷ [] =
+    sym (ap entries_of c.self.view_is) ∙ c.in-Some.ensures.some in
+    let moved = subst (λ (k : ℕ). Moves c.args.pool.now c.release_kept.new.pool (one_at k) no_holders) c.kept.ensures
+    c.release_kept.ensures in
     dropped_moves c.args.pool.now c.release_kept.new.pool c.args.self.now.entries c.pop.new.cache.entries c.in-Some.entry was moved

@@ -18,6 +18,8 @@ returns c =
     let one : c.put_repeated_enum.new.writer ≡ followed_by_records before functions = search rules in
     let sized : c.put_int64.new.writer ≡ followed_by_records c.put_embedded.new.writer size = search rules in
     let ended : OnOk c.put_int32.result (c.put_int32.new.writer ≡ followed_by_records c.put_int64.new.writer strategy) = search rules in
-    let two = written_next before functions update c.put_repeated_enum.new.writer c.put_embedded.new.writer one c.in_ok-put_embedded.ensures in
+    let two = written_next before functions update c.put_repeated_enum.new.writer c.put_embedded.new.writer one
+    c.in_ok-put_embedded.ensures in
     let three = written_next before (functions ++ update) size c.put_embedded.new.writer c.put_int64.new.writer two sized in
-    on_ok_weaker c.put_int32.result (written_next before (functions ++ update ++ size) strategy c.put_int64.new.writer c.put_int32.new.writer three) ended
+    on_ok_weaker c.put_int32.result (written_next before
+    (functions ++ update ++ size) strategy c.put_int64.new.writer c.put_int32.new.writer three) ended

@@ -1,6 +1,6 @@
 use Rattle.std.proofs.Common.{◌∙◌, ap, refl, string_bytes}
 use Rattle.run_calls.specs.Values.{command_shown, place_shown}
-use Rattle.host_files.specs.Folders.{working_path}
+use Rattle.run_folders.specs.Folders.{working_path}
 use Rattle.run_programs.specs.Spawning.{StartsItself}
 use Rattle.run_programs.specs.Ways.{sought_for, sought_of, sought_shown}
 use Rattle.run_programs.proofs.Looking.{adds_one, shown_as}

@@ -1,6 +1,6 @@
 use Rattle.std.proofs.Common.{ap, string_bytes, sym}
 use Rattle.run_calls.specs.Values.{command_shown, place_shown}
-use Rattle.host_files.specs.Folders.{root_path, working_path}
+use Rattle.run_folders.specs.Folders.{root_path, working_path}
 use Rattle.run_programs.specs.Launching.{StartsLauncher}
 use Rattle.run_programs.specs.Spawning.{StartsItself}
 use Rattle.run_programs.specs.Known.{started_as}

@@ -13,7 +13,8 @@ loop-line-preserved c =
     let after = c.next.new.self in
     let steps : c.loop-line.line-iterator ≡ line ∷ after = search rules in (
       ap (λ configs. configs ++ configs_of_lines (limits_value c.args.limits) after) c.in_ok-add_form.ensures
-          ∙ append_assoc before (option_to_list (config_of_words (limits_value c.args.limits) (words_of line))) (configs_of_lines (limits_value c.args.limits) after)
+          ∙ append_assoc before (option_to_list (config_of_words (limits_value c.args.limits) (words_of line)))
+          (configs_of_lines (limits_value c.args.limits) after)
           ∙ ap (λ lines. before ++ configs_of_lines (limits_value c.args.limits) lines) (sym steps) ∙ c.loop-line.invariant.0,
       tt,
       tt,

@@ -13,5 +13,7 @@ returns-in_ok-push-clause-read c =
     let head : ReplayHeadValue = head_value c.args.head.now in
     let steps : words_of c.args.line.now ≡ c.in_ok-kind.kind.now ∷ c.next.new.self = search rules in
     let kind : bytes_eq c.in_ok-kind.kind.now (codes "instance") ≡ true = search (rules, tests) in
-    configures_line head c.args.line.now c.in_ok-kind.kind.now c.next.new.self (config_value c.in_ok-config.config) steps kind c.if-head.false c.in_ok-config.ensures.read
-    ∙ ap (λ configs. Some (record head { configs = configs })) (sym (ap (map config_value) c.in_ok-push.ensures.items ∙ map-append config_value _ _))
+    configures_line head c.args.line.now c.in_ok-kind.kind.now c.next.new.self
+    (config_value c.in_ok-config.config) steps kind c.if-head.false c.in_ok-config.ensures.read
+    ∙ ap (λ configs. Some (record head { configs = configs }))
+    (sym (ap (map config_value) c.in_ok-push.ensures.items ∙ map-append config_value _ _))

@@ -7,15 +7,19 @@ use Rattle.script.proofs.unary.parser.parse.Goals as goal
 
 pub returns-clause-script : goal.returns-clause-script
 returns-clause-script c =
-    let read : unary_script_of c.args.text.now ≡ Ok (lines_value c.read_lines.new.script) = rw (ap (map entry_value) c.with_hasher.ensures.empty, c.new.ensures.items) at c.in_ok-read_lines.ensures.read in
+    let read : unary_script_of c.args.text.now ≡ Ok (lines_value c.read_lines.new.script) =
+    rw (ap (map entry_value) c.with_hasher.ensures.empty, c.new.ensures.items) at c.in_ok-read_lines.ensures.read in
     rw (c.in_ok-instances.ensures) read
 
 pub returns-clause-instances : goal.returns-clause-instances
 returns-clause-instances c =
-    let read : unary_script_of c.args.text.now ≡ Ok (lines_value c.read_lines.new.script) = rw (ap (map entry_value) c.with_hasher.ensures.empty, c.new.ensures.items) at c.in_ok-read_lines.ensures.read in
+    let read : unary_script_of c.args.text.now ≡ Ok (lines_value c.read_lines.new.script) =
+    rw (ap (map entry_value) c.with_hasher.ensures.empty, c.new.ensures.items) at c.in_ok-read_lines.ensures.read in
     rw (c.in_ok-instances.ensures) (IsWellFormed-unary_script_of c.args.text.now (lines_value c.read_lines.new.script) read).instances
 
 pub returns-clause-commands : goal.returns-clause-commands
 returns-clause-commands c =
-    let read : unary_script_of c.args.text.now ≡ Ok (lines_value c.read_lines.new.script) = rw (ap (map entry_value) c.with_hasher.ensures.empty, c.new.ensures.items) at c.in_ok-read_lines.ensures.read in
-    KnowsInstances-read c.read_lines.new.script c.in_ok-instances.instances c.in_ok-instances.ensures (IsWellFormed-unary_script_of c.args.text.now (lines_value c.read_lines.new.script) read).commands
+    let read : unary_script_of c.args.text.now ≡ Ok (lines_value c.read_lines.new.script) =
+    rw (ap (map entry_value) c.with_hasher.ensures.empty, c.new.ensures.items) at c.in_ok-read_lines.ensures.read in
+    KnowsInstances-read c.read_lines.new.script c.in_ok-instances.instances c.in_ok-instances.ensures
+    (IsWellFormed-unary_script_of c.args.text.now (lines_value c.read_lines.new.script) read).commands

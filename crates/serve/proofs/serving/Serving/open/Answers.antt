@@ -67,7 +67,7 @@ returns-else-eq-clause-serving g c = λ configs same so.
 
 pub returns-in-Ok-tell-clause-opened : goal.returns-in-Ok-tell-clause-opened
 returns-in-Ok-tell-clause-opened g c =
-    added_by _ c.new-opened.result _ c.reserve.new.self.items _ _ _ c.push_reserved.ensures.items
+    added_by _ c.new-opened.result _ c.reserve.new.self.items _ _ _ c.put.ensures
     (accepted_by _ _ c.args.instance c.in-Some.connection c.new-opened.result _ c.args.self.now.connections.items c.reserve.new.self.items _
     c.args.self.now.next c.number_after-self-2.result _ c.new-opened.ensures.socket c.new-opened.ensures.heard
     c.new-opened.ensures.received c.requires.one c.in-Some.is c.in-Ok.ensures.adds c.reserve.ensures.items c.deref-2.ensures.value

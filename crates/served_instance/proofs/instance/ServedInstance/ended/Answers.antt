@@ -13,11 +13,15 @@ use Rattle.served_instance.proofs.instance.ServedInstance.ended.Goals as goal
 pub returns-in-None : goal.returns-in-None
 returns-in-None c = λ l s.
     let there : None ≡ connection_at c.args.connection c.args.self.now.connections =
-    c.in-None.ensures ∙ ap (λ (os : List OpenConnection). connection_at c.args.connection (map connection_shown os)) c.deref.ensures.value ∙ ap (λ (v : ServedSlots). connection_at c.args.connection v.connections) c.self.view_is in
-    ap (option_map (λ (v : ConnectionValue). v.ended)) there ∙ same_ended (text_at s.pool) _ _ (same_at (text_at s.pool) c.args.connection c.args.self.now.connections l.connections s.stand)
+    c.in-None.ensures ∙ ap (λ (os : List OpenConnection). connection_at c.args.connection (map connection_shown os)) c.deref.ensures.value
+    ∙ ap (λ (v : ServedSlots). connection_at c.args.connection v.connections) c.self.view_is in
+    ap (option_map (λ (v : ConnectionValue). v.ended)) there
+    ∙ same_ended (text_at s.pool) _ _ (same_at (text_at s.pool) c.args.connection c.args.self.now.connections l.connections s.stand)
 
 pub returns-in-Some : goal.returns-in-Some
 returns-in-Some c = λ l s.
     let there : Some c.in-Some.kept.now ≡ connection_at c.args.connection c.args.self.now.connections =
-    c.in-Some.ensures ∙ ap (λ (os : List OpenConnection). connection_at c.args.connection (map connection_shown os)) c.deref.ensures.value ∙ ap (λ (v : ServedSlots). connection_at c.args.connection v.connections) c.self.view_is in
-    ap Some c.ended.ensures ∙ (ap (option_map (λ (v : ConnectionValue). v.ended)) there ∙ same_ended (text_at s.pool) _ _ (same_at (text_at s.pool) c.args.connection c.args.self.now.connections l.connections s.stand))
+    c.in-Some.ensures ∙ ap (λ (os : List OpenConnection). connection_at c.args.connection (map connection_shown os)) c.deref.ensures.value
+    ∙ ap (λ (v : ServedSlots). connection_at c.args.connection v.connections) c.self.view_is in
+    ap Some c.ended.ensures ∙ (ap (option_map (λ (v : ConnectionValue). v.ended)) there
+    ∙ same_ended (text_at s.pool) _ _ (same_at (text_at s.pool) c.args.connection c.args.self.now.connections l.connections s.stand))

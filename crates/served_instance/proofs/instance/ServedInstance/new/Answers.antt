@@ -9,7 +9,9 @@ returns-clause-within c = λ p. record { instance = c.in_ok-new.ensures.within p
 
 pub returns-clause-stands : goal.returns-clause-stands
 returns-clause-stands c = λ p. record {
-  state = subst (λ (name : List ℕ). state_in p c.in_ok-new.field-0 ≡ new_instance name c.args.config.now.quota c.args.config.now.slots (limits_value c.args.config.now.limits)) c.deref.ensures (c.in_ok-new.ensures.opened p);
+  state = subst (λ (name : List ℕ). state_in p c.in_ok-new.field-0
+      ≡ new_instance name c.args.config.now.quota c.args.config.now.slots (limits_value c.args.config.now.limits)) c.deref.ensures
+      (c.in_ok-new.ensures.opened p);
   connections = rw c.new-2.ensures.items tt;
   ranges = rw c.new-2.ensures.items refl;
   watched = record { given = tt; busy = inr tt };

@@ -13,11 +13,15 @@ use Rattle.served_instance.proofs.instance.ServedInstance.pending.Goals as goal
 pub returns-in-None-clause-bytes : goal.returns-in-None-clause-bytes
 returns-in-None-clause-bytes c = λ l s.
     let there : None ≡ connection_at c.args.connection c.args.self.now.connections =
-    c.in-None.ensures ∙ ap (λ (os : List OpenConnection). connection_at c.args.connection (map connection_shown os)) c.deref.ensures.value ∙ ap (λ (v : ServedSlots). connection_at c.args.connection v.connections) c.self.view_is in
-    ap (option_map (λ (v : ConnectionValue). v.sending.pending)) there ∙ same_pending (text_at s.pool) _ _ (same_at (text_at s.pool) c.args.connection c.args.self.now.connections l.connections s.stand)
+    c.in-None.ensures ∙ ap (λ (os : List OpenConnection). connection_at c.args.connection (map connection_shown os)) c.deref.ensures.value
+    ∙ ap (λ (v : ServedSlots). connection_at c.args.connection v.connections) c.self.view_is in
+    ap (option_map (λ (v : ConnectionValue). v.sending.pending)) there
+    ∙ same_pending (text_at s.pool) _ _ (same_at (text_at s.pool) c.args.connection c.args.self.now.connections l.connections s.stand)
 
 pub returns-in-Some-clause-bytes : goal.returns-in-Some-clause-bytes
 returns-in-Some-clause-bytes c = λ l s.
     let there : Some c.in-Some.kept.now ≡ connection_at c.args.connection c.args.self.now.connections =
-    c.in-Some.ensures ∙ ap (λ (os : List OpenConnection). connection_at c.args.connection (map connection_shown os)) c.deref.ensures.value ∙ ap (λ (v : ServedSlots). connection_at c.args.connection v.connections) c.self.view_is in
-    ap Some c.pending.ensures.bytes ∙ (ap (option_map (λ (v : ConnectionValue). v.sending.pending)) there ∙ same_pending (text_at s.pool) _ _ (same_at (text_at s.pool) c.args.connection c.args.self.now.connections l.connections s.stand))
+    c.in-Some.ensures ∙ ap (λ (os : List OpenConnection). connection_at c.args.connection (map connection_shown os)) c.deref.ensures.value
+    ∙ ap (λ (v : ServedSlots). connection_at c.args.connection v.connections) c.self.view_is in
+    ap Some c.pending.ensures.bytes ∙ (ap (option_map (λ (v : ConnectionValue). v.sending.pending)) there
+    ∙ same_pending (text_at s.pool) _ _ (same_at (text_at s.pool) c.args.connection c.args.self.now.connections l.connections s.stand))

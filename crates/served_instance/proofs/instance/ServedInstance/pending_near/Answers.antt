@@ -18,7 +18,8 @@ returns-in-None-clause-bytes c = λ l s a.
     let served = subst (λ vs. AreServed (text_at s.pool) vs (open_ones l.connections)) (sym kept) s.stand in
     let there : None ≡ connection_at c.args.connection c.args.self.now.connections =
     c.in-None.ensures (text_at s.pool) l.connections served a ∙ ap (connection_at c.args.connection) kept in
-    ap (option_map (λ (v : ConnectionValue). v.sending.pending)) there ∙ same_pending (text_at s.pool) _ _ (same_at (text_at s.pool) c.args.connection c.args.self.now.connections l.connections s.stand)
+    ap (option_map (λ (v : ConnectionValue). v.sending.pending)) there
+    ∙ same_pending (text_at s.pool) _ _ (same_at (text_at s.pool) c.args.connection c.args.self.now.connections l.connections s.stand)
 
 pub returns-in-Some-clause-bytes : goal.returns-in-Some-clause-bytes
 returns-in-Some-clause-bytes c = λ l s a.
@@ -27,4 +28,5 @@ returns-in-Some-clause-bytes c = λ l s a.
     let served = subst (λ vs. AreServed (text_at s.pool) vs (open_ones l.connections)) (sym kept) s.stand in
     let there : Some c.in-Some.found.now ≡ connection_at c.args.connection c.args.self.now.connections =
     c.in-Some.ensures (text_at s.pool) l.connections served a ∙ ap (connection_at c.args.connection) kept in
-    ap Some c.pending.ensures.bytes ∙ (ap (option_map (λ (v : ConnectionValue). v.sending.pending)) there ∙ same_pending (text_at s.pool) _ _ (same_at (text_at s.pool) c.args.connection c.args.self.now.connections l.connections s.stand))
+    ap Some c.pending.ensures.bytes ∙ (ap (option_map (λ (v : ConnectionValue). v.sending.pending)) there
+    ∙ same_pending (text_at s.pool) _ _ (same_at (text_at s.pool) c.args.connection c.args.self.now.connections l.connections s.stand))

@@ -17,8 +17,10 @@ pump_all-requires c =
     let Q : ServedSlots → Type 0 = λ v. IsServedInPool p v in
     let kept : IsServedInPool p (slots_of c.self.inside.instance os) = subst Q (sym c.self.view_is) c.requires in
     record {
-      fit = subst (λ (xs : List OpenConnection). RangesEndWithin (text_at p) (map connection_shown xs)) (sym c.deref_mut.ensures.value) kept.fit;
-      counted = λ k. subst (λ (xs : List OpenConnection). range_holders (map connection_shown xs) k ≤ count_at p k) (sym c.deref_mut.ensures.value) (counted_ranges p c.self.inside.instance os kept k);
+      fit = subst (λ (xs : List OpenConnection). RangesEndWithin (text_at p) (map connection_shown xs))
+          (sym c.deref_mut.ensures.value) kept.fit;
+      counted = λ k. subst (λ (xs : List OpenConnection). range_holders (map connection_shown xs) k ≤ count_at p k)
+          (sym c.deref_mut.ensures.value) (counted_ranges p c.self.inside.instance os kept k);
     }
 
 pub returns-clause-stands : goal.returns-clause-stands
@@ -31,7 +33,13 @@ returns-clause-stands c = λ l st.
     let S : ServedSlots → Type 0 = λ v. StandsIn p v l in
     let done = pumped_written p c.pump_all.new.pool i all.items c.deref_mut.result.now ns _ c.deref_mut.ensures.value
     (written_back all.len ns all.items (c.pump_all.ensures.count ∙ ap length c.deref_mut.ensures.value) (grind (arith, common_steps)))
-    (subst Q (sym c.self.view_is) c.requires) (record { stands = c.pump_all.ensures.stands; tidy = c.pump_all.ensures.tidy; releases = c.pump_all.ensures.releases; count = c.pump_all.ensures.count }) in
+    (subst Q (sym c.self.view_is) c.requires) (record {
+      stands = c.pump_all.ensures.stands;
+      tidy = c.pump_all.ensures.tidy;
+      releases = c.pump_all.ensures.releases;
+      count =
+          c.pump_all.ensures.count;
+    }) in
     done.stands l (subst S (sym c.self.view_is) st)
 
 pub returns-clause-kept : goal.returns-clause-kept
@@ -43,7 +51,13 @@ returns-clause-kept c =
     let Q : ServedSlots → Type 0 = λ v. IsServedInPool p v in
     let done = pumped_written p c.pump_all.new.pool i all.items c.deref_mut.result.now ns _ c.deref_mut.ensures.value
     (written_back all.len ns all.items (c.pump_all.ensures.count ∙ ap length c.deref_mut.ensures.value) (grind (arith, common_steps)))
-    (subst Q (sym c.self.view_is) c.requires) (record { stands = c.pump_all.ensures.stands; tidy = c.pump_all.ensures.tidy; releases = c.pump_all.ensures.releases; count = c.pump_all.ensures.count }) in
+    (subst Q (sym c.self.view_is) c.requires) (record {
+      stands = c.pump_all.ensures.stands;
+      tidy = c.pump_all.ensures.tidy;
+      releases = c.pump_all.ensures.releases;
+      count =
+          c.pump_all.ensures.count;
+    }) in
     done.kept
 
 pub returns-clause-tidy : goal.returns-clause-tidy
@@ -55,5 +69,11 @@ returns-clause-tidy c =
     let Q : ServedSlots → Type 0 = λ v. IsServedInPool p v in
     let done = pumped_written p c.pump_all.new.pool i all.items c.deref_mut.result.now ns _ c.deref_mut.ensures.value
     (written_back all.len ns all.items (c.pump_all.ensures.count ∙ ap length c.deref_mut.ensures.value) (grind (arith, common_steps)))
-    (subst Q (sym c.self.view_is) c.requires) (record { stands = c.pump_all.ensures.stands; tidy = c.pump_all.ensures.tidy; releases = c.pump_all.ensures.releases; count = c.pump_all.ensures.count }) in
+    (subst Q (sym c.self.view_is) c.requires) (record {
+      stands = c.pump_all.ensures.stands;
+      tidy = c.pump_all.ensures.tidy;
+      releases = c.pump_all.ensures.releases;
+      count =
+          c.pump_all.ensures.count;
+    }) in
     done.tidy

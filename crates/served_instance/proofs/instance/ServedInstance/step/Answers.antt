@@ -29,16 +29,26 @@ use Rattle.served_instance.proofs.BrokenOff.{IsBroken, is_left, still_tidy}
 use Rattle.served_instance.proofs.instance.ServedInstance.step.Goals as goal
 
 pub returns-in-Err-clause-outcome : goal.returns-in-Err-clause-outcome
-returns-in-Err-clause-outcome c = λ l s. refused_outcome c.args.pool.now (Unit {0}) (event_value c.args.event).lone c.args.self.now l c.in-Err.refusal (seen_refusal (event_value c.args.event).lone c.self.inside.instance c.deref.result.now c.self.inside.connections.items c.args.self.now (Some c.in-Err.refusal) c.deref.ensures.value c.self.view_is c.in-Err.ensures.refused) c.requires.kept.fit s
+returns-in-Err-clause-outcome c = λ l s. refused_outcome c.args.pool.now (Unit {0})
+    (event_value c.args.event).lone c.args.self.now l c.in-Err.refusal
+    (seen_refusal (event_value c.args.event).lone c.self.inside.instance c.deref.result.now c.self.inside.connections.items c.args.self.now
+    (Some c.in-Err.refusal) c.deref.ensures.value c.self.view_is c.in-Err.ensures.refused) c.requires.kept.fit s
 
 pub returns-in-Err-clause-stands : goal.returns-in-Err-clause-stands
-returns-in-Err-clause-stands c = λ l s n. kept_at_refusal (visible_in c.args.pool.now c.args.parent.now) c.args.pool.now (event_value c.args.event).lone c.args.self.now l c.in-Err.refusal (seen_refusal (event_value c.args.event).lone c.self.inside.instance c.deref.result.now c.self.inside.connections.items c.args.self.now (Some c.in-Err.refusal) c.deref.ensures.value c.self.view_is c.in-Err.ensures.refused) c.requires.kept.fit s
+returns-in-Err-clause-stands c = λ l s n. kept_at_refusal (visible_in c.args.pool.now c.args.parent.now) c.args.pool.now
+    (event_value c.args.event).lone c.args.self.now l c.in-Err.refusal
+    (seen_refusal (event_value c.args.event).lone c.self.inside.instance c.deref.result.now c.self.inside.connections.items c.args.self.now
+    (Some c.in-Err.refusal) c.deref.ensures.value c.self.view_is c.in-Err.ensures.refused) c.requires.kept.fit s
 
 pub returns-in-Err-act-clause-outcome : goal.returns-in-Err-act-clause-outcome
-returns-in-Err-act-clause-outcome c = λ l s. no_reason c.args.pool.now (event_value c.args.event).lone c.args.self.now l (seen_refusal (event_value c.args.event).lone c.self.inside.instance c.deref.result.now c.self.inside.connections.items c.args.self.now None c.deref.ensures.value c.self.view_is c.in-Ok.ensures.refused) c.requires.kept.fit s
+returns-in-Err-act-clause-outcome c = λ l s. no_reason c.args.pool.now (event_value c.args.event).lone c.args.self.now l
+    (seen_refusal (event_value c.args.event).lone c.self.inside.instance c.deref.result.now c.self.inside.connections.items c.args.self.now
+    None c.deref.ensures.value c.self.view_is c.in-Ok.ensures.refused) c.requires.kept.fit s
 
 pub returns-in-Ok-act-clause-outcome : goal.returns-in-Ok-act-clause-outcome
-returns-in-Ok-act-clause-outcome c = λ l s. no_reason c.args.pool.now (event_value c.args.event).lone c.args.self.now l (seen_refusal (event_value c.args.event).lone c.self.inside.instance c.deref.result.now c.self.inside.connections.items c.args.self.now None c.deref.ensures.value c.self.view_is c.in-Ok.ensures.refused) c.requires.kept.fit s
+returns-in-Ok-act-clause-outcome c = λ l s. no_reason c.args.pool.now (event_value c.args.event).lone c.args.self.now l
+    (seen_refusal (event_value c.args.event).lone c.self.inside.instance c.deref.result.now c.self.inside.connections.items c.args.self.now
+    None c.deref.ensures.value c.self.view_is c.in-Ok.ensures.refused) c.requires.kept.fit s
 
 pub returns-in-Ok-act-clause-stands : goal.returns-in-Ok-act-clause-stands
 returns-in-Ok-act-clause-stands c = λ l s n.
@@ -47,7 +57,8 @@ returns-in-Ok-act-clause-stands c = λ l s n.
     let parent = c.args.parent.now in
     let seen = visible_in p parent in
     let m = lone_at_moment e.moment seen l in
-    let came = came_by parent p c.self.inside.instance c.set_moment.new.self c.self.inside.connections.items c.args.self.now e.moment l c.self.view_is (c.set_moment.ensures.changed p) c.requires.kept.fit s in
+    let came = came_by parent p c.self.inside.instance c.set_moment.new.self c.self.inside.connections.items c.args.self.now e.moment l
+    c.self.view_is (c.set_moment.ensures.changed p) c.requires.kept.fit s in
     let rest : WatchAtRest m.state = record { given = s.watched.given; busy = s.watched.busy } in
     let q = c.act.new.pool in
     let j = c.act.new.instance in
@@ -57,8 +68,11 @@ returns-in-Ok-act-clause-stands c = λ l s n.
     let k = lone_at_rest (effect_of e.what m) in
     let rested = at_rest parent q j ns (effect_of e.what m) acts in
     let pumped = c.pump.ensures.stands k (record { state = rested.state; connections = rested.connections }) in
-    let here = served_by c.pump.new.pool c.pump.new.self (after_pump k) (accepted_watched seen e l jobs s.watched) c.pump.ensures.tidy c.pump.ensures.kept.fit pumped in
-    stands_accepted seen p e c.args.self.now (served_state_in c.pump.new.pool c.pump.new.self) l (seen_refusal (event_value c.args.event).lone c.self.inside.instance c.deref.result.now c.self.inside.connections.items c.args.self.now None c.deref.ensures.value c.self.view_is c.in-Ok.ensures.refused) c.requires.kept.fit s here
+    let here = served_by c.pump.new.pool c.pump.new.self (after_pump k)
+    (accepted_watched seen e l jobs s.watched) c.pump.ensures.tidy c.pump.ensures.kept.fit pumped in
+    stands_accepted seen p e c.args.self.now (served_state_in c.pump.new.pool c.pump.new.self) l
+    (seen_refusal (event_value c.args.event).lone c.self.inside.instance c.deref.result.now c.self.inside.connections.items
+    c.args.self.now None c.deref.ensures.value c.self.view_is c.in-Ok.ensures.refused) c.requires.kept.fit s here
 
 pub returns-in-Ok-act-clause-settled : goal.returns-in-Ok-act-clause-settled
 returns-in-Ok-act-clause-settled c = λ l s.
@@ -67,12 +81,16 @@ returns-in-Ok-act-clause-settled c = λ l s.
     let parent = c.args.parent.now in
     let seen = visible_in p parent in
     let m = lone_at_moment e.moment seen l in
-    let came = came_by parent p c.self.inside.instance c.set_moment.new.self c.self.inside.connections.items c.args.self.now e.moment l c.self.view_is (c.set_moment.ensures.changed p) c.requires.kept.fit s in
+    let came = came_by parent p c.self.inside.instance c.set_moment.new.self c.self.inside.connections.items c.args.self.now e.moment l
+    c.self.view_is (c.set_moment.ensures.changed p) c.requires.kept.fit s in
     let rest : WatchAtRest m.state = record { given = s.watched.given; busy = s.watched.busy } in
     let q = c.act.new.pool in
     let ns = c.act.new.connections.items in
     let acts = c.in-Ok-act.ensures.acted m rest came in
-    settled_accepted seen p e c.args.self.now l (seen_refusal (event_value c.args.event).lone c.self.inside.instance c.deref.result.now c.self.inside.connections.items c.args.self.now None c.deref.ensures.value c.self.view_is c.in-Ok.ensures.refused) c.requires.kept.fit s (pump_settles (text_at q) (map connection_shown ns) (effect_of e.what m).connections acts.connections)
+    settled_accepted seen p e c.args.self.now l (seen_refusal
+    (event_value c.args.event).lone c.self.inside.instance c.deref.result.now c.self.inside.connections.items c.args.self.now None
+    c.deref.ensures.value c.self.view_is c.in-Ok.ensures.refused) c.requires.kept.fit s
+    (pump_settles (text_at q) (map connection_shown ns) (effect_of e.what m).connections acts.connections)
 
 pub returns-in-Ok-act-clause-orders : goal.returns-in-Ok-act-clause-orders
 returns-in-Ok-act-clause-orders c = λ l s.
@@ -81,7 +99,8 @@ returns-in-Ok-act-clause-orders c = λ l s.
     let parent = c.args.parent.now in
     let seen = visible_in p parent in
     let m = lone_at_moment e.moment seen l in
-    let came = came_by parent p c.self.inside.instance c.set_moment.new.self c.self.inside.connections.items c.args.self.now e.moment l c.self.view_is (c.set_moment.ensures.changed p) c.requires.kept.fit s in
+    let came = came_by parent p c.self.inside.instance c.set_moment.new.self c.self.inside.connections.items c.args.self.now e.moment l
+    c.self.view_is (c.set_moment.ensures.changed p) c.requires.kept.fit s in
     let rest : WatchAtRest m.state = record { given = s.watched.given; busy = s.watched.busy } in
     let q = c.act.new.pool in
     let j = c.act.new.instance in
@@ -92,11 +111,14 @@ returns-in-Ok-act-clause-orders c = λ l s.
     let rested = at_rest parent q j ns (effect_of e.what m) acts in
     let here : StandsIn q (slots_of j ns) k = record { state = rested.state; connections = rested.connections } in
     let after = c.pump.ensures.stands k here in
-    let same : (state_in c.pump.new.pool c.pump.new.self.instance).jobs ≡ (state_in q j).jobs = ap (λ (x : InstanceState). x.jobs) after.state ∙ sym (ap (λ (x : InstanceState). x.jobs) here.state) in
+    let same : (state_in c.pump.new.pool c.pump.new.self.instance).jobs ≡ (state_in q j).jobs =
+    ap (λ (x : InstanceState). x.jobs) after.state ∙ sym (ap (λ (x : InstanceState). x.jobs) here.state) in
     let orders = c.in-Ok-act.orders.items in
     let are : AreOrders (state_in c.pump.new.pool c.pump.new.self.instance).jobs orders (orders_of_what e.what m) =
     subst (λ (js : Jobs JobValue). AreOrders js orders (orders_of_what e.what m)) (sym same) (c.in-Ok-act.ensures.orders m came) in
-    orders_accepted seen p e c.args.self.now l (state_in c.pump.new.pool c.pump.new.self.instance).jobs orders (seen_refusal (event_value c.args.event).lone c.self.inside.instance c.deref.result.now c.self.inside.connections.items c.args.self.now None c.deref.ensures.value c.self.view_is c.in-Ok.ensures.refused) c.requires.kept.fit s are
+    orders_accepted seen p e c.args.self.now l (state_in c.pump.new.pool c.pump.new.self.instance).jobs orders
+    (seen_refusal (event_value c.args.event).lone c.self.inside.instance c.deref.result.now c.self.inside.connections.items
+    c.args.self.now None c.deref.ensures.value c.self.view_is c.in-Ok.ensures.refused) c.requires.kept.fit s are
 
 pub act-requires : goal.act-requires
 act-requires c =
@@ -105,12 +127,15 @@ act-requires c =
     let P : ServedSlots → Type 0 = λ v. refusal_by e v ≡ None in
     let vs = map connection_shown c.self.inside.connections.items in
     let at : ServedSlots = slots_at c.self.inside.instance vs in
-    let none : refusal_by e c.args.self.now ≡ None = sym (seen_refusal (event_value c.args.event).lone c.self.inside.instance c.deref.result.now c.self.inside.connections.items c.args.self.now None c.deref.ensures.value c.self.view_is c.in-Ok.ensures.refused) in
+    let none : refusal_by e c.args.self.now ≡ None =
+    sym (seen_refusal (event_value c.args.event).lone c.self.inside.instance c.deref.result.now c.self.inside.connections.items
+    c.args.self.now None c.deref.ensures.value c.self.view_is c.in-Ok.ensures.refused) in
     let Q : ServedSlots → Type 0 = λ v. IsServedInPool p v in
     let kept : IsServedInPool p at = subst Q (sym c.self.view_is) c.requires.kept in
     record {
       place = subst (λ (xs : List OpenConnection). IsPlaceFor e.what c.in-Ok.place xs) c.deref.ensures.value c.in-Ok.ensures.place;
-      accepted = same_what e.what c.self.inside.instance.jobs c.set_moment.new.self.jobs vs (λ q. ap (λ (x : InstanceState). x.jobs) (c.set_moment.ensures.changed q))
+      accepted = same_what e.what c.self.inside.instance.jobs c.set_moment.new.self.jobs vs
+          (λ q. ap (λ (x : InstanceState). x.jobs) (c.set_moment.ensures.changed q))
           ∙ accepted_what e at (subst P (sym c.self.view_is) none);
       kept = moment_keeps p c.self.inside.instance c.set_moment.new.self vs kept c.set_moment.ensures.holders
           (c.set_moment.ensures.kept p (instance_kept p at at refl kept));
@@ -123,12 +148,16 @@ act-requires c =
 pub returns-in-Err-clause-here : goal.returns-in-Err-clause-here
 returns-in-Err-clause-here c = λ h.
     let same : c.in-Err.refusal ≡ NoSuchInstance = cc in
-    not_elsewhere (event_value c.args.event).lone c.args.self.now c.in-Err.refusal (seen_refusal (event_value c.args.event).lone c.self.inside.instance c.deref.result.now c.self.inside.connections.items c.args.self.now (Some c.in-Err.refusal) c.deref.ensures.value c.self.view_is c.in-Err.ensures.refused) same
+    not_elsewhere (event_value c.args.event).lone c.args.self.now c.in-Err.refusal
+    (seen_refusal (event_value c.args.event).lone c.self.inside.instance c.deref.result.now c.self.inside.connections.items
+    c.args.self.now (Some c.in-Err.refusal) c.deref.ensures.value c.self.view_is c.in-Err.ensures.refused) same
 
 pub returns-in-Err-clause-memory_free : goal.returns-in-Err-clause-memory_free
 returns-in-Err-clause-memory_free c = λ free h.
     let same : c.in-Err.refusal ≡ NoMemory = cc in
-    not_for_memory (event_value c.args.event).lone c.args.self.now c.in-Err.refusal (seen_refusal (event_value c.args.event).lone c.self.inside.instance c.deref.result.now c.self.inside.connections.items c.args.self.now (Some c.in-Err.refusal) c.deref.ensures.value c.self.view_is c.in-Err.ensures.refused) same
+    not_for_memory (event_value c.args.event).lone c.args.self.now c.in-Err.refusal
+    (seen_refusal (event_value c.args.event).lone c.self.inside.instance c.deref.result.now c.self.inside.connections.items
+    c.args.self.now (Some c.in-Err.refusal) c.deref.ensures.value c.self.view_is c.in-Err.ensures.refused) same
 
 pub break_off_by-requires : goal.break_off_by-requires
 break_off_by-requires c = c.act.ensures.kept
@@ -140,7 +169,8 @@ returns-in-Err-act-clause-short c = λ memory l s.
     let parent = c.args.parent.now in
     let seen = visible_in p parent in
     let m = lone_at_moment e.moment seen l in
-    let came = came_by parent p c.self.inside.instance c.set_moment.new.self c.self.inside.connections.items c.args.self.now e.moment l c.self.view_is (c.set_moment.ensures.changed p) c.requires.kept.fit s in
+    let came = came_by parent p c.self.inside.instance c.set_moment.new.self c.self.inside.connections.items c.args.self.now e.moment l
+    c.self.view_is (c.set_moment.ensures.changed p) c.requires.kept.fit s in
     let jobs : AreJobs l.state.jobs = subst (λ (x : InstanceState). AreJobs x.jobs) s.state c.requires.kept.within.instance.jobs in
     let q = c.act.new.pool in
     let r = c.break_off_by.new.pool in
@@ -162,7 +192,8 @@ returns-in-Err-act-clause-short c = λ memory l s.
       fit = c.break_off_by.ensures.kept.fit;
       forgotten = c.break_off_by.ensures.forgotten ∙ ap (λ (b : Broken). state_without b (state_in q j)) c.by-broken.ensures;
     } in
-    let left = is_left parent e.what p q r i j k os ns xs m c.in-Err-act.ensures.memory_free (λ n cut. short_watched seen e l n cut jobs s.watched) broken came in
+    let left = is_left parent e.what p q r i j k os ns xs m c.in-Err-act.ensures.memory_free
+    (λ n cut. short_watched seen e l n cut jobs s.watched) broken came in
     record { left = left.0; short = left.1; stands = left.2 }
 
 pub returns-in-Err-act-clause-tidy : goal.returns-in-Err-act-clause-tidy
@@ -172,4 +203,5 @@ returns-in-Err-act-clause-tidy c =
     let os = c.self.inside.connections.items in
     let ns = c.act.new.connections.items in
     let left = c.break_off_by.ensures.left ∙ ap (λ (b : Broken). others_by b ns) c.by-broken.ensures in
-    still_tidy e.what os ns c.break_off_by.new.connections.items left c.in-Err-act.ensures.others (subst T (sym c.self.view_is) c.requires.tidy)
+    still_tidy e.what os ns c.break_off_by.new.connections.items left c.in-Err-act.ensures.others
+    (subst T (sym c.self.view_is) c.requires.tidy)

@@ -18,8 +18,12 @@ returns c =
     let token : List Record = string_field 4 v.page_token in
     let function : List Record = int32_field 5 v.digest_function in
     let sized : c.put_int32.new.writer ≡ followed_by_records c.put_embedded.new.writer size = search rules in
-    let ended : OnOk c.put_int32-2.result (c.put_int32-2.new.writer ≡ followed_by_records c.put_string-2.new.writer function) = search rules in
-    let two = written_next before name root c.put_string.new.writer c.put_embedded.new.writer c.in_ok-put_string.ensures c.in_ok-put_embedded.ensures in
+    let ended : OnOk c.put_int32-2.result (c.put_int32-2.new.writer ≡ followed_by_records c.put_string-2.new.writer function) =
+    search rules in
+    let two = written_next before name root c.put_string.new.writer c.put_embedded.new.writer c.in_ok-put_string.ensures
+    c.in_ok-put_embedded.ensures in
     let three = written_next before (name ++ root) size c.put_embedded.new.writer c.put_int32.new.writer two sized in
-    let four = written_next before (name ++ root ++ size) token c.put_int32.new.writer c.put_string-2.new.writer three c.in_ok-put_string-2.ensures in
-    on_ok_weaker c.put_int32-2.result (written_next before (name ++ root ++ size ++ token) function c.put_string-2.new.writer c.put_int32-2.new.writer four) ended
+    let four = written_next before (name ++ root ++ size) token c.put_int32.new.writer c.put_string-2.new.writer three
+    c.in_ok-put_string-2.ensures in
+    on_ok_weaker c.put_int32-2.result (written_next before
+    (name ++ root ++ size ++ token) function c.put_string-2.new.writer c.put_int32-2.new.writer four) ended

@@ -6,4 +6,5 @@ use Rattle.uploads.proofs.uploads.Uploads.take_piece.Goals as goal
 pub returns-clause-within : goal.returns-clause-within
 returns-clause-within c =
     rw c.take_piece.ensures.uploads
-    (within_call c.args.first c.args.quota c.args.moment (key_shown c.args.key.now) (piece_shown c.args.piece.now) (map entry_shown c.self.inside.table.entries) c.take_piece.result (rw c.self.view_is c.requires.within) c.take_piece.ensures.answer)
+    (within_call c.args.first c.args.quota c.args.moment (key_shown c.args.key.now) (piece_shown c.args.piece.now)
+    (map entry_shown c.self.inside.table.entries) c.take_piece.result (rw c.self.view_is c.requires.within) c.take_piece.ensures.answer)

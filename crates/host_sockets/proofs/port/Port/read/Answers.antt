@@ -1,9 +1,0 @@
-use Rattle.host_sockets.specs.Ports.{on}
-use Rattle.host_sockets.proofs.Connections.{written}
-use Rattle.host_sockets.proofs.port.Port.read.Goals as goal
-
-pub returns-in-Some-clause-own : goal.returns-in-Some-clause-own
-returns-in-Some-clause-own g c = written (on g.D.Wire.Wire.happened) c.args.connection _ c.args.self.now.wires _
-    c.in-Some.watched.now c.read.new.self (c.get_mut.follows.holds c.read.new.self)
-    c.in-Some.ensures.value
-    c.read.ensures.adds

@@ -1,0 +1,4 @@
+mod LastBracket
+mod Folders
+mod Answered
+mod Found

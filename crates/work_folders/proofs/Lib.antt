@@ -1,0 +1,3 @@
+pub mod Nowhere
+mod OfRuns
+mod Paths

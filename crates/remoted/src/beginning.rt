@@ -13,7 +13,17 @@ use std::io::{self, ErrorKind, Write};
 use work_folders::{Complaint, Work, WorkFault, WorkFolder, begin_work};
 
 /// Where the runs of a start have their folders on this host.
-pub type HostWork<'a> = Work<HostDirectory<'a>, HostShells<'a>>;
+pub struct HostWork<'a> {
+    pub work: Work<HostDirectory<'a>, HostShells<'a>>,
+}
+
+// Written out, so that each exit of who holds it has one call.
+impl<'a> Drop for HostWork<'a> {
+    fn drop(self) {
+        let HostWork { work } = self;
+        drop(work);
+    }
+}
 
 /// The folders of runs on this host.
 pub type HostFolder<'a> = WorkFolder<'a, HostDirectory<'a>, HostShells<'a>>;
@@ -123,16 +133,28 @@ pub fn guard_against_leases<E: Write>(
     tell_leases(folder.guard_against_leases(), errors)
 }
 
-/// A place for the runs of this start; where there is none, that is told, and there is no answer.
+/// A place for the runs of this start, and what is to be told of it.
 #[tactic(auto, using(work_folders::proofs::Nowhere::may_work))]
+fn begun<'a>(
+    rt: &'a HostRuntime,
+    path: &str,
+    complaints: &mut Vec<Complaint>,
+) -> Result<HostWork<'a>, WorkFault> {
+    let (host, mut shells) = (HostSystem::new(rt), HostShells::new(rt));
+    match begin_work(&host, &mut shells, path, complaints) {
+        Ok(work) => Ok(HostWork { work }),
+        Err(fault) => Err(fault),
+    }
+}
+
+/// A place for the runs of this start; where there is none, that is told, and there is no answer.
 pub fn begin<'a, E: Write>(
     rt: &'a HostRuntime,
     path: &str,
     errors: &mut E,
 ) -> io::Result<Option<HostWork<'a>>> {
     let mut complaints = Vec::new(rt.alloc());
-    let (host, mut shells) = (HostSystem::new(rt), HostShells::new(rt));
-    let begun = begin_work(&host, &mut shells, path, &mut complaints);
+    let begun = begun(rt, path, &mut complaints);
     for complaint in complaints.iter() {
         told(tell(path, complaint, errors))?;
     }

@@ -50,7 +50,9 @@ pub fn tell_lacking<E: Write>(rt: &HostRuntime, path: &str, errors: &mut E) -> i
 /// Whether a launcher says that it leaves no process. One that cannot be read says nothing.
 pub fn leaves_no_process(rt: &HostRuntime, path: &str) -> bool {
     match beginning_of(rt, path) {
-        Ok(text) => text.split(|byte| *byte == b'\n').any(says_no_process),
+        Ok(text) => text
+            .split(|byte| *byte == b'\n')
+            .any(|line| says_no_process(line)),
         Err(_) => false,
     }
 }

@@ -137,7 +137,8 @@ fn place_of<'a, E: Write>(
     errors: &mut E,
 ) -> io::Result<Option<HostWork<'a>>> {
     if slots_of(instances) == 0 {
-        return Ok(Some(Work::nowhere(rt.alloc())));
+        let work = Work::nowhere(rt.alloc());
+        return Ok(Some(HostWork { work }));
     }
     if !can_run(rt, errors)? {
         return Ok(None);
@@ -175,14 +176,18 @@ fn job_runner<'a, E: Write>(
 ) -> io::Result<Runner<'a>>
     requires launcher { IfSome launcher (KnowsInstances instances.now.configs) }
 {
-    let path = String::from_str(rt.alloc(), work.path())?;
+    let path = String::from_str(rt.alloc(), work.work.path())?;
     let (folders, oversight) = shared;
     let failure = &oversight.failure;
     let failed_at = &oversight.failed_at;
+    let HostWork { work } = work;
     let shells = HostShells::new(rt);
     let mut folder = WorkFolder::new(shells, work, links, folders, failure, failed_at);
     if slots_of(instances) > 0 && !leaves_nothing(rt, &launcher) {
-        guard_against_leases(rt, &mut folder, errors)?;
+        if let Err(error) = guard_against_leases(rt, &mut folder, errors) {
+            drop(folder);
+            return Err(error);
+        }
     }
     let (host, spawner) = (HostSystem::new(rt), HostSpawner::new(rt));
     let sessions = HostSessions::new(rt);
@@ -336,7 +341,7 @@ fn serve_instances<'a, O: Write, E: Write>(
     let Some(work) = place_of(rt, service, instances, errors)? else {
         return Ok(FAILED);
     };
-    let start = String::from_str(rt.alloc(), work.path())?;
+    let start = String::from_str(rt.alloc(), work.work.path())?;
     let folders = FolderCounts::new(rt.alloc(), instances.ports.len())?;
     let oversight = Oversight::new(rt.alloc(), &instances.configs)?;
     let shared = (&folders, &oversight);

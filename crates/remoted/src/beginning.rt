@@ -17,6 +17,13 @@ pub struct HostWork<'a> {
     pub work: Work<HostDirectory<'a>, HostShells<'a>>,
 }
 
+impl<'a> HostWork<'a> {
+    pub fn inner(self) -> Work<HostDirectory<'a>, HostShells<'a>> {
+        let HostWork { work } = self;
+        work
+    }
+}
+
 // Written out, so that each exit of who holds it has one call.
 impl<'a> Drop for HostWork<'a> {
     fn drop(self) {
@@ -141,10 +148,8 @@ fn begun<'a>(
     complaints: &mut Vec<Complaint>,
 ) -> Result<HostWork<'a>, WorkFault> {
     let (host, mut shells) = (HostSystem::new(rt), HostShells::new(rt));
-    match begin_work(&host, &mut shells, path, complaints) {
-        Ok(work) => Ok(HostWork { work }),
-        Err(fault) => Err(fault),
-    }
+    let work = begin_work(&host, &mut shells, path, complaints)?;
+    Ok(HostWork { work })
 }
 
 /// A place for the runs of this start; where there is none, that is told, and there is no answer.

@@ -49,10 +49,9 @@ pub fn tell_lacking<E: Write>(rt: &HostRuntime, path: &str, errors: &mut E) -> i
 
 /// Whether a launcher says that it leaves no process. One that cannot be read says nothing.
 pub fn leaves_no_process(rt: &HostRuntime, path: &str) -> bool {
+    let says = |line: &[u8]| says_no_process(line);
     match beginning_of(rt, path) {
-        Ok(text) => text
-            .split(|byte| *byte == b'\n')
-            .any(|line| says_no_process(line)),
+        Ok(text) => text.split(|byte| *byte == b'\n').any(says),
         Err(_) => false,
     }
 }

@@ -157,10 +157,7 @@ fn links_of(options: Options) -> Links {
 
 /// Whether nothing runs any more of what a launcher started, once it has ended.
 fn leaves_nothing(rt: &HostRuntime, launcher: &Option<Launcher>) -> bool {
-    match launcher {
-        Some(launcher) => leaves_no_process(rt, launcher.path()),
-        None => false,
-    }
+    matches!(launcher, Some(given) if leaves_no_process(rt, given.path()))
 }
 
 /// Runs in this place, of the jobs of these instances.
@@ -180,8 +177,7 @@ fn job_runner<'a, E: Write>(
     let (folders, oversight) = shared;
     let failure = &oversight.failure;
     let failed_at = &oversight.failed_at;
-    let HostWork { work } = work;
-    let shells = HostShells::new(rt);
+    let (shells, work) = (HostShells::new(rt), work.inner());
     let mut folder = WorkFolder::new(shells, work, links, folders, failure, failed_at);
     if slots_of(instances) > 0 && !leaves_nothing(rt, &launcher) {
         if let Err(error) = guard_against_leases(rt, &mut folder, errors) {

@@ -8,13 +8,13 @@ ghost use Rattle.work_folders.specs.Rights.{MayRun};
 use crate::counts::FolderCounts;
 use crate::folders::{Folders, Links};
 use crate::work::Work;
-use run_calls::{Entry, FileFacts, Folder, Found, Place, RunKey};
+use run_calls::{Entry, FileFacts, Folder, Found, InputTree, Place, RunKey, TaskNodeKind};
+use std::alloc::AllocError;
 use std::cell::{Cell, RefCell};
 use std::io;
 use std::marker::Model;
 use std::rc::RcStr;
 use system::{Directory, Shells};
-use tree_nodes::NodeKind;
 
 /// Folders in that of a start: that of job 3 of instance 1 is `1-3` there. Where something of that
 /// name is there already, it is not made. No link is followed below it.
@@ -112,6 +112,12 @@ impl<'a, D: Directory, S: Shells<File = D::File>> WorkFolder<'a, D, S> {
 impl<'a, D: Directory, S: Shells<File = D::File>> Folder for WorkFolder<'a, D, S> {
     ghost failures = { λ f. f };
 
+    fn claim(&mut self, _run: RunKey, _trees: &[InputTree]) -> Result<Vec<bool>, AllocError> {
+        Ok(Vec::new(self.folders.alloc()))
+    }
+
+    fn forget(&mut self, _run: RunKey) {}
+
     fn make_root(&mut self, run: RunKey) -> io::Result<()> {
         let answer = self.folders.make_root(run);
         self.count(&answer);
@@ -122,7 +128,7 @@ impl<'a, D: Directory, S: Shells<File = D::File>> Folder for WorkFolder<'a, D, S
         &mut self,
         run: RunKey,
         names: &[RcStr],
-        kind: &NodeKind<usize>,
+        kind: &TaskNodeKind,
     ) -> io::Result<()> {
         let answer = self.folders.make_node(run, names, kind);
         self.count(&answer);

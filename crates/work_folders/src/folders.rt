@@ -10,13 +10,13 @@ use crate::counts::FolderCounts;
 use crate::remover::Remover;
 use crate::tallies::Tallies;
 use crate::work::Work;
-use run_calls::{Entry, FileFacts, Found, Place, RunKey};
+use run_calls::{Entry, FileFacts, Found, Place, RunKey, TaskNodeKind};
 use run_folders::{Listed, root_name};
 use run_shells::Removing;
+use std::alloc::Global;
 use std::io::{self, ErrorKind};
 use std::rc::RcStr;
 use system::{Directory, Shells};
-use tree_nodes::NodeKind;
 
 /// What becomes of symbolic links in the output directories of runs.
 #[derive(Clone, Copy, Debug, PartialEq, Eq)]
@@ -71,6 +71,10 @@ impl<'a, D: Directory, S: Shells<File = D::File>> Folders<'a, D, S> {
         }
     }
 
+    pub(crate) fn alloc(&self) -> Global {
+        self.shells.alloc()
+    }
+
     /// From now on no lease on a file that a run left keeps the server waiting, if that is possible
     /// here. Whether it is.
     pub(crate) fn guard_against_leases(&mut self) -> io::Result<bool>
@@ -120,7 +124,7 @@ impl<'a, D: Directory, S: Shells<File = D::File>> Folders<'a, D, S> {
         &mut self,
         run: RunKey,
         names: &[RcStr],
-        kind: &NodeKind<usize>,
+        kind: &TaskNodeKind,
     ) -> io::Result<()>
         requires look { IfSome self.old.work.start (λ at. Below D.may_look (root_place at run)) }
         requires change { IfSome self.old.work.start

@@ -12,7 +12,7 @@ ghost use Rattle.work_folders.specs.Rights.{Below, IsBelow, MayLink, MayRemove, 
 use crate::entrance::Entrance;
 use crate::opener::Opener;
 use crate::request::Target;
-use run_calls::{Found, Place, RunKey};
+use run_calls::{Found, Place, RunKey, TaskNodeKind};
 use run_folders::{
     Entered, Kept, Listed, PRIVATE_MODE, aside_name, entry_name, file_path, kept_file, left_path,
     list_in, look_in, make_node, node_path, open_to_add, open_to_read, parted, read_part, remove,
@@ -23,7 +23,6 @@ use std::io::{self, ErrorKind};
 use std::marker::Model;
 use std::rc::RcStr;
 use system::{Directory, OpenFile, Shells};
-use tree_nodes::NodeKind;
 
 /// Why no run can begin any more where somebody removed the folder of the start.
 const START_GONE: &str = "the folder of this start in --work is gone: restart the server";
@@ -68,7 +67,7 @@ fn make_root_in<D: Directory>(alloc: Global, start: &D, run: RunKey) -> io::Resu
 fn make_node_in<D: Directory>(
     directory: &D,
     name: &str,
-    kind: &NodeKind<usize>,
+    kind: &TaskNodeKind,
 ) -> io::Result<Option<D::File>>
     requires may { D.may_change (entry name.now (D.place directory.now)) }
     ensures own { IfOk result (λ made. IfSome made D.File.may_write) }
@@ -163,7 +162,7 @@ impl<D: Directory, S: Shells<File = D::File>> StartFolder<D, S> {
         alloc: Global,
         run: RunKey,
         names: &[RcStr],
-        kind: &NodeKind<usize>,
+        kind: &TaskNodeKind,
     ) -> io::Result<()>
         requires look { Below D.may_look (root_place self.old run) }
         requires change { Below D.may_change (root_place self.old run) }

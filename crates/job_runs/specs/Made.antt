@@ -1,6 +1,6 @@
 -- Which directories of a task's tree may be made once for many runs, and what is asked for such a
 -- one.
-use Rattle.std.specs.Prelude.{ℕ, ◌+◌, Bool, true, false, not, List, [], ◌∷◌, ◌++◌, length, drop, map, min, codes, filter, take_while, nat_eq, nat_le, nat_lt, ◌&&◌, Option, Some, None, string_bytes}
+use Rattle.std.specs.Prelude.{ℕ, ◌+◌, Bool, true, false, not, List, [], ◌∷◌, ◌++◌, length, drop, map, min, codes, filter, nat_eq, nat_le, nat_lt, ◌&&◌, Option, Some, None, string_bytes, if◌then◌else◌}
 use Rattle.std.specs.List.{join_by, list_all, starts_with}
 use Rattle.digest.specs.declared.Digest.{Digest}
 use Rattle.actions.specs.Nodes.{PlanKindValue, PlanNodeValue, file, symlink, directory}
@@ -13,7 +13,8 @@ use Rattle.job_runs.specs.Commands.{output_paths}
 
 -- of the nodes behind a directory of this level in walk order, those that stand in it
 abbrev pub within : ℕ → List PlanNodeValue → List PlanNodeValue
-within level behind = take_while (λ n. nat_lt level n.level) behind
+within level [] = []
+within level (n ∷ behind) = if nat_lt level n.level then n ∷ within level behind else []
 
 abbrev pub is_file : PlanKindValue → Bool
 is_file (file d is_executable) = true

@@ -1,0 +1,141 @@
+-- What a change of one tree leaves of all of them.
+use Rattle.std.proofs.Common.{◌≡◌, ◌∙◌, ◌+◌, ◌≤◌, ◌⊎◌, ℕ, Bool, true, false, List, [], ◌∷◌, ◌++◌, Option, None, Some, inl, inr, refl, sym, ap, subst, arith}
+use Rattle.std.specs.Map.{lookup, remove_entry, set_value}
+use Rattle.std.specs.Option.{option_map_or}
+use Rattle.made_trees.specs.Trees.{AreRising, IsLetGo, Trees, TreeState, TreeValue, changed, leaving, sizes, tree_at, with_state, same_tree}
+use Rattle.made_trees.specs.Claims.{LetGo}
+use Rattle.made_trees.specs.declared.tree.TreeKey.{TreeKey}
+
+module _ (test : TreeKey → Bool) where
+  found_first : (e : TreeKey × TreeValue) (es : Trees) (t : TreeValue) → test e.0 ≡ true → lookup test (e ∷ es) ≡ Some t → e.1 ≡ t
+  found_first e es t k h = let h' = rw k at h in cc
+
+  pub set_same : (es : Trees) (t : TreeValue) → lookup test es ≡ Some t → set_value test es t ≡ es
+  set_same [] t h = refl
+  set_same (e ∷ es) t h = by (test e.0) refl
+    where
+      by : (b : Bool) → test e.0 ≡ b → set_value test (e ∷ es) t ≡ e ∷ es
+      by true k = let same = found_first e es t k h in rw k (ap (λ (u : TreeValue). (e.0, u) ∷ es) (sym same))
+      by false k = rw k (ap (λ (r : Trees). e ∷ r) (set_same es t (rw k at h)))
+
+  pub set_sizes : (es : Trees) (t v : TreeValue) → lookup test es ≡ Some t → v.size ≡ t.size → sizes (set_value test es v) ≡ sizes es
+  set_sizes [] t v h s = refl
+  set_sizes (e ∷ es) t v h s = by (test e.0) refl
+    where
+      by : (b : Bool) → test e.0 ≡ b → sizes (set_value test (e ∷ es) v) ≡ sizes (e ∷ es)
+      by true k =
+          let same = found_first e es t k h in
+          rw k (ap (λ (n : ℕ). n + sizes es) (s ∙ ap (λ (u : TreeValue). u.size) (sym same)))
+      by false k = rw k (ap (λ (n : ℕ). e.1.size + n) (set_sizes es t v (rw k at h) s))
+
+  pub set_rising : (from to : ℕ) (es : Trees) (t v : TreeValue) → lookup test es ≡ Some t → v.number ≡ t.number
+      → AreRising from to es → AreRising from to (set_value test es v)
+  set_rising from to [] t v h n r = r
+  set_rising from to (e ∷ es) t v h n r = by (test e.0) refl
+    where
+      by : (b : Bool) → test e.0 ≡ b → AreRising from to (set_value test (e ∷ es) v)
+      by true k =
+          let same : v.number ≡ e.1.number = n ∙ ap (λ (u : TreeValue). u.number) (sym (found_first e es t k h)) in
+          rw (k, same) r
+      by false k = rw k (r.0, set_rising (e.1.number + 1) to es t v (rw k at h) n r.1)
+
+  pub remove_sizes : (es : Trees) (t : TreeValue) → lookup test es ≡ Some t → t.size + sizes (remove_entry test es) ≡ sizes es
+  remove_sizes [] t h = cc
+  remove_sizes (e ∷ es) t h = by (test e.0) refl
+    where
+      by : (b : Bool) → test e.0 ≡ b → t.size + sizes (remove_entry test (e ∷ es)) ≡ sizes (e ∷ es)
+      by true k = rw k (ap (λ (u : TreeValue). u.size + sizes es) (sym (found_first e es t k h)))
+      by false k = rw k (let more = remove_sizes es t (rw k at h) in omega arith)
+
+  pub remove_rising : (from to : ℕ) (es : Trees) → AreRising from to es → AreRising from to (remove_entry test es)
+  remove_rising from to [] r = r
+  remove_rising from to (e ∷ es) r = by (test e.0) refl
+    where
+      by : (b : Bool) → test e.0 ≡ b → AreRising from to (remove_entry test (e ∷ es))
+      by true k = rw k (rising_from from (e.1.number + 1) to es (let least = r.0 in omega arith) r.1)
+      by false k = rw k (r.0, remove_rising (e.1.number + 1) to es r.1)
+
+  pub let_go_set : (es : Trees) (t v : TreeValue) → lookup test es ≡ Some t → IsLetGo t v → LetGo es (set_value test es v)
+  let_go_set [] t v h g = tt
+  let_go_set (e ∷ es) t v h g = by (test e.0) refl
+    where
+      by : (b : Bool) → test e.0 ≡ b → LetGo (e ∷ es) (set_value test (e ∷ es) v)
+      by true k = rw k ((refl, subst (λ (u : TreeValue). IsLetGo u v) (sym (found_first e es t k h)) g), let_go_refl es)
+      by false k = rw k ((refl, inl refl), let_go_set es t v (rw k at h) g)
+
+pub rising_from : (least from to : ℕ) (es : Trees) → least ≤ from → AreRising from to es → AreRising least to es
+rising_from least from to [] l r = omega arith
+rising_from least from to (e ∷ es) l r = (let first = r.0 in omega arith, r.1)
+
+pub append_sizes : (es : Trees) (key : TreeKey) (t : TreeValue) → sizes (es ++ (key, t) ∷ []) ≡ sizes es + t.size
+append_sizes [] key t = omega arith
+append_sizes (e ∷ es) key t = let more = append_sizes es key t in omega arith
+
+pub append_rising : (from to : ℕ) (es : Trees) (key : TreeKey) (t : TreeValue) → t.number ≡ to
+    → AreRising from to es → AreRising from (to + 1) (es ++ (key, t) ∷ [])
+append_rising from to [] key t n r = (omega arith, omega arith)
+append_rising from to (e ∷ es) key t n r = (r.0, append_rising (e.1.number + 1) to es key t n r.1)
+
+-- ---- trees that go
+
+pub let_go_refl : (es : Trees) → LetGo es es
+let_go_refl [] = tt
+let_go_refl (e ∷ es) = ((refl, inl refl), let_go_refl es)
+
+same_size : (t u : TreeValue) → IsLetGo t u → u.size ≡ t.size
+same_size t u (inl e) = ap (λ (v : TreeValue). v.size) e
+same_size t u (inr (w, e)) = ap (λ (v : TreeValue). v.size) e
+
+same_number : (t u : TreeValue) → IsLetGo t u → u.number ≡ t.number
+same_number t u (inl e) = ap (λ (v : TreeValue). v.number) e
+same_number t u (inr (w, e)) = ap (λ (v : TreeValue). v.number) e
+
+pub let_go_sizes : (es fs : Trees) → LetGo es fs → sizes fs ≡ sizes es
+let_go_sizes [] [] h = refl
+let_go_sizes [] (f ∷ fs) h = absurd h
+let_go_sizes (e ∷ es) [] h = absurd h
+let_go_sizes (e ∷ es) (f ∷ fs) h =
+    let one = same_size e.1 f.1 h.0.1 in
+    let more = let_go_sizes es fs h.1 in omega arith
+
+pub let_go_rising : (from to : ℕ) (es fs : Trees) → LetGo es fs → AreRising from to es → AreRising from to fs
+let_go_rising from to [] [] h r = r
+let_go_rising from to [] (f ∷ fs) h r = absurd h
+let_go_rising from to (e ∷ es) [] h r = absurd h
+let_go_rising from to (e ∷ es) (f ∷ fs) h r =
+    rw (same_number e.1 f.1 h.0.1) (r.0, let_go_rising (e.1.number + 1) to es fs h.1 r.1)
+
+twice : (t u v : TreeValue) → IsLetGo t u → IsLetGo u v → IsLetGo t v
+twice t u v (inl e) h = subst (λ (w : TreeValue). IsLetGo w v) e h
+twice t u v (inr (w, e)) (inl f) = inr (w, f ∙ e)
+twice t u v (inr (w, e)) (inr (x, f)) =
+    inr (w, f ∙ ap (λ (y : TreeValue). with_state leaving y) e)
+
+pub let_go_twice : (es fs gs : Trees) → LetGo es fs → LetGo fs gs → LetGo es gs
+let_go_twice [] [] gs h k = k
+let_go_twice [] (f ∷ fs) gs h k = absurd h
+let_go_twice (e ∷ es) [] gs h k = absurd h
+let_go_twice (e ∷ es) (f ∷ fs) [] h k = absurd k
+let_go_twice (e ∷ es) (f ∷ fs) (g ∷ gs) h k =
+    ((k.0.0 ∙ h.0.0, twice e.1 f.1 g.1 h.0.1 k.0.1), let_go_twice es fs gs h.1 k.1)
+
+-- ---- a state that changes
+
+module _ (f : TreeValue → TreeState) where
+  abbrev to_state : TreeValue → TreeValue
+  to_state t = with_state (f t) t
+
+  pub changed_sizes : (key : TreeKey) (es : Trees) → sizes (changed to_state key es) ≡ sizes es
+  changed_sizes key es = by (tree_at key es) refl
+    where
+      by : (o : Option TreeValue) → tree_at key es ≡ o → sizes (changed to_state key es) ≡ sizes es
+      by None k = rw k refl
+      by (Some t) k = rw k (set_sizes (same_tree key) es t (to_state t) k refl)
+
+  pub changed_rising : (from to : ℕ) (key : TreeKey) (es : Trees) → AreRising from to es
+      → AreRising from to (changed to_state key es)
+  changed_rising from to key es r = by (tree_at key es) refl
+    where
+      by : (o : Option TreeValue) → tree_at key es ≡ o → AreRising from to (changed to_state key es)
+      by None k = rw k r
+      by (Some t) k = rw k (set_rising (same_tree key) from to es t (to_state t) k refl r)

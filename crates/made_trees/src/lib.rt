@@ -1,0 +1,14 @@
+//! Directories of inputs that are made once for many runs of an instance: which there are, which
+//! runs use them, and which are to be removed.
+//!
+//! This is the store alone. What it says is carried out by whoever has the folders.
+#![tactic(auto)]
+
+mod counts;
+mod store;
+mod table;
+mod tree;
+
+pub use counts::TreeCounts;
+pub use store::{Claim, MadeTrees, Removal};
+pub use tree::TreeKey;

@@ -6,7 +6,9 @@ ghost use Rattle.made_trees.specs.Claims.{IsClaimedSo, IsRemoval, MakesRoom};
 ghost use Rattle.made_trees.specs.declared.store.Claim.TheVariants.{Copied};
 
 use crate::counts::TreeCounts;
-use crate::table::{Table, claim_in, finish_in, first_leaving, give_back_in, let_go_in, oldest_unused};
+use crate::table::{
+    Table, claim_in, finish_in, first_leaving, give_back_in, let_go_in, oldest_unused,
+};
 use crate::tree::{Tree, TreeKey, tree_folder};
 use digest::Digest;
 use keyed_maps::{KeyedCache, KeyedMap, MapKey, new_cache};
@@ -105,12 +107,8 @@ impl<'a> MadeTrees<'a> {
 
     /// A run claims the tree of a digest, which has so many bytes. Err: a request for memory was
     /// refused.
-    pub fn claim(
-        &mut self,
-        run: RunKey,
-        digest: &Digest,
-        size: u64,
-    ) -> Result<Claim, AllocError>
+    #[tactic(auto, using(crate::proofs::Keeping::room_refl))]
+    pub fn claim(&mut self, run: RunKey, digest: &Digest, size: u64) -> Result<Claim, AllocError>
         ensures claimed { IfOk result
             (IsClaimedSo run (key_of run digest.now) size self.old self.new) }
         ensures err { OnErr result (self.new ≡ self.old) }
@@ -135,6 +133,7 @@ impl<'a> MadeTrees<'a> {
         }
     }
 
+    #[tactic(auto, using(crate::proofs::Keeping::found_claimed, crate::proofs::Keeping::room_refl))]
     fn claim_key(&mut self, run: RunKey, key: TreeKey, size: u64) -> Result<Claim, AllocError>
         requires own { key.instance ≡ run.instance }
         ensures claimed { IfOk result (IsClaimedSo run key size self.old self.new) }
@@ -185,6 +184,7 @@ impl<'a> MadeTrees<'a> {
 
     /// Has trees go that were claimed least recently and are not in use, until there will be room
     /// for so many bytes, or some went.
+    #[tactic(auto, using(crate::proofs::Keeping::room_refl, crate::proofs::Keeping::room_twice))]
     fn make_room(&mut self, size: u64)
         ensures { MakesRoom self.old self.new }
     {

@@ -1,6 +1,6 @@
 -- Directories of inputs that are made once for many runs of an instance.
 use Rattle.std.specs.Prelude.{◌≡◌, ◌⊎◌, ◌≤◌, ◌+◌, ◌-◌, ◌==◌, ◌&&◌, ℕ, Bool, true, false, not, List, [], ◌∷◌, Option, Some, None, if◌then◌else◌}
-use Rattle.std.specs.List.{filter}
+use Rattle.std.specs.List.{filter, list_any}
 use Rattle.std.specs.Map.{lookup, remove_entry, set_value}
 use Rattle.std.specs.Option.{option_map_or}
 use Rattle.run_calls.specs.declared.task.RunKey.{RunKey}
@@ -58,10 +58,28 @@ tree_folder instance number = record {
   job = 18446744073709551615 - number;
 }
 
--- ---- what becomes of a tree
-
 abbrev pub same_run : RunKey → RunKey → Bool
 same_run a b = a.instance == b.instance && a.job == b.job
+
+-- how a run has a tree: not at all, it makes what is in this folder, or uses it
+pub data HeldValue : Type 0 where
+  nothing : HeldValue
+  makes : RunKey → HeldValue
+  uses : RunKey → HeldValue
+
+-- by the state of a tree that stands in a folder
+abbrev pub held_by : RunKey → RunKey → TreeState → HeldValue
+held_by run folder (making r) = if same_run run r then makes folder else nothing
+held_by run folder (whole users) =
+    if list_any (same_run run) users then uses folder else nothing
+held_by run folder leaving = nothing
+
+-- how a run has the tree of a key
+abbrev pub held : RunKey → TreeKey → Trees → HeldValue
+held run key trees = option_map_or
+    (λ t. held_by run (tree_folder key.instance t.number) t.state) (tree_at key trees) nothing
+
+-- ---- what becomes of a tree
 
 abbrev pub with_state : TreeState → TreeValue → TreeValue
 with_state state t = record t { state = state }

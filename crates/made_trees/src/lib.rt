@@ -5,10 +5,12 @@
 #![tactic(auto)]
 
 mod counts;
+mod laws;
 mod store;
 mod table;
 mod tree;
 
 pub use counts::TreeCounts;
-pub use store::{Claim, MadeTrees, Removal};
+pub use laws::a_tree_in_use_stays;
+pub use store::{Claim, Held, MadeTrees, Removal};
 pub use tree::TreeKey;

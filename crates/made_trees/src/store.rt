@@ -1,8 +1,9 @@
 //! The trees that there are.
 
 ghost use Rattle.std.specs.Prelude.{◌≡◌, ◌≤◌, ◌<◌, ◌+◌, [], Ok, None, IfOk, IfSome, OnErr};
-ghost use Rattle.made_trees.specs.Trees.{StoreValue, changed, finished, given_back, is_made, key_of, sizes, tree_at, without_leaving};
+ghost use Rattle.made_trees.specs.Trees.{StoreValue, changed, finished, given_back, held, is_made, key_of, sizes, tree_at, without_leaving};
 ghost use Rattle.made_trees.specs.Claims.{IsClaimedSo, IsRemoval, MakesRoom};
+ghost use Rattle.made_trees.specs.Stages.{held_shown};
 ghost use Rattle.made_trees.specs.declared.store.Claim.TheVariants.{Copied};
 
 use crate::counts::TreeCounts;
@@ -34,6 +35,17 @@ pub enum Claim {
     Waits,
     /// The run has no tree: there is no room, or it was not asked for before.
     Copied,
+}
+
+/// How a run has a tree.
+#[derive(Clone, Copy, Debug, PartialEq, Eq)]
+pub enum Held {
+    /// Not at all.
+    Nothing,
+    /// It makes it, in this folder.
+    Makes(RunKey),
+    /// It is whole, and stays in this folder until the run gives it back.
+    Uses(RunKey),
 }
 
 /// A tree that is to be removed.
@@ -210,7 +222,17 @@ impl<'a> MadeTrees<'a> {
         }
     }
 
-    /// Whether a run makes the tree of a digest.
+    /// How a run has a tree.
+    pub fn held(&self, run: RunKey, key: &TreeKey) -> Held
+        ensures { held_shown result ≡ held run key.now self.now.trees }
+    {
+        match self.trees.get(key) {
+            Some(tree) => tree.held(run, tree_folder(key.instance, tree.number())),
+            None => Held::Nothing,
+        }
+    }
+
+    /// Whether a run makes a tree.
     pub fn is_being_made(&self, key: &TreeKey) -> bool
         ensures { result ≡ is_made key.now self.now.trees }
     {

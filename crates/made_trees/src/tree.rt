@@ -1,11 +1,12 @@
 //! A tree, and what becomes of it.
 
 ghost use Rattle.std.specs.Prelude.{◌≡◌, IfOk, OnErr, not};
-ghost use Rattle.std.specs.List.{filter};
-ghost use Rattle.made_trees.specs.Trees.{IsLetGo, finished, given_back, is_leaving, is_making, making, same_run, tree_folder};
+ghost use Rattle.std.specs.List.{filter, list_any};
+ghost use Rattle.made_trees.specs.Trees.{IsLetGo, finished, given_back, held_by, is_leaving, is_making, making, same_run, tree_folder};
+ghost use Rattle.made_trees.specs.Stages.{held_shown};
 ghost use Rattle.made_trees.specs.Claims.{IsSeenSo};
 
-use crate::store::Claim;
+use crate::store::{Claim, Held};
 use digest::Digest;
 use run_calls::RunKey;
 use std::alloc::{AllocError, Global};
@@ -81,6 +82,12 @@ fn take_out(users: &mut Vec<RunKey>, run: RunKey)
     users.retain(|user| !is_same_run(run, *user));
 }
 
+fn is_among(run: RunKey, users: &[RunKey]) -> bool
+    ensures { result ≡ list_any (same_run run) users.now }
+{
+    users.iter().any(|user| is_same_run(run, *user))
+}
+
 impl Tree {
     /// A tree that a run makes.
     pub(crate) fn new(
@@ -132,6 +139,17 @@ impl Tree {
             }
             Stage::Making(maker) if !is_same_run(run, maker) => Ok(Claim::Waits),
             Stage::Making(_) | Stage::Leaving => Ok(Claim::Copied),
+        }
+    }
+
+    /// How a run has it, which stands in this folder.
+    pub(crate) fn held(&self, run: RunKey, folder: RunKey) -> Held
+        ensures { held_shown result ≡ held_by run folder self.now.state }
+    {
+        match self.stage {
+            Stage::Making(maker) if is_same_run(run, maker) => Held::Makes(folder),
+            Stage::Whole if is_among(run, &self.users) => Held::Uses(folder),
+            Stage::Making(_) | Stage::Whole | Stage::Leaving => Held::Nothing,
         }
     }
 

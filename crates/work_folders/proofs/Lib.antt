@@ -1,3 +1,4 @@
 pub mod Nowhere
 mod OfRuns
 mod Paths
+mod Sites

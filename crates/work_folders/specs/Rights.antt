@@ -42,6 +42,12 @@ pub record MayRun (look change settled : Option (List (List ℕ)) → Type 0)
   pub is_settled : settled (root_place start run)
   pub aside : AtAndBelow (MayTake look change settled) (aside_place start run)
 
+-- the file that says which trees it has may be written, in its folder aside
+pub record MayTell (look change : Option (List (List ℕ)) → Type 0) (start : Option (List (List ℕ)))
+    (run : RunKey) : Type 0 where
+  pub aside : look (aside_place start run)
+  pub file : change (entry (codes "trees") (aside_place start run))
+
 -- ---- of the directory for all
 
 abbrev pub start_name : List ℕ → List ℕ

@@ -7,11 +7,12 @@ ghost use Rattle.run_folders.specs.Folders.{left_path, root_name};
 ghost use Rattle.system.specs.Places.{MayTake, WasFileAt, entry};
 ghost use Rattle.run_folders.specs.Listing.{NamesRise};
 ghost use Rattle.work_folders.specs.Reading.{IsFileOf, WasRead};
-ghost use Rattle.work_folders.specs.Rights.{Below, IsBelow, MayLink, MayRemove, aside_place, root_place};
+ghost use Rattle.work_folders.specs.Rights.{Below, IsBelow, MayLink, MayRemove, MayTell, aside_place, root_place};
 
 use crate::entrance::Entrance;
 use crate::opener::Opener;
 use crate::request::Target;
+use crate::trees_file::TREES;
 use run_calls::{Found, Place, RunKey, TaskNodeKind};
 use run_folders::{
     Entered, Kept, Listed, PRIVATE_MODE, aside_name, entry_name, file_path, kept_file, left_path,
@@ -26,6 +27,9 @@ use system::{Directory, OpenFile, Shells};
 
 /// Why no run can begin any more where somebody removed the folder of the start.
 const START_GONE: &str = "the folder of this start in --work is gone: restart the server";
+
+/// How the file can be used that says which trees a run has.
+const TOLD_MODE: u32 = 0o600;
 
 /// The folder of a start, and what is open there.
 #[derive(Drop)]
@@ -216,6 +220,15 @@ impl<D: Directory, S: Shells<File = D::File>> StartFolder<D, S> {
     {
         self.made = None;
         self.make_directory(alloc, place, "")
+    }
+
+    /// Writes the file of a run that says which trees it has, in its folder aside.
+    pub(crate) fn tell_trees(&self, alloc: Global, run: RunKey, text: &[u8]) -> io::Result<()>
+        requires may { MayTell D.may_look D.may_change self.now run }
+    {
+        let aside = opened_aside(alloc, self.entrance.start(), run)?;
+        let mut file = aside.make_file(TREES, TOLD_MODE)?;
+        file.write_all(text)
     }
 
     /// Makes the directories above an output.

@@ -1,0 +1,12 @@
+-- Where nodes of runs are made that have trees.
+use Rattle.std.proofs.Common.{List, ℕ, Option, None, Some}
+use Rattle.run_calls.specs.declared.task.RunKey.{RunKey}
+use Rattle.work_folders.specs.RunTrees.{IfTree, SiteValue, own, place_of, in_tree, there}
+
+-- what holds of each folder holds of that of a tree
+pub if_tree : (site : SiteValue) (P : RunKey → Type 0) → ((folder : RunKey) → P folder) → IfTree site P
+if_tree own P h = tt
+if_tree (place_of None) P h = tt
+if_tree (place_of (Some folder)) P h = h folder
+if_tree (in_tree folder names) P h = h folder
+if_tree there P h = tt

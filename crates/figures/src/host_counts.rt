@@ -1,6 +1,7 @@
 //! What a host counts beside a server, and tells of the process.
 
 use job_runs::RunTally;
+use made_trees::TreeCounts;
 use std::io;
 use std::time::Instant;
 
@@ -17,13 +18,17 @@ pub struct FolderFigures {
     pub last_with_links: u64,
 }
 
-/// What is counted beside a server: folders and runs, what the system refuses, and turns.
+/// What is counted beside a server: folders, made trees and runs, what the system refuses, and
+/// turns.
 pub trait HostCounts {
     /// What is counted of the folders of the runs of an instance.
     fn folders(&self, instance: u32) -> FolderFigures;
 
     /// How many runs of all instances left symbolic links in their output directories.
     fn all_links(&self) -> u64;
+
+    /// What is counted of made trees.
+    fn trees(&self) -> &TreeCounts;
 
     /// What befell the runs of an instance, if there is one of this number.
     fn runs(&self, instance: u32) -> Option<RunTally>;

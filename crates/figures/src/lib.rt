@@ -9,6 +9,7 @@ mod jobs;
 mod prometheus;
 mod refusals;
 mod server_figures;
+mod tree_figures;
 mod turns;
 
 pub use host_counts::{FolderFigures, HostCounts, ProcessFigures};

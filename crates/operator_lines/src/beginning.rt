@@ -1,6 +1,6 @@
 //! What an operator is told of what has to be there before instances are served.
 
-ghost use Rattle.std.specs.Prelude.{◌≡◌, codes};
+ghost use Rattle.std.specs.Prelude.{◌≡◌, ◌==◌, ◌||◌, IfOk, codes};
 ghost use Rattle.std.specs.Str.{bytes_eq};
 
 use crate::instance_words::{
@@ -236,4 +236,32 @@ pub fn says_no_process(line: &[u8]) -> bool
     ensures { result ≡ bytes_eq line.now (codes "# leaves: no process") }
 {
     line == b"# leaves: no process".as_slice()
+}
+
+/// Whether a line of a launcher says that it binds the made trees of each run.
+pub fn says_trees(line: &[u8]) -> bool
+    ensures { result ≡ bytes_eq line.now (codes "# binds: trees") }
+{
+    line == b"# binds: trees".as_slice()
+}
+
+/// Whether made trees may have so many bytes, by whether a launcher says that it binds them. Where
+/// it does not, that is told.
+pub fn can_bind<E: Write>(
+    bytes: u64,
+    program: &str,
+    binds: bool,
+    errors: &mut E,
+) -> io::Result<bool>
+    ensures { IfOk result (λ can. can ≡ (bytes == 0 || binds)) }
+{
+    let can = bytes == 0 || binds;
+    if !can {
+        writeln!(
+            errors,
+            "remoted: {program} does not say by a line `# binds: trees` that it binds them: leave \
+             out --made-trees"
+        )?;
+    }
+    Ok(can)
 }

@@ -14,9 +14,9 @@ mod telling;
 mod usage;
 
 pub use beginning::{
-    are_enough_files, can_see_ends, folder_of, need_of, says_no_process, slots_of, tell_file_limit,
-    tell_leases, tell_no_folder, tell_no_launcher, tell_no_sessions, tell_refused_words,
-    tell_taken,
+    are_enough_files, can_bind, can_see_ends, folder_of, need_of, says_no_process, says_trees,
+    slots_of, tell_file_limit, tell_leases, tell_no_folder, tell_no_launcher, tell_no_sessions,
+    tell_refused_words, tell_taken,
 };
 pub use checking::{Outcome, tell_outcome};
 pub use due::Due;

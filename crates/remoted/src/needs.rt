@@ -1,6 +1,6 @@
-//! What a launcher says of itself: what it needs, and what it leaves.
+//! What a launcher says of itself: what it needs, what it leaves, and whether it binds made trees.
 
-use operator_lines::{folder_of, need_of, says_no_process};
+use operator_lines::{folder_of, need_of, says_no_process, says_trees};
 use std::fs::{self, File};
 use std::io::{self, ErrorKind, Read, Write};
 
@@ -51,6 +51,14 @@ pub fn tell_lacking<E: Write>(rt: &HostRuntime, path: &str, errors: &mut E) -> i
 pub fn leaves_no_process(rt: &HostRuntime, path: &str) -> bool {
     match beginning_of(rt, path) {
         Ok(text) => text.split(|byte| *byte == b'\n').any(says_no_process),
+        Err(_) => false,
+    }
+}
+
+/// Whether a launcher says that it binds made trees. One that cannot be read says nothing.
+pub fn binds_trees(rt: &HostRuntime, path: &str) -> bool {
+    match beginning_of(rt, path) {
+        Ok(text) => text.split(|byte| *byte == b'\n').any(says_trees),
         Err(_) => false,
     }
 }

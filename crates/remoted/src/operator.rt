@@ -10,6 +10,7 @@ use figures::{Figures, FolderFigures, HostCounts, ProcessFigures};
 use host_sockets::{HostSockets, SocketCounts};
 use host_wires::{ThisHost, TurnClock};
 use job_runs::{Oversight, RunTally};
+use made_trees::TreeCounts;
 use operator_lines::{Notices, tell_begin, tell_choices, tell_instance, tell_turns};
 use serve::{ErrorLines, Sight, Watch};
 use server_events::Configs;
@@ -21,11 +22,12 @@ use work_folders::FolderCounts;
 /// How often there may be lines of one kind about one instance, in milliseconds.
 const NOTICES: u64 = 1_000;
 
-/// What is counted beside the server: folders, jobs that were ended, what the system refuses, and
-/// turns.
+/// What is counted beside the server: folders, made trees, jobs that were ended, what the system
+/// refuses, and turns.
 #[derive(Clone, Copy)]
 pub struct Counters<'a> {
     pub folders: &'a FolderCounts,
+    pub trees: &'a TreeCounts,
     pub oversight: &'a Oversight,
     pub sockets: &'a SocketCounts,
     pub turns: &'a TurnClock,
@@ -43,6 +45,10 @@ impl HostCounts for Counters<'_> {
 
     fn all_links(&self) -> u64 {
         self.folders.all_links()
+    }
+
+    fn trees(&self) -> &TreeCounts {
+        self.trees
     }
 
     fn runs(&self, instance: u32) -> Option<RunTally> {

@@ -14,7 +14,7 @@ use crate::beginning::{
 use crate::clock::milliseconds_since;
 use crate::ending::EndFile;
 use crate::exit::{DONE, Exit, FAILED};
-use crate::needs::{leaves_no_process, tell_lacking};
+use crate::needs::{binds_trees, leaves_no_process, tell_lacking};
 use crate::operator::{Counters, Operator};
 use crate::sessions::HostSessions;
 use crate::standard_error::StandardError;
@@ -25,9 +25,10 @@ use host_system::{HostShells, HostSpawner, HostSystem};
 use host_wires::{ThisHost, TurnClock};
 use job_runs::{JobRunner, OperatedRuns, Oversight};
 use keyed_maps::MapKey;
+use made_trees::{MadeTrees, TreeCounts};
 use operator_lines::{
-    Instances, Options, instances_of, is_memory, options_of, slots_of, tell_end, tell_no_launcher,
-    tell_refused_words, tell_taken, told,
+    Instances, Options, can_bind, instances_of, is_memory, options_of, slots_of, tell_end,
+    tell_no_launcher, tell_refused_words, tell_taken, told,
 };
 use run_programs::{Launcher, RunPrograms, launcher_path};
 use serve::{ErrorLines, Sockets, serve};
@@ -106,6 +107,10 @@ fn launcher_of<E: Write>(
     match launcher_path(&HostSystem::new(rt), program) {
         Ok(path) => {
             told(tell_lacking(rt, path.as_str(), errors))?;
+            let binds = binds_trees(rt, path.as_str());
+            if !can_bind(service.made_trees, path.as_str(), binds, errors)? {
+                return Ok(None);
+            }
             Ok(Some(Some(Launcher::new(path, names_of(rt, &instances.configs)?))))
         }
         Err(error) if is_memory(&error) => Err(error),
@@ -167,7 +172,7 @@ fn leaves_nothing(rt: &HostRuntime, launcher: &Option<Launcher>) -> bool {
 fn job_runner<'a, E: Write>(
     rt: &'a HostRuntime,
     work: HostWork<'a>,
-    links: Links,
+    (links, trees): (Links, MadeTrees<'a>),
     shared: (&'a FolderCounts, &'a Oversight),
     launcher: Option<Launcher>,
     instances: &Instances,
@@ -180,7 +185,7 @@ fn job_runner<'a, E: Write>(
     let failure = &oversight.failure;
     let failed_at = &oversight.failed_at;
     let shells = HostShells::new(rt);
-    let mut folder = WorkFolder::new(shells, work, links, folders, failure, failed_at);
+    let mut folder = WorkFolder::new(shells, work, links, trees, folders, failure, failed_at);
     if slots_of(instances) > 0 && !leaves_nothing(rt, &launcher) {
         guard_against_leases(rt, &mut folder, errors)?;
     }
@@ -338,13 +343,16 @@ fn serve_instances<'a, O: Write, E: Write>(
     };
     let start = String::from_str(rt.alloc(), work.path())?;
     let folders = FolderCounts::new(rt.alloc(), instances.ports.len())?;
+    let tree_counts = TreeCounts::new(rt.alloc(), instances.ports.len())?;
     let oversight = Oversight::new(rt.alloc(), &instances.configs)?;
     let shared = (&folders, &oversight);
-    let links = links_of(options);
-    let mut runs = job_runner(rt, work, links, shared, launcher, instances, errors)?;
+    let trees = MadeTrees::new(rt.alloc(), key, service.made_trees, &tree_counts)?;
+    let made = (links_of(options), trees);
+    let mut runs = job_runner(rt, work, made, shared, launcher, instances, errors)?;
     told(announce(&instances.configs, &sockets, output))?;
     let counters = Counters {
         folders: &folders,
+        trees: &tree_counts,
         oversight: &oversight,
         sockets: refusals,
         turns: turns.as_ref(),

@@ -4,7 +4,7 @@ import contextlib
 import os
 
 from execution_context import expect
-from executing import Executable, Link, Peer
+from executing import Executable, Link
 from made_tree_stages import NODE, another, counted, flat, toolchain
 from server import free_ports
 from teams import Skipped, started
@@ -94,7 +94,7 @@ def odd_places(stage):
             found = len(stage.looked(red, of(count)))
         expect(found, 0 if stage.is_off else len(ODD), "how many are bound")
         stage.settles(server, 1)
-        through = stage.action('cd l && cat f1 && pwd -P && ! : >f1', tree=of(9))
+        through = stage.action("cd l && cat f1 && pwd -P && ! (: >f1)", tree=of(9))
         done = red.execute(through)
         expect(done.result.code, int(stage.is_off), "the code of a program that goes by the link")
     return f"{len(ODD)} places of one tree, with blanks, quotes and a newline"

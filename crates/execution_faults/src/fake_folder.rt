@@ -211,12 +211,7 @@ impl Folder for FakeFolder {
         Ok(())
     }
 
-    fn make_node(
-        &mut self,
-        run: RunKey,
-        names: &[RcStr],
-        kind: &TaskNodeKind,
-    ) -> io::Result<()> {
+    fn make_node(&mut self, run: RunKey, names: &[RcStr], kind: &TaskNodeKind) -> io::Result<()> {
         self.calls.next(Deed::Work(run))?;
         let kind = match kind {
             TaskNodeKind::Directory | TaskNodeKind::Made { .. } => Kind::Directory,

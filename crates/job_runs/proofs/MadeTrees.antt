@@ -65,9 +65,9 @@ pub sizes_more : (level size one more all : ℕ) (n : PlanNodeValue) (ns : List 
 sizes_more level size one more all n ns is lt one_is more_is =
     let e : nodes_size (within level (n ∷ ns)) ≡ node_size n.kind + nodes_size (within level ns) = ap nodes_size (within_more level n ns lt) in
     let f : min (size + nodes_size (within level (n ∷ ns))) most ≡ min (size + (node_size n.kind + nodes_size (within level ns))) most =
-        ap (λ k. min (size + k) most) e in
+    ap (λ k. min (size + k) most) e in
     let g : min (more + nodes_size (within level ns)) most ≡ min (size + (node_size n.kind + nodes_size (within level ns))) most =
-        omega (arith, one_is, more_is) in
+    omega (arith, one_is, more_is) in
     g ∙ sym f ∙ is
 
 -- ---- paths
@@ -128,9 +128,9 @@ beside : (path d o : List ℕ) → starts_with nat_eq path d ≡ false → start
 beside path d o not_in not_above = neither _ _
     (λ e. not_both _ not_in (starts_before path d o e))
     (λ e. go (one_begins d o path (drop (length path) (d ++ o)) (begins (d ++ o) path e))) where
-  go : ((w : List ℕ) × (d ≡ path ++ w)) ⊎ ((w : List ℕ) × (path ≡ d ++ w)) → ⊥
-  go (inl (w, is)) = not_both _ not_above (begun d path w is)
-  go (inr (w, is)) = not_both _ not_in (begun path d w is)
+      go : ((w : List ℕ) × (d ≡ path ++ w)) ⊎ ((w : List ℕ) × (path ≡ d ++ w)) → ⊥
+      go (inl (w, is)) = not_both _ not_above (begun d path w is)
+      go (inr (w, is)) = not_both _ not_in (begun path d w is)
 
 all_beside : (path d : List ℕ) (outputs : List (List ℕ)) → starts_with nat_eq path d ≡ false → starts_with nat_eq d path ≡ false →
     list_all (λ o. are_apart path (d ++ o)) outputs ≡ true

@@ -278,12 +278,7 @@ impl<F: Folder> Folder for LoggedFolder<F> {
         answer
     }
 
-    fn make_node(
-        &mut self,
-        run: RunKey,
-        names: &[RcStr],
-        kind: &TaskNodeKind,
-    ) -> io::Result<()> {
+    fn make_node(&mut self, run: RunKey, names: &[RcStr], kind: &TaskNodeKind) -> io::Result<()> {
         let answer = self.folder.make_node(run, names, kind);
         match node(self.alloc, run, names, kind) {
             Ok(asked) => add(&mut self.log, asked, done_answer(&answer)),

@@ -128,12 +128,7 @@ impl<'a, D: Directory, S: Shells<File = D::File>> Folder for WorkFolder<'a, D, S
         answer
     }
 
-    fn make_node(
-        &mut self,
-        run: RunKey,
-        names: &[RcStr],
-        kind: &TaskNodeKind,
-    ) -> io::Result<()> {
+    fn make_node(&mut self, run: RunKey, names: &[RcStr], kind: &TaskNodeKind) -> io::Result<()> {
         let answer = self.folders.make_node(run, names, kind);
         self.count(&answer);
         answer

@@ -1,5 +1,5 @@
 -- Directories that may be made once for many runs.
-use Rattle.std.proofs.Common.{◌≡◌, ◌⊎◌, inl, inr, ℕ, zero, suc, ◌+◌, ◌-◌, ◌<◌, ◌≤◌, Bool, true, false, not, cond, ◌&&◌, List, [], ◌∷◌, ◌++◌, map, length, take, drop, get_or, slice_set, filter, min, nat_eq, nat_lt, nat_le, Option, Some, None, IfSome, option_map, tt, refl, sym, ap, ap₂, ◌∙◌, append_assoc, append-nil, length-drop, take_all, arith}
+use Rattle.std.proofs.Common.{◌≡◌, ◌⊎◌, inl, inr, ℕ, zero, suc, ◌+◌, ◌-◌, ◌<◌, ◌≤◌, Bool, true, false, not, cond, ◌&&◌, List, [], ◌∷◌, ◌++◌, map, length, take, drop, get_or, slice_set, filter, min, nat_eq, nat_lt, nat_le, Option, Some, None, IfSome, option_map, refl, sym, ap, ap₂, ◌∙◌, append_assoc, append-nil, length-drop, take_all, arith}
 use Rattle.std.specs.List.{flat_map, join_by, list_all, starts_with}
 use Rattle.std.specs.Borrow.{Bor}
 use Rattle.std.specs.Global.{Vec}
@@ -184,6 +184,15 @@ pub record AreFound (nodes : List PlanNode) (c : CommandValue) (at : ℕ) (left 
   pub may_be : list_all (may_be_made (nodes_shown nodes) c) found.places.items ≡ true
   pub trees : map (λ t. Some (tree_shown t)) found.trees.items ≡ map (tree_at (nodes_shown nodes)) found.places.items
 
+pub found_none : (nodes : List PlanNode) (c : CommandValue) (names : List (Bor (List ℕ))) (found : FoundTrees) → names ≡ []
+    → found.places.items ≡ [] → found.trees.items ≡ [] → AreFound nodes c 0 nodes names found
+found_none nodes c names found names_are places_are trees_are = record {
+  here = refl;
+  paths = ap (λ (ns : List (Bor (List ℕ))). paths_behind (map (λ s. s.now) ns) (nodes_shown nodes)) (sym names_are);
+  may_be = ap (list_all (may_be_made (nodes_shown nodes) c)) places_are;
+  trees = ap (map (λ t. Some (tree_shown t))) trees_are ∙ sym (ap (map (tree_at (nodes_shown nodes))) places_are);
+}
+
 more_may : (p : ℕ → Bool) (places now : List ℕ) (at : ℕ) (tree : Option InputTree)
     → now ≡ places ++ option_to_list (option_map (λ t. at) tree) → list_all p places ≡ true → IfSome tree (λ t. p at ≡ true)
     → list_all p now ≡ true
@@ -276,6 +285,10 @@ abbrev pub AreMarks : List ℕ → List ℕ → List Bool → Type 0
 AreMarks places left made =
     (may : ℕ → Bool) → list_all may places ≡ true
     → (list_all may left ≡ true) × ((at : ℕ) → get_or made at false ≡ true → may at ≡ true)
+
+pub first_number : (xs : List ℕ) → get_or xs 0 0 ≡ get_or xs 0 (get_or xs 0 0)
+first_number [] = refl
+first_number (x ∷ xs) = refl
 
 pub marks_more : (places left rest : List ℕ) (place : ℕ) (made now : List Bool) → AreMarks places left made → left ≡ place ∷ rest →
     now ≡ slice_set made place true → AreMarks places rest now

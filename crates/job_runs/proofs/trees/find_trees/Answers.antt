@@ -1,10 +1,13 @@
-use Rattle.std.proofs.Common.{refl, arith}
+use Rattle.std.proofs.Common.{arith}
 use Rattle.runner.proofs.Lists.{first_and_rest}
-use Rattle.job_runs.proofs.MadeTrees.{found_more}
+use Rattle.job_runs.proofs.MadeTrees.{found_more, found_none}
 use Rattle.job_runs.proofs.trees.find_trees.Goals as goal
 
 pub nodes-init : goal.nodes-init
-nodes-init c = (record { here = refl; paths = refl; may_be = refl; trees = refl }, omega arith)
+nodes-init c = (
+  found_none c.args.nodes.now _ c.new-names.result.items _ c.new-names.ensures.items c.new.ensures.items c.new-2.ensures.items,
+  omega arith,
+)
 
 pub nodes-preserved : goal.nodes-preserved
 nodes-preserved c = (

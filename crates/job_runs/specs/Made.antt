@@ -40,13 +40,12 @@ abbrev pub are_apart : List ℕ → List ℕ → Bool
 are_apart path other =
     not (starts_with nat_eq path other) && not (starts_with nat_eq other path)
 
--- a directory may be made at this path where a command is run in a directory, and its outputs are to
--- be at these paths from there on: no output is there, below or above, and that directory is neither
--- there nor below
+-- where a command is run at a place, with outputs at these paths from there on: no output is at this
+-- path, below it or above it, and that place is neither there nor below
 abbrev pub is_free_of : List ℕ → List (List ℕ) → List ℕ → Bool
-is_free_of directory outputs path =
-    not (starts_with nat_eq directory path)
-    && list_all (λ o. are_apart path (directory ++ o)) outputs
+is_free_of place outputs path =
+    not (starts_with nat_eq place path)
+    && list_all (λ o. are_apart path (place ++ o)) outputs
 
 abbrev pub is_free : CommandValue → List ℕ → Bool
 is_free c path = is_free_of (slashed c.working_directory) (map slashed (output_paths c)) path

@@ -1,6 +1,6 @@
 //! The begin of a job's run.
 
-ghost use Rattle.std.specs.Prelude.{◌≡◌, ℕ, Bool, true, false, get_or, IfOk, OnErr, OnOk};
+ghost use Rattle.std.specs.Prelude.{◌≡◌, ℕ, Bool, true, false, get_or, slice_set, IfOk, OnErr, OnOk};
 ghost use Rattle.std.specs.List.{list_all};
 ghost use Rattle.actions.specs.Shown.{nodes_shown};
 ghost use Rattle.execution_messages.specs.Actions.{command_shown};
@@ -20,13 +20,11 @@ use server_core::LentTask;
 use std::alloc::{AllocError, Global};
 
 /// Marks a place, where it is there.
-fn mark(made: &mut [bool], at: usize)
-    ensures { (place : ℕ) → (may : ℕ → Bool) → may at ≡ true
-        → (get_or made.old place false ≡ true → may place ≡ true)
-        → get_or made.new place false ≡ true → may place ≡ true }
+fn mark(made: &mut Vec<bool>, at: usize)
+    ensures { made.new.items ≡ slice_set made.old.items at true }
 {
-    if let Some(flag) = made.get_mut(at) {
-        *flag = true;
+    if at < made.len() {
+        made[at] = true;
     }
 }
 

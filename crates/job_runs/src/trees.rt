@@ -1,14 +1,15 @@
 //! Directories of a task's tree that may be made once for many runs.
 
-ghost use Rattle.std.specs.Prelude.{◌≡◌, true, IfOk, IfSome, OnOk, Some, ◌++◌, ◌∷◌, [], map, min, nat_le, string_bytes};
+ghost use Rattle.std.specs.Prelude.{◌≡◌, true, IfOk, IfSome, OnOk, Some, ◌++◌, map, min, nat_le, option_map, string_bytes};
+ghost use Rattle.std.specs.Option.{option_to_list};
 ghost use Rattle.std.specs.List.{list_all};
 ghost use Rattle.actions.specs.Nodes.{directory};
-ghost use Rattle.actions.specs.Shown.{node_shown, nodes_shown};
+ghost use Rattle.actions.specs.Shown.{asked_shown, node_shown, nodes_shown};
 ghost use Rattle.execution_messages.specs.Actions.{command_shown};
 ghost use Rattle.job_runs.specs.Commands.{output_paths};
-ghost use Rattle.job_runs.specs.Made.{are_apart, file_count, is_file, is_free_of, is_large, may_be_made, node_size, path_text, slashed, tree_at, tree_shown, tree_size, within};
+ghost use Rattle.job_runs.specs.Made.{are_apart, file_count, is_file, is_free_of, is_large, may_be_made, node_size, path_text, slashed, tree_at, tree_of_kind, tree_shown, tree_size, within};
 
-use actions::{PlanNode, asked_outputs};
+use actions::{AskedOutput, PlanNode, asked_outputs};
 use digest::Digest;
 use execution_messages::Command as CommandMessage;
 use run_calls::InputTree;
@@ -58,6 +59,20 @@ fn slashed(alloc: Global, path: &str) -> Result<Vec<u8>, AllocError>
     Ok(made)
 }
 
+fn slashed_paths(alloc: Global, asked: &[AskedOutput<'_>]) -> Result<Vec<Vec<u8>>, AllocError>
+    ensures { IfOk result (λ paths. map (λ o. o.items) paths.items
+        ≡ map slashed (map (λ a. a.path) (map asked_shown asked.now))) }
+{
+    let mut paths = Vec::with_capacity(alloc, asked.len())?;
+    let mut left = asked;
+    while let [first, rest @ ..] = left {
+        let path = slashed(alloc, first.path)?;
+        paths.push(path)?;
+        left = rest;
+    }
+    Ok(paths)
+}
+
 /// Whether neither of two paths stands at the other's, nor below it.
 fn are_apart(path: &[u8], other: &[u8]) -> bool
     ensures { result ≡ are_apart path.now other.now }
@@ -88,12 +103,7 @@ impl Taken {
     {
         let directory = slashed(alloc, command.working_directory)?;
         let asked = asked_outputs(alloc, command)?;
-        let mut outputs = Vec::with_capacity(alloc, asked.len())?;
-        let mut left = asked.as_slice();
-        while let [first, rest @ ..] = left {
-            outputs.push(slashed(alloc, first.path)?)?;
-            left = rest;
-        }
+        let outputs = slashed_paths(alloc, &asked)?;
         Ok(Taken { directory, outputs })
     }
 
@@ -103,7 +113,7 @@ impl Taken {
         for output in &self.outputs {
             bytes = bytes.saturating_add(output.len()).saturating_add(1);
         }
-        MOST_COMPARED / bytes
+        MOST_COMPARED.checked_div(bytes).unwrap_or(0)
     }
 
     /// Whether a directory may be made at a path, which has a slash behind it.
@@ -135,6 +145,39 @@ impl Taken {
         } else {
             Ok(None)
         }
+    }
+
+    /// What is asked for a directory of these names, where a node is one that may be made, and these
+    /// come behind it. No more than so many are compared.
+    fn tree_of(
+        &self,
+        alloc: Global,
+        names: &[&str],
+        node: &PlanNode,
+        behind: &[PlanNode],
+        may_compare: &mut usize,
+    ) -> Result<Option<InputTree>, AllocError>
+        ensures is_large { IfOk result (λ found. IfSome found (λ tree. is_large
+            (node_shown node.now).kind (within node.now.level (nodes_shown behind.now)) ≡ true)) }
+        ensures is_free { IfOk result (λ found. IfSome found (λ tree. is_free_of
+            self.now.directory.items (map (λ o. o.items) self.now.outputs.items)
+            (slashed (path_text (map (λ s. s.now) names.now))) ≡ true)) }
+        ensures tree { IfOk result (λ found. IfSome found (λ tree. tree_of_kind
+            (map (λ s. s.now) names.now) (node_shown node.now).kind
+            (within node.now.level (nodes_shown behind.now)) ≡ Some (tree_shown tree))) }
+    {
+        if *may_compare == 0 {
+            return Ok(None);
+        }
+        let Some(digest) = large_directory(node, behind) else {
+            return Ok(None);
+        };
+        *may_compare -= 1;
+        let Some(path) = self.free_path(alloc, names)? else {
+            return Ok(None);
+        };
+        let size = tree_size(node.level, behind);
+        Ok(Some(InputTree { path, digest, size }))
     }
 }
 
@@ -214,12 +257,17 @@ fn tree_size(level: usize, behind: &[PlanNode]) -> u64
 }
 
 impl FoundTrees {
-    fn add(&mut self, at: usize, tree: InputTree) -> Result<(), AllocError>
-        ensures places { OnOk result (self.new.places.items ≡ self.old.places.items ++ at ∷ []) }
-        ensures trees { OnOk result (self.new.trees.items ≡ self.old.trees.items ++ tree ∷ []) }
+    /// Adds what is asked for the node at a place, if that is a directory that may be made.
+    fn add(&mut self, at: usize, tree: Option<InputTree>) -> Result<(), AllocError>
+        ensures places { OnOk result (self.new.places.items ≡ self.old.places.items
+            ++ option_to_list (option_map (λ t. at) tree)) }
+        ensures trees { OnOk result (self.new.trees.items ≡ self.old.trees.items
+            ++ option_to_list tree) }
     {
-        self.places.push(at)?;
-        self.trees.push(tree)?;
+        if let Some(tree) = tree {
+            self.places.push(at)?;
+            self.trees.push(tree)?;
+        }
         Ok(())
     }
 }
@@ -252,18 +300,13 @@ pub(crate) fn find_trees(
     let mut at = 0;
     let mut left = nodes;
     'nodes: while let [first, rest @ ..] = left {
+        if found.places.len() >= MOST_TREES {
+            return Ok(found);
+        }
         names.truncate(first.level.saturating_sub(1));
         names.push(first.name.as_str())?;
-        if let Some(digest) = large_directory(first, rest) {
-            if may_compare == 0 || found.places.len() >= MOST_TREES {
-                return Ok(found);
-            }
-            may_compare -= 1;
-            if let Some(path) = taken.free_path(alloc, &names)? {
-                let size = tree_size(first.level, rest);
-                found.add(at, InputTree { path, digest, size })?;
-            }
-        }
+        let tree = taken.tree_of(alloc, &names, first, rest, &mut may_compare)?;
+        found.add(at, tree)?;
         at += 1;
         left = rest;
     }

@@ -172,7 +172,7 @@ fn leaves_nothing(rt: &HostRuntime, launcher: &Option<Launcher>) -> bool {
 fn job_runner<'a, E: Write>(
     rt: &'a HostRuntime,
     work: HostWork<'a>,
-    (links, trees): (Links, MadeTrees<'a>),
+    made: (Links, MadeTrees<'a>),
     shared: (&'a FolderCounts, &'a Oversight),
     launcher: Option<Launcher>,
     instances: &Instances,
@@ -181,7 +181,7 @@ fn job_runner<'a, E: Write>(
     requires launcher { IfSome launcher (KnowsInstances instances.now.configs) }
 {
     let path = String::from_str(rt.alloc(), work.path())?;
-    let (folders, oversight) = shared;
+    let ((links, trees), (folders, oversight)) = (made, shared);
     let failure = &oversight.failure;
     let failed_at = &oversight.failed_at;
     let shells = HostShells::new(rt);

@@ -43,8 +43,8 @@ class Toolchain:
         self.blobs, size = [], megabytes * 1_000_000 // files
         common = os.urandom(size)
         of = lambda number: (b"%d of %d " % (number, files) + common)[:size]
-        folders = {f"d{at}": {f"f{number}": of(number) for number in range(at, min(at + 100, files))} for at in range(0, files, 100)}
-        self.digest = Stored(directory(folders, self.blobs))
+        alike = lambda at: {f"f{number}": of(number) for number in range(at, min(at + 100, files))}
+        self.digest = Stored(directory({f"d{at}": alike(at) for at in range(0, files, 100)}, self.blobs))
 
 
 class Setting:

@@ -43,8 +43,9 @@ def flat(seed, files=64, size=20):
 
 def counted(tree):
     """What a tree counts: the bytes of its files, and something for each node, itself among them."""
-    inner = [counted(each) if isinstance(each, dict) else len(each) * (not isinstance(each, Link)) + NODE for each in tree.values()]
-    return sum(inner) + NODE
+    if isinstance(tree, dict):
+        return NODE + sum(counted(each) for each in tree.values())
+    return NODE + (0 if isinstance(tree, Link) else len(tree))
 
 
 def files_of(tree, above=""):
@@ -89,7 +90,8 @@ class Asked:
         expect((done.status.code, done.status.text), (0, ""), "status")
         streams = [peer.stream_text(each).decode() for each in (done.result.stdout, done.result.stderr)]
         expect(done.result.code, 0, f"exit code ({streams[1][-300:]})")
-        expect(done.result.stdout == m.digest(self.wanted), True, f"all inputs are there: {difference(*streams[:1], self.wanted)}")
+        is_whole = done.result.stdout == m.digest(self.wanted)
+        expect(is_whole, True, f"all inputs are there: {difference(streams[0], self.wanted)}")
         return sorted(streams[1].split("\n")[:-1])
 
 

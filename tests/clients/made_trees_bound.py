@@ -16,9 +16,10 @@ def bound_by_the_second(stage):
     """The second action with a toolchain makes it a tree, and each one after it finds that bound."""
     tree = toolchain(stage.folder, 300)
     tree["large"] = Executable(os.urandom(3_000_000))
+    modes = "cd /work; find . -type d -printf '%m %P\\n' | sort"
     with stage.serve() as (server, red):
-        expect(stage.looked(red, {"tc": tree, "a": b"1"}), [], "what the first one has bound")
-        expect(stage.trees(server), [], "folders of trees")
+        before = red.stream_text(stage.runs(red, modes, tree={"tc": tree}).stdout)
+        expect(stage.trees(server), [], "folders of trees behind the first one")
         for number in range(2, 5):
             found = stage.looked(red, {"tc": tree, "a": b"%d" % number})
             expect(found, stage.bound("tc"), f"what is bound for action {number}")
@@ -28,6 +29,8 @@ def bound_by_the_second(stage):
         expect(elsewhere, [stage.bound("w/x")] * 8, "what is bound for eight at once, at another place")
         stage.settles(server, 1)
         expect(stage.trees(server), first, "the folder of the tree")
+        after = red.stream_text(stage.runs(red, modes, tree={"tc": tree}).stdout)
+        expect(after, before, "modes of directories")
         took = stage.blue_runs(server)
     return f"one folder for twelve actions, and each read all of it; blue's action took {took:.1f} s"
 

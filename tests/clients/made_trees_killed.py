@@ -36,8 +36,9 @@ def begun(stage, server, red, step, turn):
     if step == "removed":
         stage.looked(red, {"tc": two})
         before = names()
+        first = [os.path.join(server.start(), name, "f0") for name in before]
         ask(two, "true"), ask(two, "true")
-        stage.waits(lambda: names() != before or not os.path.exists(os.path.join(server.start(), *before, "f0")), 30, "it goes")
+        stage.waits(lambda: names() != before or not all(map(os.path.exists, first)), 30, "it goes")
 
 
 def server_killed(stage):

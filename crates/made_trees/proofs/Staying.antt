@@ -4,7 +4,7 @@ use Rattle.std.specs.List.{filter, list_any}
 use Rattle.std.specs.Map.{lookup, remove_entry, set_value}
 use Rattle.run_calls.specs.declared.task.RunKey.{RunKey}
 use Rattle.made_trees.proofs.Keeping.{one_key, one_state}
-use Rattle.made_trees.specs.Claims.{IsClaimedSo, LetGo}
+use Rattle.made_trees.specs.Claims.{IsBound, IsClaimedSo, LetGo}
 use Rattle.made_trees.specs.Trees.{IsLetGo, StoreValue, Trees, TreeState, TreeValue, changed, finished, finished_state, given_back, given_back_state, held, held_by, is_leaving, leaving, making, makes, nothing, same_run, same_tree, tree_at, tree_folder, uses, whole, with_state, without_leaving}
 use Rattle.made_trees.specs.declared.store.Claim.{Claim}
 use Rattle.made_trees.specs.declared.store.Claim.TheVariants.{Bound, Make, Waits, Copied}
@@ -209,3 +209,35 @@ module _ (run : RunKey) (mine : TreeKey) (folder : RunKey) where
       by : (o : Option TreeValue) → tree_at key es ≡ o → held run mine (without_leaving key es) ≡ uses folder
       by None k = rw k u
       by (Some t) k = rw k (of_state t t.state k refl)
+
+-- ---- a tree that was bound
+
+same_self : (run : RunKey) → same_run run run ≡ true
+same_self run = grind arith
+
+any_last : (run : RunKey) (us : List RunKey) → list_any (same_run run) (us ++ run ∷ []) ≡ true
+any_last run [] = rw (same_self run) refl
+any_last run (x ∷ us) = by (same_run run x) refl (any_last run us)
+  where
+    by : (b : Bool) → same_run run x ≡ b → list_any (same_run run) (us ++ run ∷ []) ≡ true
+        → list_any (same_run run) (x ∷ us ++ run ∷ []) ≡ true
+    by true k more = rw k refl
+    by false k more = rw k more
+
+found_set : (test : TreeKey → Bool) (es : Trees) (t v : TreeValue) → lookup test es ≡ Some t
+    → lookup test (set_value test es v) ≡ Some v
+found_set test [] t v h = cc
+found_set test (e ∷ es) t v h = by (test e.0) refl (λ k. found_set test es t v (rw k at h))
+  where
+    by : (b : Bool) → test e.0 ≡ b → (test e.0 ≡ false → lookup test (set_value test es v) ≡ Some v)
+        → lookup test (set_value test (e ∷ es) v) ≡ Some v
+    by true k more = rw (k, k) refl
+    by false k more = rw (k, k) (more k)
+
+pub held_when_bound : (run : RunKey) (key : TreeKey) (folder : RunKey) (old new : Trees)
+    → IsBound run key folder old new → held run key new ≡ uses folder
+held_when_bound run key folder old new h =
+    let v : TreeValue = with_state (whole (h.users ++ run ∷ [])) h.tree in
+    let found : tree_at key new ≡ Some v =
+    ap (tree_at key) h.used ∙ found_set (same_tree key) old h.tree v h.there in
+    rw (found, any_last run h.users) (ap uses (sym h.folder_is))

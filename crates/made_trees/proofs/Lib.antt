@@ -1,2 +1,2 @@
 mod Keeping
-mod Staying
+pub mod Staying

@@ -1,10 +1,11 @@
 -- What is in use stays.
-use Rattle.std.proofs.Common.{◌≡◌, ◌∙◌, ◌+◌, ◌||◌, ◌&&◌, ℕ, Bool, true, false, not, List, [], ◌∷◌, ◌++◌, Option, None, Some, inl, inr, refl, sym, ap, subst, true≢false, if◌then◌else◌, arith}
+use Rattle.std.proofs.Common.{◌≡◌, ◌∙◌, ℕ, Bool, true, false, not, List, [], ◌∷◌, ◌++◌, Option, None, Some, inl, inr, refl, sym, ap, subst, true≢false, if◌then◌else◌, arith}
 use Rattle.std.specs.List.{filter, list_any}
 use Rattle.std.specs.Map.{lookup, remove_entry, set_value}
 use Rattle.run_calls.specs.declared.task.RunKey.{RunKey}
-use Rattle.made_trees.specs.Claims.{IsClaimedSo, LetGo}
-use Rattle.made_trees.specs.Trees.{HeldValue, IsLetGo, StoreValue, Trees, TreeState, TreeValue, changed, finished, finished_state, given_back, given_back_state, held, held_by, is_leaving, leaving, making, makes, nothing, same_run, same_tree, tree_at, tree_folder, uses, whole, with_state, without_leaving}
+use Rattle.made_trees.proofs.Keeping.{one_key, one_state}
+use Rattle.made_trees.specs.Claims.{IsBound, IsClaimedSo, LetGo}
+use Rattle.made_trees.specs.Trees.{IsLetGo, StoreValue, Trees, TreeState, TreeValue, changed, finished, finished_state, given_back, given_back_state, held, held_by, is_leaving, leaving, making, makes, nothing, same_run, same_tree, tree_at, tree_folder, uses, whole, with_state, without_leaving}
 use Rattle.made_trees.specs.declared.store.Claim.{Claim}
 use Rattle.made_trees.specs.declared.store.Claim.TheVariants.{Bound, Make, Waits, Copied}
 use Rattle.made_trees.specs.declared.tree.TreeKey.{TreeKey}
@@ -138,23 +139,30 @@ module _ (run : RunKey) (mine : TreeKey) (folder : RunKey) where
       by true l more = rw l (rw l at u)
       by false l more = rw l (more l)
 
-  stays_let_go : (es fs : Trees) → LetGo es fs → held run mine es ≡ uses folder → held run mine fs ≡ uses folder
-  stays_let_go [] [] g u = u
-  stays_let_go [] (f ∷ fs) g u = absurd g
-  stays_let_go (e ∷ es) [] g u = absurd g
-  stays_let_go (e ∷ es) (f ∷ fs) g u =
-      by (same_tree mine e.0) refl (λ l. stays_let_go es fs g.1 (rw l at u))
+  stays_let_go : (i : ℕ) (es fs : Trees) → LetGo i es fs → held run mine es ≡ uses folder
+      → held run mine fs ≡ uses folder
+  stays_let_go i [] [] g u = u
+  stays_let_go i [] (f ∷ fs) g u = absurd g
+  stays_let_go i (e ∷ es) [] g u = absurd g
+  stays_let_go i (e ∷ es) (f ∷ fs) g u =
+      by (same_tree mine e.0) refl (λ l. stays_let_go i es fs g.1 (rw l at u))
     where
+      key : f.0 ≡ e.0
+      key = one_key i e f g.0
+
+      state : IsLetGo e.1 f.1
+      state = one_state i e f g.0
+
       number : e.1.number ≡ f.1.number
-      number = elim g.0.1 [ inl s ↦ ap (λ (x : TreeValue). x.number) (sym s) | inr s ↦ ap (λ (x : TreeValue). x.number) (sym s.1) ]
+      number = elim state [ inl s ↦ ap (λ (x : TreeValue). x.number) (sym s) | inr s ↦ ap (λ (x : TreeValue). x.number) (sym s.1) ]
 
       by : (c : Bool) → same_tree mine e.0 ≡ c
           → (same_tree mine e.0 ≡ false → held run mine fs ≡ uses folder) → held run mine (f ∷ fs) ≡ uses folder
       by true l more =
           let was : IsUsed e.1 = rw l at u in
-          let here : same_tree mine f.0 ≡ true = ap (same_tree mine) g.0.0 ∙ l in
-          rw here (stays_let_go_state run (tree_folder mine.instance f.1.number) folder e.1 f.1 g.0.1 (rw number at was))
-      by false l more = let here : same_tree mine f.0 ≡ false = ap (same_tree mine) g.0.0 ∙ l in rw here (more l)
+          let here : same_tree mine f.0 ≡ true = ap (same_tree mine) key ∙ l in
+          rw here (stays_let_go_state run (tree_folder mine.instance f.1.number) folder e.1 f.1 state (rw number at was))
+      by false l more = let here : same_tree mine f.0 ≡ false = ap (same_tree mine) key ∙ l in rw here (more l)
 
   stays_changed : (f : TreeValue → TreeState) (key : TreeKey) (es : Trees)
       → ((t : TreeValue) → IsUsed t → IsUsed (with_state (f t) t)) → held run mine es ≡ uses folder
@@ -176,7 +184,7 @@ module _ (run : RunKey) (mine : TreeKey) (folder : RunKey) where
   stays_when_claimed other key size (Make f) old new h u =
       subst (λ (s : StoreValue). held run mine s.trees ≡ uses folder) (sym h.begun) (stays_appended old.trees _ u)
   stays_when_claimed other key size Waits old new h u = rw h.0.same u
-  stays_when_claimed other key size Copied old new h u = stays_let_go old.trees new.trees h.trees u
+  stays_when_claimed other key size Copied old new h u = stays_let_go other.instance old.trees new.trees h.trees u
 
   pub stays_when_finished : (other : RunKey) (key : TreeKey) (es : Trees) → held run mine es ≡ uses folder
       → held run mine (changed (finished other) key es) ≡ uses folder
@@ -201,3 +209,35 @@ module _ (run : RunKey) (mine : TreeKey) (folder : RunKey) where
       by : (o : Option TreeValue) → tree_at key es ≡ o → held run mine (without_leaving key es) ≡ uses folder
       by None k = rw k u
       by (Some t) k = rw k (of_state t t.state k refl)
+
+-- ---- a tree that was bound
+
+same_self : (run : RunKey) → same_run run run ≡ true
+same_self run = grind arith
+
+any_last : (run : RunKey) (us : List RunKey) → list_any (same_run run) (us ++ run ∷ []) ≡ true
+any_last run [] = rw (same_self run) refl
+any_last run (x ∷ us) = by (same_run run x) refl (any_last run us)
+  where
+    by : (b : Bool) → same_run run x ≡ b → list_any (same_run run) (us ++ run ∷ []) ≡ true
+        → list_any (same_run run) (x ∷ us ++ run ∷ []) ≡ true
+    by true k more = rw k refl
+    by false k more = rw k more
+
+found_set : (test : TreeKey → Bool) (es : Trees) (t v : TreeValue) → lookup test es ≡ Some t
+    → lookup test (set_value test es v) ≡ Some v
+found_set test [] t v h = cc
+found_set test (e ∷ es) t v h = by (test e.0) refl (λ k. found_set test es t v (rw k at h))
+  where
+    by : (b : Bool) → test e.0 ≡ b → (test e.0 ≡ false → lookup test (set_value test es v) ≡ Some v)
+        → lookup test (set_value test (e ∷ es) v) ≡ Some v
+    by true k more = rw (k, k) refl
+    by false k more = rw (k, k) (more k)
+
+pub held_when_bound : (run : RunKey) (key : TreeKey) (folder : RunKey) (old new : Trees)
+    → IsBound run key folder old new → held run key new ≡ uses folder
+held_when_bound run key folder old new h =
+    let v : TreeValue = with_state (whole (h.users ++ run ∷ [])) h.tree in
+    let found : tree_at key new ≡ Some v =
+    ap (tree_at key) h.used ∙ found_set (same_tree key) old h.tree v h.there in
+    rw (found, any_last run h.users) (ap uses (sym h.folder_is))

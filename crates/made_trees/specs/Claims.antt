@@ -1,9 +1,9 @@
 -- What claims come to.
-use Rattle.std.specs.Prelude.{◌≡◌, ◌+◌, ℕ, false, List, [], ◌∷◌, ◌++◌, None, Some}
+use Rattle.std.specs.Prelude.{◌≡◌, ◌⊎◌, ◌+◌, ℕ, false, List, [], ◌∷◌, ◌++◌, None, Some}
 use Rattle.std.specs.List.{AllZip}
 use Rattle.std.specs.Map.{set_value}
 use Rattle.run_calls.specs.declared.task.RunKey.{RunKey}
-use Rattle.made_trees.specs.Trees.{IsLetGo, StoreValue, Trees, TreeState, TreeValue, leaving, making, same_run, same_tree, tree_at, tree_folder, whole, with_state}
+use Rattle.made_trees.specs.Trees.{IsLetGo, StoreValue, Trees, TreeValue, leaving, making, same_run, same_tree, tree_at, tree_folder, whole, with_state}
 use Rattle.made_trees.specs.declared.store.Claim.{Claim}
 use Rattle.made_trees.specs.declared.store.Claim.TheVariants.{Bound, Make, Waits, Copied}
 use Rattle.made_trees.specs.declared.store.Removal.{Removal}
@@ -37,16 +37,18 @@ pub record IsMadeByOther (run : RunKey) (key : TreeKey) (old new : Trees) : Type
   pub other : same_run run maker ≡ false
   pub same : new ≡ old
 
--- some that are whole and no run has are to be removed from now on, and nothing else changes
-abbrev pub LetGo : Trees → Trees → Type 0
-LetGo old new = AllZip (λ e f. (f.0 ≡ e.0) × IsLetGo e.1 f.1) old new
+-- some of an instance, which are whole and no run has, are to be removed from now on; all others
+-- stay as they are
+abbrev pub LetGo : ℕ → Trees → Trees → Type 0
+LetGo instance old new = AllZip (λ e f. (f ≡ e)
+    ⊎ ((e.0.instance ≡ instance) × (f.0 ≡ e.0) × IsLetGo e.1 f.1)) old new
 
 -- nothing changes but the trees
 abbrev pub Rest : StoreValue → StoreValue → Type 0
 Rest old new = new ≡ record old { trees = new.trees }
 
-pub record MakesRoom (old new : StoreValue) : Type 0 where
-  pub trees : LetGo old.trees new.trees
+pub record MakesRoom (instance : ℕ) (old new : StoreValue) : Type 0 where
+  pub trees : LetGo instance old.trees new.trees
   pub rest : Rest old new
 
 -- what is answered to a run that claims the tree of a key, and what becomes of the trees
@@ -55,7 +57,7 @@ IsClaimedSo run key size old new (Bound folder) =
     IsBound run key folder old.trees new.trees × Rest old new
 IsClaimedSo run key size old new (Make folder) = IsBegunBy run key size folder old new
 IsClaimedSo run key size old new Waits = IsMadeByOther run key old.trees new.trees × Rest old new
-IsClaimedSo run key size old new Copied = MakesRoom old new
+IsClaimedSo run key size old new Copied = MakesRoom run.instance old new
 
 -- the same of a tree that is there
 abbrev pub IsFoundSo : RunKey → TreeKey → Trees → Trees → Claim → Type 0

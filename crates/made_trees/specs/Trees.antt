@@ -1,5 +1,5 @@
 -- Directories of inputs that are made once for many runs of an instance.
-use Rattle.std.specs.Prelude.{◌≡◌, ◌⊎◌, ◌≤◌, ◌+◌, ◌-◌, ◌==◌, ◌&&◌, ℕ, Bool, true, false, not, List, [], ◌∷◌, Option, Some, None, if◌then◌else◌}
+use Rattle.std.specs.Prelude.{◌≡◌, ◌⊎◌, ◌≤◌, ◌+◌, ◌-◌, ◌==◌, ◌&&◌, ℕ, Bool, true, false, not, List, [], ◌∷◌, Option, if◌then◌else◌}
 use Rattle.std.specs.List.{filter, list_any}
 use Rattle.std.specs.Map.{lookup, remove_entry, set_value}
 use Rattle.std.specs.Option.{option_map_or}
@@ -24,7 +24,7 @@ pub record TreeValue : Type 0 where
 abbrev pub Trees : Type 0
 Trees = List (TreeKey × TreeValue)
 
--- them, the number of the next one, and how many bytes they may have
+-- them, the number of the next one, and how many bytes those of each instance may have
 pub record StoreValue : Type 0 where
   pub trees : Trees
   pub next : ℕ
@@ -41,10 +41,11 @@ key_of run digest = record { instance = run.instance; digest = digest }
 abbrev pub tree_at : TreeKey → Trees → Option TreeValue
 tree_at key trees = lookup (same_tree key) trees
 
--- how many bytes trees have together
-abbrev pub sizes : Trees → ℕ
-sizes [] = 0
-sizes (e ∷ es) = e.1.size + sizes es
+-- how many bytes those of one instance have together
+abbrev pub sizes_of : ℕ → Trees → ℕ
+sizes_of instance [] = 0
+sizes_of instance (e ∷ es) =
+    (if e.0.instance == instance then e.1.size else 0) + sizes_of instance es
 
 -- their numbers rise from one on, and stay below another: so each has its own
 abbrev pub AreRising : ℕ → ℕ → Trees → Type 0

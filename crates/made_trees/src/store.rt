@@ -1,14 +1,15 @@
 //! The trees that there are.
 
 ghost use Rattle.std.specs.Prelude.{◌≡◌, ◌≤◌, ◌<◌, ◌+◌, [], Ok, None, IfOk, IfSome, OnErr};
-ghost use Rattle.made_trees.specs.Trees.{StoreValue, changed, finished, given_back, held, is_made, key_of, sizes, tree_at, without_leaving};
+ghost use Rattle.made_trees.specs.Trees.{StoreValue, changed, finished, given_back, held, is_made, key_of, sizes_of, tree_at, without_leaving};
 ghost use Rattle.made_trees.specs.Claims.{IsClaimedSo, IsRemoval, MakesRoom};
 ghost use Rattle.made_trees.specs.Stages.{held_shown};
 ghost use Rattle.made_trees.specs.declared.store.Claim.TheVariants.{Copied};
 
 use crate::counts::TreeCounts;
 use crate::table::{
-    Table, claim_in, finish_in, first_leaving, give_back_in, let_go_in, oldest_unused,
+    Table, bytes_kept, bytes_of, claim_in, finish_in, first_leaving, give_back_in, let_go_in,
+    oldest_unused,
 };
 use crate::tree::{Tree, TreeKey, tree_folder};
 use digest::Digest;
@@ -18,7 +19,7 @@ use std::alloc::{AllocError, Global};
 use std::marker::Model;
 use std::num::NonZeroUsize;
 
-/// How many digests are noted that were asked for once.
+/// How many digests of an instance are noted that were asked for once.
 const MOST_NOTED: usize = 4_096;
 
 /// How many trees go to make room for one claim.
@@ -59,37 +60,38 @@ pub struct Removal {
 #[derive(Drop)]
 pub struct MadeTrees<'a> {
     alloc: Global,
+    key: MapKey,
     trees: Table,
-    /// How many bytes they may have together.
+    /// How many bytes those of each instance may have.
     most_bytes: u64,
-    /// How many they have.
-    bytes: u64,
     /// The number of the tree that is made next.
     next: u64,
-    /// How many of the bytes are those of trees that are to be removed. Nothing is promised of it.
+    /// How many bytes the trees have that are to be removed. Nothing is promised of it.
     left: u64,
     /// How many claims there were. Nothing is promised of it.
     claims: u64,
-    /// Which digests were asked for, and by which job last. Nothing is promised of it.
-    noted: KeyedCache<TreeKey, u64>,
+    /// Which digests were asked for, and by which job first, of each instance: what one asks for
+    /// drives out nothing of another's. Nothing is promised of it.
+    noted: KeyedMap<u32, KeyedCache<Digest, u64>>,
     counts: &'a TreeCounts,
 }
 
 impl<'a> Model for MadeTrees<'a> {
-    ghost use Rattle.std.specs.Prelude.{◌≡◌, ◌≤◌};
-    ghost use Rattle.made_trees.specs.Trees.{StoreValue, sizes, AreRising};
+    ghost use Rattle.std.specs.Prelude.{◌≤◌, ℕ};
+    ghost use Rattle.made_trees.specs.Trees.{StoreValue, sizes_of, AreRising};
 
     ghost Value = { StoreValue };
 
     ghost view = { λ s. record { trees = s.trees.entries; next = s.next; most = s.most_bytes } };
 
-    // they keep the limit, and each has a number of its own
-    ghost invariant = { λ s. (s.bytes ≡ sizes s.trees.entries) × (s.bytes ≤ s.most_bytes)
+    // those of each instance keep the limit, and each tree has a number of its own
+    ghost invariant = { λ s. ((instance : ℕ) → sizes_of instance s.trees.entries ≤ s.most_bytes)
         × AreRising 0 s.next s.trees.entries };
 }
 
 impl<'a> MadeTrees<'a> {
-    /// No trees, which may have so many bytes. Where these are none, each claim is to be copied.
+    /// No trees. Those of each instance may have so many bytes. Where these are none, each claim is
+    /// to be copied.
     pub fn new(
         alloc: Global,
         key: MapKey,
@@ -102,17 +104,15 @@ impl<'a> MadeTrees<'a> {
           most = most_bytes;
         }) }
     {
-        let most = NonZeroUsize::new(MOST_NOTED).unwrap();
-        let noted = new_cache(alloc, key, most)?;
         Ok(MadeTrees {
             alloc,
+            key,
             trees: KeyedMap::with_hasher(alloc, key),
             most_bytes,
-            bytes: 0,
             next: 0,
             left: 0,
             claims: 0,
-            noted,
+            noted: KeyedMap::with_hasher(alloc, key),
             counts,
         })
     }
@@ -155,32 +155,46 @@ impl<'a> MadeTrees<'a> {
         if let Some(claim) = claim_in(&mut self.trees, run, &key, self.claims)? {
             return Ok(claim);
         }
-        if !self.was_noted(run, key)? || size > self.most_bytes || self.next == u64::MAX {
+        if !self.was_noted(run, key.digest)? || size > self.most_bytes || self.next == u64::MAX {
             return Ok(Claim::Copied);
         }
-        if size > self.most_bytes - self.bytes {
-            self.make_room(size);
+        if size > self.room(key.instance) {
+            self.make_room(run.instance, size);
             return Ok(Claim::Copied);
         }
         self.begin(run, key, size)
     }
 
-    /// Whether another job asked for the digest before. This one is noted.
-    fn was_noted(&mut self, run: RunKey, key: TreeKey) -> Result<bool, AllocError>
+    /// Whether another job of the instance asked for the digest before. This one is noted.
+    fn was_noted(&mut self, run: RunKey, digest: Digest) -> Result<bool, AllocError>
         ensures same { self.new ≡ self.old }
     {
-        if let Some(job) = self.noted.get(&key) {
-            return Ok(*job != run.job);
+        if let Some(noted) = self.noted.get_mut(&run.instance) {
+            if let Some(job) = noted.get(&digest) {
+                return Ok(*job != run.job);
+            }
+            noted.put(digest, run.job)?;
+            return Ok(false);
         }
-        self.noted.put(key, run.job)?;
+        let most = NonZeroUsize::new(MOST_NOTED).unwrap();
+        let mut noted = new_cache(self.alloc, self.key, most)?;
+        noted.put(digest, run.job)?;
+        self.noted.insert(run.instance, noted)?;
         Ok(false)
+    }
+
+    /// How many bytes more the trees of an instance may have.
+    fn room(&self, instance: u32) -> u64
+        ensures { sizes_of instance self.now.trees + result ≡ self.now.most }
+    {
+        self.most_bytes - bytes_of(&self.trees, instance)
     }
 
     /// The run makes a tree, for which there is room.
     fn begin(&mut self, run: RunKey, key: TreeKey, size: u64) -> Result<Claim, AllocError>
         requires own { key.instance ≡ run.instance }
         requires none { tree_at key self.old.trees ≡ None }
-        requires room { sizes self.old.trees + size ≤ self.old.most }
+        requires room { sizes_of key.instance self.old.trees + size ≤ self.old.most }
         requires number { self.old.next < 18446744073709551615 }
         ensures claimed { IfOk result (IsClaimedSo run key size self.old self.new) }
         ensures err { OnErr result (self.new ≡ self.old) }
@@ -188,38 +202,39 @@ impl<'a> MadeTrees<'a> {
         let tree = Tree::new(self.alloc, self.next, size, run, self.claims)?;
         self.trees.insert(key, tree)?;
         let folder = tree_folder(key.instance, self.next);
-        self.bytes += size;
         self.next += 1;
         self.counts.add_tree(key.instance, size);
         Ok(Claim::Make(folder))
     }
 
-    /// Has trees go that were claimed least recently and are not in use, until there will be room
-    /// for so many bytes, or some went.
+    /// Has trees of an instance go that were claimed least recently and are not in use, until there
+    /// will be room for so many bytes, or some went.
     #[tactic(auto, using(crate::proofs::Keeping::room_refl, crate::proofs::Keeping::room_twice))]
-    fn make_room(&mut self, size: u64)
-        ensures { MakesRoom self.old self.new }
+    fn make_room(&mut self, instance: u32, size: u64)
+        ensures { MakesRoom instance self.old self.new }
     {
+        let mut kept = bytes_kept(&self.trees, instance);
         for _ in 0..MOST_DROPPED {
-            let kept = self.bytes.saturating_sub(self.left);
             if kept.saturating_add(size) <= self.most_bytes {
                 return;
             }
-            let Some(key) = oldest_unused(&self.trees) else {
+            let Some(digest) = oldest_unused(&self.trees, instance) else {
                 return;
             };
-            self.let_go(&key);
+            kept = kept.saturating_sub(self.let_go(&TreeKey { instance, digest }));
         }
     }
 
-    /// A tree is to be removed, if it is not in use.
-    fn let_go(&mut self, key: &TreeKey)
-        ensures { MakesRoom self.old self.new }
+    /// A tree is to be removed, if it is not in use. How many bytes are to be removed for that.
+    fn let_go(&mut self, key: &TreeKey) -> u64
+        ensures { MakesRoom key.now.instance self.old self.new }
     {
-        if let Some(size) = let_go_in(&mut self.trees, key) {
-            self.left = self.left.saturating_add(size);
-            self.counts.add_dropped(key.instance);
-        }
+        let Some(size) = let_go_in(&mut self.trees, key) else {
+            return 0;
+        };
+        self.left = self.left.saturating_add(size);
+        self.counts.add_dropped(key.instance);
+        size
     }
 
     /// How a run has a tree.
@@ -291,7 +306,6 @@ impl<'a> MadeTrees<'a> {
         }
         let size = tree.size();
         self.trees.shift_remove(key);
-        self.bytes -= size;
         self.left = self.left.saturating_sub(size);
         self.counts.take_tree(key.instance, size);
     }

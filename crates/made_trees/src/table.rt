@@ -1,11 +1,12 @@
 //! The trees by their keys.
 
-ghost use Rattle.std.specs.Prelude.{◌≡◌, None, IfNone, IfOk, IfSome, OnErr};
-ghost use Rattle.made_trees.specs.Trees.{changed, finished, given_back, tree_at};
+ghost use Rattle.std.specs.Prelude.{◌≡◌, ◌≤◌, None, IfNone, IfOk, IfSome, OnErr};
+ghost use Rattle.made_trees.specs.Trees.{changed, finished, given_back, sizes_of, tree_at};
 ghost use Rattle.made_trees.specs.Claims.{IsFoundSo, LetGo};
 
 use crate::store::Claim;
 use crate::tree::{Tree, TreeKey};
+use digest::Digest;
 use keyed_maps::KeyedMap;
 use run_calls::RunKey;
 use std::alloc::AllocError;
@@ -63,7 +64,7 @@ pub(crate) fn give_back_in(trees: &mut Table, run: RunKey, key: &TreeKey) -> u64
 
 /// A tree is to be removed, if it is not in use. How many bytes it counts, if it is.
 pub(crate) fn let_go_in(trees: &mut Table, key: &TreeKey) -> Option<u64>
-    ensures { LetGo trees.old.entries trees.new.entries }
+    ensures { LetGo key.now.instance trees.old.entries trees.new.entries }
 {
     let tree = trees.get_mut(key)?;
     if tree.let_go() {
@@ -73,17 +74,46 @@ pub(crate) fn let_go_in(trees: &mut Table, key: &TreeKey) -> Option<u64>
     }
 }
 
-/// That of the trees that are not in use which was claimed least recently.
-pub(crate) fn oldest_unused(trees: &Table) -> Option<TreeKey> {
-    let mut oldest: Option<(u64, TreeKey)> = None;
+/// How many bytes the trees of an instance have.
+pub(crate) fn bytes_of(trees: &Table, instance: u32) -> u64
+    requires fits { sizes_of instance trees.now.entries ≤ 18446744073709551615 }
+    ensures { result ≡ sizes_of instance trees.now.entries }
+{
+    let mut bytes = 0;
+    let mut left = trees.iter();
+    while let Some((key, tree)) = left.next() {
+        if key.instance == instance {
+            bytes += tree.size();
+        }
+    }
+    bytes
+}
+
+/// How many bytes those of an instance have that are not to be removed.
+pub(crate) fn bytes_kept(trees: &Table, instance: u32) -> u64 {
+    let mut bytes: u64 = 0;
     for (key, tree) in trees.iter() {
-        if let Some(last) = tree.unused_since() {
-            if oldest.is_none_or(|(least, _)| last < least) {
-                oldest = Some((last, *key));
+        if key.instance == instance && !tree.is_leaving() {
+            bytes = bytes.saturating_add(tree.size());
+        }
+    }
+    bytes
+}
+
+/// The digest of that tree of an instance which was claimed least recently of those that are not in
+/// use.
+pub(crate) fn oldest_unused(trees: &Table, instance: u32) -> Option<Digest> {
+    let mut oldest: Option<(u64, Digest)> = None;
+    for (key, tree) in trees.iter() {
+        if key.instance == instance {
+            if let Some(last) = tree.unused_since() {
+                if oldest.is_none_or(|(least, _)| last < least) {
+                    oldest = Some((last, key.digest));
+                }
             }
         }
     }
-    oldest.map(|(_, key)| key)
+    oldest.map(|(_, digest)| digest)
 }
 
 /// The first of the trees that are to be removed.

@@ -15,7 +15,7 @@ mod paths;
 mod removing;
 mod segments;
 
-pub use behind::names_behind;
+pub use behind::{is_below, names_behind};
 pub use entering::{Entered, enter, make};
 pub use files::{
     Kept, file_in, kept_file, look_in, make_node, open_regular, open_to_add, open_to_read,

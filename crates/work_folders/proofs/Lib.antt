@@ -1,4 +1,3 @@
 pub mod Nowhere
 mod OfRuns
 mod Paths
-mod Sites

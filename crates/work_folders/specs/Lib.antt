@@ -1,3 +1,2 @@
 pub mod Rights
 pub mod Reading
-pub mod RunTrees

@@ -8,18 +8,17 @@ ghost use Rattle.run_folders.specs.Folders.{left_path, root_name};
 ghost use Rattle.run_calls.specs.Values.{place_shown};
 ghost use Rattle.work_folders.specs.Reading.{WasRead};
 ghost use Rattle.work_folders.specs.Rights.{Below, MayLink, MayRemove, MayRun, MayTell, aside_place, root_place};
-ghost use Rattle.work_folders.specs.RunTrees.{IfTree, site_of, trees_of};
+ghost use Rattle.run_trees.specs.RunTrees.{IfTree, site_of, trees_of};
 
 use crate::counts::FolderCounts;
 use crate::remover::Remover;
-use crate::run_trees::RunTrees;
-use crate::sites::Site;
 use crate::tallies::Tallies;
 use crate::work::Work;
 use made_trees::{MadeTrees, Removal};
 use run_calls::{Entry, FileFacts, Found, InputTree, Place, RunKey, TaskNodeKind};
 use run_folders::{Listed, root_name};
 use run_shells::Removing;
+use run_trees::{RunTrees, Site};
 use std::alloc::AllocError;
 use std::io::{self, ErrorKind};
 use std::rc::RcStr;
@@ -171,7 +170,7 @@ impl<'a, D: Directory, S: Shells<File = D::File>> Folders<'a, D, S> {
         requires change { IfSome self.old.work.start
             (λ at. Below D.may_change (root_place at run)) }
         requires tree { IfTree (site_of run self.old.trees.store.trees
-            (trees_of run self.old.trees.runs.items) (map rc_str_bytes names.now))
+            (trees_of run self.old.trees.runs) (map rc_str_bytes names.now))
             (λ folder. IfSome self.old.work.start
             (λ at. MayRun D.may_look D.may_change D.is_settled at folder)) }
         ensures same { self.new.work.start ≡ self.old.work.start }
@@ -198,7 +197,7 @@ impl<'a, D: Directory, S: Shells<File = D::File>> Folders<'a, D, S> {
         requires change { IfSome self.old.work.start
             (λ at. Below D.may_change (root_place at run)) }
         requires tree { IfTree (site_of run self.old.trees.store.trees
-            (trees_of run self.old.trees.runs.items) (map rc_str_bytes names.now))
+            (trees_of run self.old.trees.runs) (map rc_str_bytes names.now))
             (λ folder. IfSome self.old.work.start
             (λ at. MayRun D.may_look D.may_change D.is_settled at folder)) }
         ensures same { self.new.work.start ≡ self.old.work.start }

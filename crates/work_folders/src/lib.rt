@@ -15,12 +15,9 @@ mod marking;
 mod opener;
 mod remover;
 mod request;
-mod run_trees;
-mod sites;
 mod start_folder;
 mod starts;
 mod tallies;
-mod trees_file;
 mod work;
 
 pub use beginning::begin_work;

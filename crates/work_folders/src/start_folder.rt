@@ -12,7 +12,6 @@ ghost use Rattle.work_folders.specs.Rights.{Below, IsBelow, MayLink, MayRemove, 
 use crate::entrance::Entrance;
 use crate::opener::Opener;
 use crate::request::Target;
-use crate::trees_file::TREES;
 use run_calls::{Found, Place, RunKey, TaskNodeKind};
 use run_folders::{
     Entered, Kept, Listed, PRIVATE_MODE, aside_name, entry_name, file_path, kept_file, left_path,
@@ -28,7 +27,9 @@ use system::{Directory, OpenFile, Shells};
 /// Why no run can begin any more where somebody removed the folder of the start.
 const START_GONE: &str = "the folder of this start in --work is gone: restart the server";
 
-/// How the file can be used that says which trees a run has.
+/// The file in a run's folder aside that says which trees it has, and how it can be used.
+const TREES: &[u8] = b"trees";
+
 const TOLD_MODE: u32 = 0o600;
 
 /// The folder of a start, and what is open there.

@@ -1,6 +1,6 @@
 use Rattle.std.proofs.Common.{◌≡◌, ◌++◌, length}
-use Rattle.work_folders.specs.RunTrees.{tree_words}
-use Rattle.work_folders.proofs.trees_file.tree_words.Given as goal
+use Rattle.run_trees.specs.RunTrees.{tree_words}
+use Rattle.run_trees.proofs.words.tree_words.Given as goal
 
 -- what was added, and the words of what is left, are all words
 abbrev pub invariant-trees : goal.invariant-trees

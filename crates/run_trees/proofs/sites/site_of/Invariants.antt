@@ -1,7 +1,7 @@
 use Rattle.std.proofs.Common.{◌≡◌, length, map}
 use Rattle.std.specs.Rc.{rc_str_bytes}
-use Rattle.work_folders.specs.RunTrees.{site_of}
-use Rattle.work_folders.proofs.sites.site_of.Given as goal
+use Rattle.run_trees.specs.RunTrees.{site_of}
+use Rattle.run_trees.proofs.sites.site_of.Given as goal
 
 -- those that were passed have nothing to do with it
 abbrev pub invariant-trees : goal.invariant-trees

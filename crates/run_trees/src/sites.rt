@@ -3,9 +3,9 @@
 ghost use Rattle.std.specs.Prelude.{◌≡◌, map};
 ghost use Rattle.std.specs.Rc.{rc_str_bytes};
 ghost use Rattle.made_trees.specs.Stages.{held_shown};
-ghost use Rattle.work_folders.specs.RunTrees.{site_behind, site_of, site_shown};
+ghost use Rattle.run_trees.specs.RunTrees.{site_behind, site_of, site_shown};
 
-use crate::run_trees::RunTree;
+use crate::list::RunTree;
 use made_trees::{Held, MadeTrees};
 use run_calls::RunKey;
 use run_folders::names_behind;
@@ -13,7 +13,7 @@ use std::rc::RcStr;
 
 /// Where a node is made.
 #[derive(Clone, Copy)]
-pub(crate) enum Site<'b> {
+pub enum Site<'b> {
     /// In the folder of its run.
     Own,
     /// There too, as the place of a tree. If the run makes that, its folder is made as well.

@@ -1,19 +1,16 @@
-//! The file that says where trees are bound, for whoever starts the program of a run.
+//! What is told of the trees of a run to whoever starts its program.
 
 ghost use Rattle.std.specs.Prelude.{◌≡◌, ◌++◌, IfOk, OnOk};
 ghost use Rattle.made_trees.specs.Stages.{held_shown};
-ghost use Rattle.work_folders.specs.RunTrees.{ended, tree_words, words_of};
+ghost use Rattle.run_trees.specs.RunTrees.{ended, tree_words, words_of};
 
-use crate::run_trees::RunTree;
+use crate::list::RunTree;
 use made_trees::{Held, MadeTrees};
 use run_calls::RunKey;
 use run_folders::root_path;
 use std::alloc::{AllocError, Global};
 
-/// Its name, in the folder aside.
-pub(crate) const TREES: &[u8] = b"trees";
-
-/// What it says of the trees that a run claimed, whose folders stand in that of a start: of each
+/// What is told of the trees that a run claimed, whose folders stand in that of a start: of each
 /// that the run uses the absolute path of its folder, and its place from the root of the run on,
 /// each ended by a NUL.
 pub(crate) fn tree_words(

@@ -3,3 +3,4 @@ pub mod Parting
 pub mod Nowhere
 mod PlaceLemmas
 mod SegmentLemmas
+mod NamesBehind

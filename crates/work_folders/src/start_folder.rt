@@ -7,12 +7,12 @@ ghost use Rattle.run_folders.specs.Folders.{left_path, root_name};
 ghost use Rattle.system.specs.Places.{MayTake, WasFileAt, entry};
 ghost use Rattle.run_folders.specs.Listing.{NamesRise};
 ghost use Rattle.work_folders.specs.Reading.{IsFileOf, WasRead};
-ghost use Rattle.work_folders.specs.Rights.{Below, IsBelow, MayLink, MayRemove, aside_place, root_place};
+ghost use Rattle.work_folders.specs.Rights.{Below, IsBelow, MayLink, MayRemove, MayTell, aside_place, root_place};
 
 use crate::entrance::Entrance;
 use crate::opener::Opener;
 use crate::request::Target;
-use run_calls::{Found, Place, RunKey};
+use run_calls::{Found, Place, RunKey, TaskNodeKind};
 use run_folders::{
     Entered, Kept, Listed, PRIVATE_MODE, aside_name, entry_name, file_path, kept_file, left_path,
     list_in, look_in, make_node, node_path, open_to_add, open_to_read, parted, read_part, remove,
@@ -23,10 +23,14 @@ use std::io::{self, ErrorKind};
 use std::marker::Model;
 use std::rc::RcStr;
 use system::{Directory, OpenFile, Shells};
-use tree_nodes::NodeKind;
 
 /// Why no run can begin any more where somebody removed the folder of the start.
 const START_GONE: &str = "the folder of this start in --work is gone: restart the server";
+
+/// The file in a run's folder aside that says which trees it has, and how it can be used.
+const TREES: &[u8] = b"trees";
+
+const TOLD_MODE: u32 = 0o600;
 
 /// The folder of a start, and what is open there.
 #[derive(Drop)]
@@ -68,7 +72,7 @@ fn make_root_in<D: Directory>(alloc: Global, start: &D, run: RunKey) -> io::Resu
 fn make_node_in<D: Directory>(
     directory: &D,
     name: &str,
-    kind: &NodeKind<usize>,
+    kind: &TaskNodeKind,
 ) -> io::Result<Option<D::File>>
     requires may { D.may_change (entry name.now (D.place directory.now)) }
     ensures own { IfOk result (λ made. IfSome made D.File.may_write) }
@@ -163,7 +167,7 @@ impl<D: Directory, S: Shells<File = D::File>> StartFolder<D, S> {
         alloc: Global,
         run: RunKey,
         names: &[RcStr],
-        kind: &NodeKind<usize>,
+        kind: &TaskNodeKind,
     ) -> io::Result<()>
         requires look { Below D.may_look (root_place self.old run) }
         requires change { Below D.may_change (root_place self.old run) }
@@ -217,6 +221,15 @@ impl<D: Directory, S: Shells<File = D::File>> StartFolder<D, S> {
     {
         self.made = None;
         self.make_directory(alloc, place, "")
+    }
+
+    /// Writes the file of a run that says which trees it has, in its folder aside.
+    pub(crate) fn tell_trees(&self, alloc: Global, run: RunKey, text: &[u8]) -> io::Result<()>
+        requires may { MayTell D.may_look D.may_change self.now run }
+    {
+        let aside = opened_aside(alloc, self.entrance.start(), run)?;
+        let mut file = aside.make_file(TREES, TOLD_MODE)?;
+        file.write_all(text)
     }
 
     /// Makes the directories above an output.

@@ -1,0 +1,2 @@
+pub mod AnySite
+mod Claimed

@@ -307,7 +307,7 @@ def made_trees(checks, word):
         words = checks.serve("launched", "--launcher", path, "--made-trees", "1K", word)
         told = f"remoted: {os.path.realpath(path)} does not say by a line `# binds: trees` that it binds them: "
         told += "leave out --made-trees\n"
-        by = f"by {path}\nremoted: made trees of 1024 bytes at most are kept for them"
+        by = f"by {path}\nremoted: each keeps made trees of 1024 bytes at most"
         if name == "binds":
             checks.ends(words, 0, checks.begun(word, programs=by), f"listening red {word.split(':')[1]}\n")
         else:

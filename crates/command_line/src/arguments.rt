@@ -86,8 +86,8 @@ pub(crate) fn launcher<'a>(alloc: Global) -> Arg<'a>
 pub(crate) fn made_trees<'a>(alloc: Global) -> Arg<'a>
     ensures { HasRule made_trees_rule result }
 {
-    let help = "How many bytes of large input directories are kept on the disk for actions that \
-                share them, as 20G; with 0 none are. The launcher binds them";
+    let help = "How many bytes of large input directories each instance keeps on the disk, as 20G, \
+                for actions that share them; with 0 none. The launcher binds them";
     long_option(alloc, "made-trees", "SIZE", help, false).default_value("0")
 }
 

@@ -39,8 +39,8 @@ pub struct Service<'a> {
     pub work: &'a str,
     /// What starts the program of each action, where it is not started as it is.
     pub launcher: Option<&'a str>,
-    /// The most bytes of directories that are made once for many actions, and that the launcher
-    /// binds; 0 where none is.
+    /// The most bytes of the directories of an instance that are made once for many actions, and
+    /// that the launcher binds; 0 where none is.
     pub made_trees: u64,
     /// The most turns.
     pub turns: u64,
@@ -183,7 +183,7 @@ fn lasting_turns(found: &ArgMatches<'_>) -> Option<u64>
     if turns <= MOST { Some(turns) } else { None }
 }
 
-/// How many bytes made trees have at most. Where there is no launcher, there are none.
+/// How many bytes made trees of an instance have at most. Where there is no launcher, there are none.
 fn made_trees(found: &ArgMatches<'_>) -> Option<u64>
     ensures { result ≡ made_trees_of (rows_of (found_of found.now)) }
 {

@@ -78,9 +78,7 @@ pub fn tell_choices<E: Write>(
             let most = service.made_trees;
             tell_line(
                 lines,
-                format!(in alloc;
-                    "remoted: made trees of {most} bytes at most are kept for them\n"
-                ),
+                format!(in alloc; "remoted: each keeps made trees of {most} bytes at most\n"),
             );
         }
     }

@@ -1,7 +1,7 @@
 -- Which trees runs have.
 use Rattle.std.proofs.Common.{◌≡◌, ◌∙◌, ◌⊎◌, ◌==◌, ◌&&◌, ℕ, Bool, true, false, not, List, [], ◌∷◌, ◌++◌, ◌+◌, Contains, map, length, inl, inr, refl, sym, ap, subst, true≢false, if◌then◌else◌, append_assoc, append-nil, arith}
 use Rattle.std.specs.List.{All, filter}
-use Rattle.std.proofs.lemmas.List.Elements.{All-nil, All-push, Contains-append_left, Contains-push}
+use Rattle.std.proofs.lemmas.List.Elements.{All-nil, All-push, Contains-append_left, Contains-append_right, Contains-push}
 use Rattle.run_calls.specs.declared.task.RunKey.{RunKey}
 use Rattle.run_calls.specs.declared.folder.InputTree.{InputTree}
 use Rattle.made_trees.specs.Trees.{StoreValue, Trees, held, key_of, same_run, uses}
@@ -73,8 +73,10 @@ bound_last run es own (c ∷ bs) (j ∷ is) b i h last = (h.0, bound_last run es
 
 among : (run : RunKey) (front : List InputTree) (first : InputTree) (rest : List InputTree)
     → Contains (map (claimed run) (front ++ first ∷ rest)) (claimed run first)
-among run [] first rest = (0, omega arith, refl)
-among run (i ∷ front) first rest = let more = among run front first rest in (more.0 + 1, omega arith, more.2)
+among run [] first rest = Contains-append_left (claimed run first ∷ []) (map (claimed run) rest) (claimed run first)
+    (Contains-push [] (claimed run first))
+among run (i ∷ front) first rest = Contains-append_right (claimed run i ∷ [])
+    (map (claimed run) (front ++ first ∷ rest)) (claimed run first) (among run front first rest)
 
 -- so far as directories were claimed
 pub record IsSoFar (run : RunKey) (inputs left : List InputTree) (es : Trees) (own : List RunTreeValue)

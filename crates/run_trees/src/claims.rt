@@ -69,6 +69,7 @@ fn add(own: &mut Vec<RunTree>, tree: RunTree)
 }
 
 /// Whether the tree of each directory was made before. Those that the run has then are added.
+#[tactic(auto, using(crate::proofs::Claimed::begins, crate::proofs::Claimed::goes_on, crate::proofs::Claimed::ends))]
 pub(crate) fn claim_all(
     alloc: Global,
     store: &mut MadeTrees<'_>,

@@ -59,12 +59,7 @@ impl<'a> RunTrees<'a> {
     }
 
     /// What the file says of a run that has trees.
-    pub fn words(
-        &self,
-        alloc: Global,
-        start: &str,
-        run: RunKey,
-    ) -> Result<Vec<u8>, AllocError>
+    pub fn words(&self, alloc: Global, start: &str, run: RunKey) -> Result<Vec<u8>, AllocError>
         ensures { IfOk result (λ text. text.items ≡ tree_words start.now run self.now.store.trees
             (trees_of run self.now.runs)) }
     {
@@ -73,11 +68,7 @@ impl<'a> RunTrees<'a> {
 
     /// Claims trees for a run. Whether each was made before. No other ones are claimed below one
     /// that was, or is made.
-    pub fn claim(
-        &mut self,
-        run: RunKey,
-        trees: &[InputTree],
-    ) -> Result<Vec<bool>, AllocError>
+    pub fn claim(&mut self, run: RunKey, trees: &[InputTree]) -> Result<Vec<bool>, AllocError>
         ensures bound { IfOk result (λ bound. AreBound run self.new.store.trees
             (trees_of run self.new.runs) bound.items trees.now) }
         ensures claimed { IfOk result
@@ -137,6 +128,7 @@ impl<'a> RunTrees<'a> {
     }
 
     /// A run does not have its trees any more.
+    #[tactic(auto, using(crate::proofs::Claimed::gone_of, crate::proofs::Claimed::others_of))]
     pub fn give_back(&mut self, run: RunKey)
         ensures trees { self.new.store.trees
             ≡ all_given_back run (trees_of run self.old.runs) self.old.store.trees }
@@ -162,6 +154,7 @@ impl<'a> RunTrees<'a> {
 }
 
 /// A run that has no trees has these from now on. There is room for them.
+#[tactic(auto, using(crate::proofs::Claimed::same_self))]
 fn add(runs: &mut Vec<OfRun>, run: RunKey, trees: Vec<RunTree>)
     requires room { vec_len runs.old + 1 ≤ vec_capacity runs.old }
     requires none { trees_of run runs.old.items ≡ [] }

@@ -160,7 +160,9 @@ impl Disk {
     /// Whether a program finds the directory of a name, and what a link is to lead to.
     fn can_change(&self, spot: Spot, change: Change) -> bool {
         let has_target = match change {
-            Change::Link(target) | Change::RenewedLink(target) => self.tree.has_name(target),
+            Change::Link(target) | Change::LinkOnce(target) | Change::RenewedLink(target) => {
+                self.tree.has_name(target)
+            }
             _ => true,
         };
         has_target && self.tree.has_name(spot.above)
@@ -173,7 +175,10 @@ impl Disk {
         self.tree.detach(spot.above, name);
         let what = match change {
             Change::Vanishes => return Ok(()),
-            Change::Link(target) | Change::RenewedLink(target) => What::Link(Some(target)),
+            Change::Back(old) => return self.tree.put(spot.above, name, old),
+            Change::Link(target) | Change::LinkOnce(target) | Change::RenewedLink(target) => {
+                What::Link(Some(target))
+            }
             Change::Directory => What::Directory,
             Change::File | Change::Renewed => What::File,
             Change::Fifo => What::Fifo,
@@ -184,6 +189,10 @@ impl Disk {
         match (change, old) {
             (Change::Renewed, Some(old)) => self.tree.renew(new, old)?,
             (Change::RenewedLink(target), Some(old)) => self.tree.renew(target, old)?,
+            (Change::LinkOnce(_), Some(old)) => {
+                self.trouble = Trouble::Changed(spot, Change::Back(old));
+                self.at = self.at.saturating_add(1);
+            }
             _ => {}
         }
         self.tree.node_mut(new)?.bytes.extend_from_slice(b"new")?;

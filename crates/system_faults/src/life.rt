@@ -20,11 +20,11 @@ const PROGRAM: u32 = 8;
 
 const STEPS: u32 = 16;
 
-/// How many turns there are, and in which the second run begins: it reads while the first one is
-/// removed.
-const TURNS: u32 = 48;
+/// How many turns there are.
+const TURNS: u32 = 56;
 
-const LATER: u32 = 8;
+/// For how many turns the program of the second run runs on: the first run is removed meanwhile.
+const LONGER: u32 = 16;
 
 /// Which of the nodes that are made for a run is its output directory, counted from 0. Those before
 /// it are its folder aside, its folder, a directory, a file, a link, and the program's directory.
@@ -37,8 +37,9 @@ type Folders<'a> = WorkFolder<'a, FakeDirectory<'a>, FakeHost<'a>>;
 pub struct Run {
     place: Place,
     pub maker: Maker,
-    /// How many steps were taken.
+    /// How many steps were taken, and for how many turns its program runs on.
     steps: u32,
+    pauses: u32,
     /// What it was told, and what stood on the disk of it when its removal began.
     pub told: String,
     pub stood: Vec<u8>,
@@ -141,7 +142,7 @@ fn part(folder: &mut Folders<'_>, place: &Place, path: &str, from: u64) -> io::R
 }
 
 impl Run {
-    fn new(alloc: Global, instance: u32, maker: Maker) -> io::Result<Run> {
+    fn new(alloc: Global, instance: u32, maker: Maker, pauses: u32) -> io::Result<Run> {
         Ok(Run {
             place: Place {
                 run: RunKey { instance, job: 3 },
@@ -150,6 +151,7 @@ impl Run {
             },
             maker,
             steps: 0,
+            pauses,
             told: String::new(alloc),
             stood: Vec::new(alloc),
             failed: None,
@@ -205,7 +207,9 @@ impl Run {
     /// Takes a step, or goes on with its removal.
     fn go_on(&mut self, host: &FakeHost<'_>, folder: &mut Folders<'_>) -> io::Result<()> {
         borrowed(host.disk)?.tree.acting = self.maker;
-        if self.steps < STEPS {
+        if self.steps == PROGRAM + 1 && self.pauses > 0 {
+            self.pauses -= 1;
+        } else if self.steps < STEPS {
             let answer = self.step(host, folder);
             self.steps = self.steps.saturating_add(1);
             if let Err(error) = answer {
@@ -262,13 +266,11 @@ fn folders<'a>(
 
 /// Has two runs live there.
 fn live_in(host: &FakeHost<'_>, folder: &mut Folders<'_>, runs: &mut Vec<Run>) -> io::Result<()> {
-    let mut first = Run::new(host.alloc, 0, Maker::Run)?;
-    let mut second = Run::new(host.alloc, 1, Maker::Other)?;
-    for turn in 0..TURNS {
+    let mut first = Run::new(host.alloc, 0, Maker::Run, 0)?;
+    let mut second = Run::new(host.alloc, 1, Maker::Other, LONGER)?;
+    for _ in 0..TURNS {
         first.go_on(host, folder)?;
-        if turn >= LATER {
-            second.go_on(host, folder)?;
-        }
+        second.go_on(host, folder)?;
     }
     runs.push(first)?;
     runs.push(second)?;

@@ -45,7 +45,7 @@ fn spots(alloc: Global, tree: &Tree) -> io::Result<Vec<Spot>> {
 }
 
 /// What programs do to them. Links lead to what the other run left, and to what stands beside.
-fn changes(tree: &Tree) -> io::Result<[Change; 8]> {
+fn changes(tree: &Tree) -> io::Result<[Change; 9]> {
     let out = tree.made(Maker::Other, OUT)?;
     let file = tree.made(Maker::Other, OUT + 1)?;
     let beside = tree.made(Maker::Outside, 1)?;
@@ -53,6 +53,7 @@ fn changes(tree: &Tree) -> io::Result<[Change; 8]> {
         Change::Vanishes,
         Change::Link(out),
         Change::Link(file),
+        Change::LinkOnce(file),
         Change::Directory,
         Change::File,
         Change::Fifo,

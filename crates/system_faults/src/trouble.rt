@@ -45,6 +45,9 @@ pub enum Change {
     Vanishes,
     /// A link comes in its place, to this.
     Link(NodeId),
+    /// The same for one call, and then this comes back.
+    LinkOnce(NodeId),
+    Back(NodeId),
     Directory,
     File,
     Fifo,

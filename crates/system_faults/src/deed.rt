@@ -65,8 +65,8 @@ fn make_twice(alloc: Global, start: &FakeDirectory<'_>) -> io::Result<String> {
 fn told_of(alloc: Global, maker: Maker) -> io::Result<String> {
     let text = match maker {
         Maker::Run => "the run's",
-        Maker::Other => "another run's",
-        Maker::Call => "made",
+        Maker::Other | Maker::Outside => "another run's",
+        Maker::Call | Maker::Start => "made",
         Maker::Program => "a program's",
     };
     Ok(String::from_str(alloc, text)?)

@@ -92,6 +92,7 @@ BETWEEN = {
     "--result-bytes": "error: --result-bytes is not a number of bytes from 4194304 to 2147483648, as 64M or 2G: '{0}'",
     "--window": "error: --window is not a number of bytes from 65535 to 2147483647, as 64K or 4M: '{0}'",
     "--turns": "error: --turns is not a number from 0 to 9223372036854775807, and not endless: '{0}'",
+    "--made-trees": "error: --made-trees is not a number of bytes from 0 to 9223372036854775807, as 500M or 20G: '{0}'",
 }
 BAD_NUMBERS = {
     "--blobs": ["0", "0K", "2147483649", "3G", "1KB", ""],
@@ -99,6 +100,7 @@ BAD_NUMBERS = {
     "--result-bytes": ["4194303", "3M", "2147483649", "3G", "64m", "64MB", "M", ""],
     "--window": ["65534", "63K", "2147483648", "2G", "1T", "4M4", "x"],
     "--turns": ["9223372036854775808", "1K", "for ever", ""],
+    "--made-trees": ["9223372036854775808", "8388608T", "20g", "20GB", ""],
 }
 # Words of `check` that are wrong, and what is said of them.
 CHECKED = [
@@ -185,6 +187,9 @@ def numbers(checks):
             done = run("serve", "--work", "work", option, value, "red:1:100:0")
             found = (done.returncode, done.stdout, done.stderr.split("\n")[0])
             checks.tell(f"{option} {value}", found, (2, "", BETWEEN[option].format(value)))
+    done = run("serve", "--work", "work", "--made-trees", "1", "red:1:100:0")
+    told = "error: --made-trees is given, and no --launcher, which is to bind them"
+    checks.tell("--made-trees", (done.returncode, done.stdout, done.stderr.split("\n")[0]), (2, "", told))
     for option in ["--turns", "--window", "--blobs"]:
         done = run("serve", "--work", "work", option, "-1", "red:1:100:0")
         found = (done.returncode, "tip" in done.stderr, done.stderr.split("\n")[0])
@@ -290,6 +295,23 @@ def launchers(checks):
     told = f"remoted: {os.path.realpath(path)} lacks none beside it, so each action will fail: nobody makes it\n"
     told += checks.begun(words[2], programs=f"by {path}")
     checks.ends(checks.serve("launched", "--launcher", path, words[2]), 0, told, f"listening red {port}\n")
+    made_trees(checks, words[2])
+
+
+def made_trees(checks, word):
+    """A launcher has to say that it binds them."""
+    lines = {"binds": "# binds: trees", "binds-all": "# binds: trees ", "leaves": "# leaves: no process"}
+    for name, line in lines.items():
+        path = checks.file(name, f"#!/bin/sh\n{line}\n")
+        os.chmod(path, 0o755)
+        words = checks.serve("launched", "--launcher", path, "--made-trees", "1K", word)
+        told = f"remoted: {os.path.realpath(path)} does not say by a line `# binds: trees` that it binds them: "
+        told += "leave out --made-trees\n"
+        by = f"by {path}\nremoted: each instance keeps made trees of 1024 bytes at most"
+        if name == "binds":
+            checks.ends(words, 0, checks.begun(word, programs=by), f"listening red {word.split(':')[1]}\n")
+        else:
+            checks.ends(words, 1, told)
 
 
 def what_is_lacking(checks):

@@ -23,13 +23,18 @@ class Link(str):
     """The target of a symbolic link."""
 
 
+class Stored(bytes):
+    """The digest of a directory, all texts of which are stored before."""
+
+
 def directory(tree, blobs, function=hashlib.sha256):
     """The digest of a mapping of names to contents, links and further mappings; all texts are added to the blobs."""
     files, folders, links = b"", b"", b""
     for name in sorted(tree, key=str.encode):
         inner, named = tree[name], m.field(1, name)
-        if isinstance(inner, dict):
-            folders += m.field(2, named + m.field(2, directory(inner, blobs, function)))
+        if isinstance(inner, (dict, Stored)):
+            digest = inner if isinstance(inner, Stored) else directory(inner, blobs, function)
+            folders += m.field(2, named + m.field(2, digest))
         elif isinstance(inner, Link):
             links += m.field(3, named + m.field(2, inner))
         else:

@@ -16,6 +16,7 @@ PROGRAM is the built `remoted`. Parts:
 - `words`: words of one team's actions that mean something to `srun`, with and without the sandbox on the node.
 - `lines`: that no program of a launcher has a word, a variable, the directory or the instance of an action on its line or
   in its variables, but bubblewrap behind its `--`; and that words which are lost, as on a full disk, fail the run.
+- `trees`: the trees that a launcher is to bind: a file of them that is cut, and places that lead elsewhere, fail the run.
 - `hung`: slurmctld does not answer for 50 seconds, while 24 actions at a time come to their timeouts of a second; and what
   cannot be cancelled.
 - `lost`: launchers that end by a signal, or are gone: the words that the server writes.
@@ -40,6 +41,7 @@ import launchers_lines
 import launchers_lost
 import launchers_sandbox as sandbox
 import launchers_slurm as slurm
+import launchers_trees
 import slurm_cluster
 
 PLAIN = 65534
@@ -104,7 +106,7 @@ def attacked(report, program, no_group):
 
 
 def main():
-    parts = ["lost", "sandbox", "plain", "attacks", "lines", "slurm", "both", "words", "hung", "cost"]
+    parts = ["lost", "sandbox", "plain", "attacks", "lines", "trees", "slurm", "both", "words", "hung", "cost"]
     parser = argparse.ArgumentParser(description=__doc__, formatter_class=argparse.RawDescriptionHelpFormatter)
     parser.add_argument("program")
     parser.add_argument("--only", nargs="*", default=parts, choices=parts, metavar="PART")
@@ -123,6 +125,7 @@ def main():
         "plain": (no_sandbox + no_root, lambda: as_plain_user(report, program)),
         "attacks": (no_sandbox, lambda: attacked(report, program, attacks.Group.lacking())),
         "lines": (no_sandbox, lambda: launchers_lines.lines(report, program, OF_PLAIN)),
+        "trees": (no_sandbox, lambda: launchers_trees.trees(report, OF_PLAIN)),
         "words": (no_cluster + no_sandbox, lambda: launchers_hung.escape(report, program)),
         "hung": (no_cluster, lambda: (launchers_hung.hung(report, program), launchers_hung.not_cancelled(report, program))),
         "slurm": (no_cluster, lambda: (slurm.on_nodes(report, program), slurm.next_missing(report, program))),

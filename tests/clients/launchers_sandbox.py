@@ -191,7 +191,7 @@ def reach(report, program, who, **more):
         with Server(program, instances, 2**62, {"SECRET": SECRET}, work, True, launcher, **more) as server:
             red, blue = (Peer(port, 120 * report.slow) for port in server.ports)
             script = f"sleep {30 * report.slow}; cat src"
-            slow = blue.start(marked(folder, script, tree={"src": SOURCE}, seconds=600))
+            slow = blue.start(marked(folder, script, tree={"src": SOURCE}, seconds=int(600 + 30 * report.slow)))
             of_blue = lambda: [name for name in server.entries() if name.startswith("1-")]
             programs.settled(lambda: not of_blue(), 20 * report.slow)
             tried_all(report, who, server, red, folder, of_blue()[0])

@@ -13,8 +13,9 @@ import time
 BEGINNING = re.compile(
     r"remoted: (\S+ begins with \d+ instances|\S+: \d+ bytes, \d+ slots, on \S+(, reads \S+)?"
     r"|each keeps \d+ blobs, and \d+ results of \d+ bytes, and has windows of \d+ bytes"
-    r"|programs are started (by .*|without a launcher)|figures are written to .*|ends once .* is there"
-    r"|jobs are ended by the lines of .*|ends after \d+ turns( at the latest)?)"
+    r"|programs are started (by .*|without a launcher)|each instance keeps made trees of \d+ bytes at most"
+    r"|figures are written to .*|ends once .* is there|jobs are ended by the lines of .*"
+    r"|ends after \d+ turns( at the latest)?)"
 )
 
 

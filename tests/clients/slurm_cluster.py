@@ -57,9 +57,13 @@ LAUNCHER = os.path.join(os.path.dirname(os.path.abspath(__file__)), "../../launc
 
 
 def launcher(cluster, folder, following=""):
-    """`launchers/slurm` with its settings, in this folder: the cluster, and what starts the program on the node."""
+    """`launchers/slurm` with its settings, in this folder: the cluster, and what starts the program on the node.
+
+    That is `launchers/sandbox` or nothing, and with it made trees are bound.
+    """
     with open(LAUNCHER) as file:
         text = file.read()
+    following = f"{following}\n# binds: trees" if following else ""
     for name, value in {"SLURM_CONF": cluster.configuration, "next": following}.items():
         text, count = re.subn(rf"^{name}=.*$", f"{name}={value}", text, count=1, flags=re.MULTILINE)
         if count != 1:

@@ -169,7 +169,7 @@ def what_else_is_said(host):
     host.systemctl("stop", "remoted@green")
     expect(has(8980, b"red's"), "and red's notices nothing")
     parent = "INSTANCES=ci:8982:1000000:0 dev:8983:1000000:1:ci\nMEMORY=unlimited\n"
-    parent += "OPTIONS=--launcher /usr/local/lib/remoted/sandbox --listen 127.0.0.1\n"
+    parent += "OPTIONS=--launcher /usr/local/lib/remoted/sandbox --made-trees 20G --listen 127.0.0.1\n"
     host.write("etc/remoted/green.conf", parent)
     slots = (TOP / "deploy/slots.conf").read_text()
     host.write(f"{SYSTEM}/remoted@green.service.d/slots.conf", slots.replace("sleep 30", "sleep 1"))

@@ -1,5 +1,5 @@
 -- The command line as `clap` reads it, and what its words ask for.
-use Rattle.std.specs.Prelude.{ℕ, pos, Bool, true, false, ◌&&◌, ◌^◌, nat_le, nat_lt, List, [], ◌∷◌, Option, Some, None, codes, if◌then◌else◌, is_none, is_some, option_map, option_and_then}
+use Rattle.std.specs.Prelude.{ℕ, pos, Bool, true, false, ◌&&◌, ◌||◌, ◌==◌, ◌^◌, nat_le, nat_lt, List, [], ◌∷◌, Option, Some, None, codes, if◌then◌else◌, is_none, is_some, option_map, option_and_then}
 use Rattle.std.specs.Str.{bytes_eq}
 use Rattle.std.specs.Str.Parse.{without_leading_plus}
 use Rattle.decimals.specs.Number.{decimal_value, is_decimal}
@@ -100,6 +100,10 @@ work_rule = record (long_option (codes "work")) { required = true }
 abbrev pub launcher_rule : Rule
 launcher_rule = long_option (codes "launcher")
 
+-- what `--made-trees` may be is said where it is read
+abbrev pub made_trees_rule : Rule
+made_trees_rule = record (long_option (codes "made-trees")) { defaults = codes "0" ∷ [] }
+
 -- one word or more for instances
 abbrev pub instances_rule : Rule
 instances_rule =
@@ -131,8 +135,9 @@ check_command =
 -- with the options for where and how long is served, and for what runs and watches
 abbrev pub with_ways : App → App
 with_ways a =
-    with_rule (with_rule (with_rule (with_rule (with_rule (with_rule (with_rule (with_rule a
-    work_rule) launcher_rule) lasting_rule) listen_rule) metrics_rule) stop_rule) end_rule) links_rule
+    with_rule (with_rule (with_rule (with_rule (with_rule (with_rule (with_rule (with_rule
+    (with_rule a work_rule) launcher_rule) made_trees_rule) lasting_rule) listen_rule) metrics_rule)
+    stop_rule) end_rule) links_rule
 
 abbrev pub serve_command : Shape
 serve_command =
@@ -163,9 +168,9 @@ pub data InvocationValue : Type 0 where
   -- the script of events of a file, by instances with these numbers
   replay : Text → LimitsValue → InvocationValue
   -- to serve the instances of these words at an address, for so many turns, and to have programs
-  -- started by a launcher, or as they are; to write figures to a file, to end by one, and to end
-  -- jobs by another; and what becomes of links
-  serve : (work : Text) (launcher : Option Text) (turns : ℕ) (listen : Text)
+  -- started by a launcher, or as they are; to keep so many bytes of made trees, to write figures to
+  -- a file, to end by one, and to end jobs by another; and what becomes of links
+  serve : (work : Text) (launcher : Option Text) (made_trees turns : ℕ) (listen : Text)
       (metrics stop end links : Option Text) (limits : LimitsValue) (instances : List Text)
       → InvocationValue
   -- to send a file's bytes to a port, and to wait for so many, for so many turns
@@ -253,16 +258,23 @@ lasting_of given =
     else option_and_then count_of (number_of (codes "turns") given))
     (first_of (codes "turns") given)
 
+-- how many bytes made trees have at most: none, where no launcher is given
+abbrev pub made_trees_of : List Row → Option ℕ
+made_trees_of given =
+    option_and_then (λ bytes. if bytes == 0 || is_some (first_of (codes "launcher") given)
+    then Some bytes else None)
+    (amount_of (codes "made-trees") given)
+
 abbrev pub serve_of : List Row → Option InvocationValue
 serve_of given =
-    option_and_then (λ work. option_and_then (λ turns. option_and_then (λ listen.
-    option_and_then (λ limits.
-    option_map (λ instances. serve work (first_of (codes "launcher") given) turns listen
+    option_and_then (λ work. option_and_then (λ made_trees. option_and_then (λ turns.
+    option_and_then (λ listen. option_and_then (λ limits.
+    option_map (λ instances. serve work (first_of (codes "launcher") given) made_trees turns listen
     (first_of (codes "metrics") given) (first_of (codes "stop") given)
     (first_of (codes "end") given) (first_of (codes "links") given) limits instances)
     (all_of (codes "NAME:PORT:QUOTA:SLOTS[:PARENT]") given)) (limits_given given))
     (first_of (codes "listen") given))
-    (lasting_of given)) (first_of (codes "work") given)
+    (lasting_of given)) (made_trees_of given)) (first_of (codes "work") given)
 
 abbrev pub file_or_peer_by : Text → List Row → Option InvocationValue
 file_or_peer_by name given =

@@ -20,8 +20,8 @@ invocation_value (invocation.Unary file limits) =
     unary (option_map (λ f. f.now) file) (limits_value limits)
 invocation_value (invocation.Replay file limits) = replay file.now (limits_value limits)
 invocation_value (invocation.Serve s) =
-    serve s.work.now (option_map (λ l. l.now) s.launcher) s.turns s.listen.now
-    (option_map (λ f. f.now) s.metrics) (option_map (λ f. f.now) s.stop)
+    serve s.work.now (option_map (λ l. l.now) s.launcher) s.made_trees s.turns
+    s.listen.now (option_map (λ f. f.now) s.metrics) (option_map (λ f. f.now) s.stop)
     (option_map (λ f. f.now) s.end) (option_map (λ l. l.now) s.links) (limits_value s.limits)
     (map (λ word. word.now) s.instances.items)
 invocation_value (invocation.Probe port send want turns) = probe port send.now want turns

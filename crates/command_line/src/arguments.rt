@@ -2,7 +2,7 @@
 
 ghost use Rattle.std.specs.Prelude.{◌≡◌, Some, true};
 ghost use Rattle.clap.specs.Words.{new_rule};
-ghost use Rattle.command_line.specs.CommandLine.{file_rule, long_option, count_parser, port_rule, asked_port_rule, optional, send_rule, want_rule, turns_rule, lasting_rule, launcher_rule, listen_rule, blobs_rule, results_rule, result_bytes_rule, window_rule, metrics_rule, stop_rule, end_rule, links_rule, host_rule, instance_rule, seconds_rule, work_rule, instances_rule};
+ghost use Rattle.command_line.specs.CommandLine.{file_rule, long_option, count_parser, port_rule, asked_port_rule, optional, send_rule, want_rule, turns_rule, lasting_rule, launcher_rule, made_trees_rule, listen_rule, blobs_rule, results_rule, result_bytes_rule, window_rule, metrics_rule, stop_rule, end_rule, links_rule, host_rule, instance_rule, seconds_rule, work_rule, instances_rule};
 ghost use Rattle.command_line.specs.Shown.{HasRule};
 
 use clap::builder::ValueParser;
@@ -80,6 +80,15 @@ pub(crate) fn launcher<'a>(alloc: Global) -> Arg<'a>
 {
     let help = "The program that starts the program of each action, as in a sandbox or elsewhere";
     long_option(alloc, "launcher", "PROGRAM", help, false)
+}
+
+/// The most bytes of made trees.
+pub(crate) fn made_trees<'a>(alloc: Global) -> Arg<'a>
+    ensures { HasRule made_trees_rule result }
+{
+    let help = "How many bytes of large input directories each instance keeps on the disk, as 20G, \
+                for actions that share them; with 0 none. The launcher binds them";
+    long_option(alloc, "made-trees", "SIZE", help, false).default_value("0")
 }
 
 pub(crate) fn listen<'a>(alloc: Global) -> Arg<'a>

@@ -8,7 +8,8 @@ ghost use Rattle.command_line.specs.Shown.{HasApp, HasShape, IsLocal};
 use crate::VERSION;
 use crate::arguments::{
     asked_port, blobs, end, figures, file, host, instance, instances, lasting, launcher, links,
-    listen, metrics, port, result_bytes, results, seconds, send, stop, turns, want, window, work,
+    listen, made_trees, metrics, port, result_bytes, results, seconds, send, stop, turns, want,
+    window, work,
 };
 use crate::help_texts::{
     ABOUT, AFTER, CHECK_ABOUT, CHECK_AFTER, PROBE_ABOUT, PROBE_AFTER, REPLAY_ABOUT, REPLAY_AFTER,
@@ -98,6 +99,7 @@ fn with_ways<'a>(alloc: Global, command: Command<'a>) -> Result<Command<'a>, All
     let args = vec![in alloc;
         work(alloc),
         launcher(alloc),
+        made_trees(alloc),
         lasting(alloc),
         listen(alloc),
         metrics(alloc),

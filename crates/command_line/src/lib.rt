@@ -2,17 +2,19 @@
 #![tactic(auto)]
 
 mod arguments;
+mod bad_values;
 mod commands;
 mod help_texts;
 
 ghost use Rattle.std.specs.Prelude.{◌≡◌, ◌≢◌, ◌⊎◌, ℕ, List, Some, None, true, map, string_bytes, IfOk, IfErr, option_map};
 ghost use Rattle.clap.specs.Words.{all_of, app_of, first_of, found_of, kind_of, rows_of, subcommand_rows_of};
 ghost use Rattle.clap.specs.declared.error.kind.ErrorKind.TheVariants.{DisplayHelp, DisplayVersion, ValueValidation};
-ghost use Rattle.command_line.specs.CommandLine.{command_line, amount_of, limits_given, number_of, probe_of, check_of, question_of, lasting_of, serve_of, file_or_peer_by, invocation_by, invocation_of};
+ghost use Rattle.command_line.specs.CommandLine.{command_line, amount_of, limits_given, number_of, probe_of, check_of, question_of, lasting_of, made_trees_of, serve_of, file_or_peer_by, invocation_by, invocation_of};
 ghost use Rattle.instance_limits.specs.Shown.{limits_value};
 ghost use Rattle.command_line.specs.Shown.{invocation_value, invocation_asked, HasNoFault, IsFaultOf, IsFrom};
 
 use crate::arguments::INSTANCES;
+use crate::bad_values::{BadValue, bad_value};
 use crate::commands::{command, lone_command};
 pub use clap::Error;
 use clap::error::ErrorKind;
@@ -37,6 +39,9 @@ pub struct Service<'a> {
     pub work: &'a str,
     /// What starts the program of each action, where it is not started as it is.
     pub launcher: Option<&'a str>,
+    /// The most bytes of the directories of an instance that are made once for many actions, and
+    /// that the launcher binds; 0 where none is.
+    pub made_trees: u64,
     /// The most turns.
     pub turns: u64,
     /// The address on whose ports the instances are served.
@@ -178,6 +183,18 @@ fn lasting_turns(found: &ArgMatches<'_>) -> Option<u64>
     if turns <= MOST { Some(turns) } else { None }
 }
 
+/// How many bytes made trees of an instance have at most. Where there is no launcher, there are none.
+fn made_trees(found: &ArgMatches<'_>) -> Option<u64>
+    ensures { result ≡ made_trees_of (rows_of (found_of found.now)) }
+{
+    let bytes = amount(found, "made-trees")?;
+    if bytes == 0 || text(found, "launcher").is_some() {
+        Some(bytes)
+    } else {
+        None
+    }
+}
+
 fn texts<'a>(
     alloc: Global,
     found: &ArgMatches<'a>,
@@ -202,6 +219,9 @@ fn requested_serve<'a>(
     let Some(work) = text(found, "work") else {
         return Ok(None);
     };
+    let Some(made_trees) = made_trees(found) else {
+        return Ok(None);
+    };
     let Some(turns) = lasting_turns(found) else {
         return Ok(None);
     };
@@ -215,6 +235,7 @@ fn requested_serve<'a>(
         Some(instances) => Ok(Some(Invocation::Serve(Service {
             work,
             launcher: text(found, "launcher"),
+            made_trees,
             turns,
             listen,
             metrics: text(found, "metrics"),
@@ -305,109 +326,6 @@ impl From<Error> for CommandLineError {
             ErrorKind::OutOfMemory => CommandLineError::NoMemory,
             _ => CommandLineError::Answered(error),
         }
-    }
-}
-
-const BAD_TURNS: &str = "--turns is not a number from 0 to 9223372036854775807, and not endless";
-
-const BAD_WANT: &str =
-    "--want is not a number of bytes from 0 to 9223372036854775807, as 1000, 64K, 500M or 8G";
-
-const NO_CHECK: &str = "neither --port is given, nor --metrics";
-
-const BAD_CHECK: &str = "--port and --metrics are given, and one of them is asked at a time";
-
-const BAD_BLOBS: &str = "--blobs is not a number from 1 to 2147483648, as 65536, 64K or 1M";
-
-const BAD_RESULTS: &str = "--results is not a number from 0 to 2147483648, as 10000 or 64K";
-
-const BAD_RESULT_BYTES: &str =
-    "--result-bytes is not a number of bytes from 4194304 to 2147483648, as 64M or 2G";
-
-const BAD_WINDOW: &str = "--window is not a number of bytes from 65535 to 2147483647, as 64K or 4M";
-
-/// What is told of a value, of the command to which it was given, and the value, where it is one.
-#[derive(Clone, Copy)]
-struct BadValue<'a> {
-    command: &'static str,
-    text: &'static str,
-    value: Option<&'a str>,
-}
-
-/// Whether what was given under a name may be that number of an instance.
-fn may_be_chosen(found: &ArgMatches<'_>, name: &str) -> bool {
-    let Some(amount) = amount(found, name) else {
-        return false;
-    };
-    let usual = Limits::usual();
-    let (blobs, results) = (usual.blobs(), usual.results());
-    let (bytes, window) = (usual.result_bytes(), usual.window());
-    let limits = match name {
-        "blobs" => Limits::new(amount, results, bytes, window),
-        "results" => Limits::new(blobs, amount, bytes, window),
-        _ => Limits::new(blobs, results, amount, window),
-    };
-    limits.is_some()
-}
-
-/// What was given to a command under a name, and what is told of it.
-fn bad_option<'a>(
-    command: &'static str,
-    found: &ArgMatches<'a>,
-    name: &str,
-    told: &'static str,
-) -> BadValue<'a> {
-    BadValue {
-        command,
-        text: told,
-        value: text(found, name),
-    }
-}
-
-/// The first of the numbers of all instances that may not be chosen; the last, if no other is.
-fn bad_limit<'a>(command: &'static str, found: &ArgMatches<'a>) -> BadValue<'a> {
-    if !may_be_chosen(found, "blobs") {
-        return bad_option(command, found, "blobs", BAD_BLOBS);
-    }
-    if !may_be_chosen(found, "results") {
-        return bad_option(command, found, "results", BAD_RESULTS);
-    }
-    if !may_be_chosen(found, "result-bytes") {
-        return bad_option(command, found, "result-bytes", BAD_RESULT_BYTES);
-    }
-    bad_option(command, found, "window", BAD_WINDOW)
-}
-
-/// What is wrong with what `check` is asked for.
-fn bad_check<'a>(found: &ArgMatches<'a>) -> BadValue<'a> {
-    let text = match text(found, "port") {
-        Some(_) => BAD_CHECK,
-        None => NO_CHECK,
-    };
-    BadValue {
-        command: "check",
-        text,
-        value: None,
-    }
-}
-
-/// A value that `clap` does not look at: a server's turns, the bytes of a probe, the numbers of
-/// instances, or what is checked.
-fn bad_value<'a>(matches: &ArgMatches<'a>) -> BadValue<'a> {
-    match matches.subcommand() {
-        Some(("probe", found)) => bad_option("probe", found, "want", BAD_WANT),
-        Some(("check", found)) => bad_check(found),
-        Some(("serve", found)) if lasting_turns(found).is_none() => {
-            bad_option("serve", found, "turns", BAD_TURNS)
-        }
-        Some(("serve", found)) => bad_limit("serve", found),
-        Some(("replay", found)) => bad_limit("replay", found),
-        Some((_, found)) => bad_limit("unary", found),
-        None => BadValue {
-            command: "unary",
-            text: BAD_BLOBS,
-            value: None,
-        },
     }
 }
 

@@ -3,11 +3,10 @@
 ghost use Rattle.std.specs.Prelude.{◌≤◌, length};
 
 use crate::counting::{Calls, Deed, Failing};
-use run_calls::{Entry, FileFacts, Folder, Found, Place, RunKey};
+use run_calls::{Entry, FileFacts, Folder, Found, InputTree, Place, RunKey, TaskNodeKind};
 use std::alloc::{AllocError, Global};
 use std::io;
 use std::rc::RcStr;
-use tree_nodes::NodeKind;
 
 #[derive(Drop)]
 enum Kind {
@@ -198,6 +197,13 @@ impl FakeFolder {
 impl Folder for FakeFolder {
     ghost failures = { λ f. f.calls.faults };
 
+    /// None was made before.
+    fn claim(&mut self, _run: RunKey, _trees: &[InputTree]) -> Result<Vec<bool>, AllocError> {
+        Ok(Vec::new(self.alloc))
+    }
+
+    fn forget(&mut self, _run: RunKey) {}
+
     fn make_root(&mut self, run: RunKey) -> io::Result<()> {
         self.calls.next(Deed::Work(run))?;
         let root = String::new(self.alloc);
@@ -205,17 +211,12 @@ impl Folder for FakeFolder {
         Ok(())
     }
 
-    fn make_node(
-        &mut self,
-        run: RunKey,
-        names: &[RcStr],
-        kind: &NodeKind<usize>,
-    ) -> io::Result<()> {
+    fn make_node(&mut self, run: RunKey, names: &[RcStr], kind: &TaskNodeKind) -> io::Result<()> {
         self.calls.next(Deed::Work(run))?;
         let kind = match kind {
-            NodeKind::Directory { .. } => Kind::Directory,
-            NodeKind::Symlink { .. } => Kind::Link,
-            NodeKind::File { is_executable, .. } => Kind::File {
+            TaskNodeKind::Directory | TaskNodeKind::Made { .. } => Kind::Directory,
+            TaskNodeKind::Symlink { .. } => Kind::Link,
+            TaskNodeKind::File { is_executable, .. } => Kind::File {
                 bytes: Vec::new(self.alloc),
                 is_executable: *is_executable,
             },

@@ -1,6 +1,7 @@
 //! What a host counts beside a server, and tells of the process.
 
 use job_runs::RunTally;
+use made_trees::TreeCounts;
 use std::io;
 use std::time::Instant;
 
@@ -17,13 +18,17 @@ pub struct FolderFigures {
     pub last_with_links: u64,
 }
 
-/// What is counted beside a server: folders and runs, what the system refuses, and turns.
+/// What is counted beside a server: folders, made trees and runs, what the system refuses, and
+/// turns.
 pub trait HostCounts {
     /// What is counted of the folders of the runs of an instance.
     fn folders(&self, instance: u32) -> FolderFigures;
 
     /// How many runs of all instances left symbolic links in their output directories.
     fn all_links(&self) -> u64;
+
+    /// What is counted of made trees.
+    fn trees(&self) -> &TreeCounts;
 
     /// What befell the runs of an instance, if there is one of this number.
     fn runs(&self, instance: u32) -> Option<RunTally>;
@@ -51,4 +56,12 @@ pub struct ProcessFigures {
     pub resident: Option<u64>,
     /// The milliseconds of processor time that it has used.
     pub processor_milliseconds: Option<u64>,
+}
+
+/// The bytes of memory that a process has, by its status as the system tells it (proc(5)), where
+/// that says so.
+pub fn resident_of(status: &str) -> Option<u64> {
+    let line = status.lines().find_map(|line| line.strip_prefix("VmRSS:"))?;
+    let kilobytes = line.trim().split(' ').next()?;
+    kilobytes.parse::<u64>().ok()?.checked_mul(1024)
 }

@@ -6,6 +6,7 @@ use crate::job_times::{JobTime, JobTimes};
 use crate::jobs::abandoned_jobs;
 use crate::prometheus::{Kind, Label, Metrics, Value};
 use crate::refusals::{CAUSES, REFUSALS};
+use crate::tree_figures::tree_metrics;
 use crate::turns::Turns;
 use call_counts::{CallCounts, MethodCounts};
 use instance_core::{Instance, InstanceSizes};
@@ -458,6 +459,7 @@ pub(crate) fn instance_metrics<C: HostCounts>(
         "Runs whose output directories had symbolic links.",
         folders.links,
     )?;
+    tree_metrics(&mut metrics, number, host.trees())?;
     metrics.counter(
         "remoted_events_cut_total",
         "Events that were cut short for want of memory.",

@@ -9,9 +9,10 @@ mod jobs;
 mod prometheus;
 mod refusals;
 mod server_figures;
+mod tree_figures;
 mod turns;
 
-pub use host_counts::{FolderFigures, HostCounts, ProcessFigures};
+pub use host_counts::{FolderFigures, HostCounts, ProcessFigures, resident_of};
 pub use in_words::tell_in_words;
 pub use instance_figures::ERROR_CODES;
 pub use jobs::{abandoned_jobs, open_jobs, watched_jobs};

@@ -16,8 +16,8 @@ use Rattle.job_runs.specs.Ran.{Order, not_yet, to_run, ended}
 abbrev pub Entry : Type 0
 Entry = ℕ × Running JobValue
 
--- what is to run under each number fits the jobs: the task of a job that runs, and nothing yet under
--- the number of one that waits, or that was not given
+-- what is to run under each number fits the jobs: the task of a job that runs, and nothing yet
+-- under the number of one that waits, or that was not given
 pub record Fits (plan : ℕ → Order) (jobs : Jobs JobValue) : Type 0 where
   pub rising : AreRising (open_numbers jobs)
   pub given : AllByRecursion (λ n. n < jobs.next) (open_numbers jobs)

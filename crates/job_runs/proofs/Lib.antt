@@ -3,6 +3,8 @@ pub mod Keys
 pub mod Once
 pub mod Killed
 mod Numbering
+mod MadeTrees
+mod TaskOf
 mod Parts
 mod Spans
 mod Ran

@@ -20,8 +20,8 @@ pub record RunsThen : Type 0 where
   pub folders : Option (List FolderCall)
   pub programs : Option (List ProgramCall)
 
--- the run of a job that is lent its task, and so runs, is told as failed, and is ended; where it was
--- only to begin, nothing is to be ended
+-- the run of a job that is lent its task, and so runs, is told as failed, and is ended; where it
+-- was only to begin, nothing is to be ended
 pub record IsFailedByOperator (lent : Option TaskValue) (run : RunKey)
     (told : Result (Option Outcome) RunFault) (old new : RunsThen) : Type 0 where
   pub job_runs : IsSome lent

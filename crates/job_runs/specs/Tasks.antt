@@ -1,52 +1,54 @@
 -- What is run for a task of a job: its command, in its tree.
-use Rattle.std.specs.Prelude.{◌≡◌, ℕ, List, [], ◌∷◌, map, string_bytes, unwrap_or}
+use Rattle.std.specs.Prelude.{◌≡◌, ℕ, ◌+◌, Bool, true, false, List, [], ◌∷◌, map, get_or, nat_lt, Option, Some, None, string_bytes, if◌then◌else◌}
 use Rattle.digest.specs.declared.Digest.{Digest}
 use Rattle.digest.specs.declared.HashFunction.{HashFunction}
 use Rattle.digest.specs.declared.HashFunction.TheVariants.{Sha256}
 use Rattle.digest.specs.Naming.{function_of}
-use Rattle.actions.specs.Nodes.{PlanNodeValue}
-use Rattle.execution_messages.specs.Actions.{CommandValue, EnvironmentVariableValue}
-use Rattle.actions.specs.Commands.{asked_outputs, command_in}
+use Rattle.actions.specs.Nodes.{PlanKindValue, PlanNodeValue, file, symlink, directory}
 use Rattle.execution.specs.Job.{TaskValue}
-use Rattle.run_calls.specs.Values as values
-use Rattle.run_calls.specs.Values.{VariableValue, command_shown}
+use Rattle.run_calls.specs.Values.{TaskKindValue, TaskNodeValue, task_file, task_symlink, task_directory, task_made, command_shown, task_nodes_shown}
 use Rattle.run_calls.specs.declared.task.Task.{Task}
 use Rattle.execution.specs.Numbers.{digest_number}
-use Rattle.tree_nodes.specs.Nodes.{NodeValue, node_by, nodes_shown}
 use Rattle.job_runs.specs.Texts.{blob_digests}
+use Rattle.job_runs.specs.Made.{may_be_made}
+pub use Rattle.job_runs.specs.Commands.{command_for, no_command, output_paths, program_of, variable_of}
 
 -- ---- nodes
 
--- what a node of a plan is, where the texts have these digests
-abbrev pub node_of : List Digest → PlanNodeValue → NodeValue ℕ
-node_of digests n = node_by (digest_number digests) n
+-- what a node of a plan is, where the texts have these digests, and where a directory is one that
+-- was made before
+abbrev pub kind_of : List Digest → Bool → PlanKindValue → TaskKindValue
+kind_of digests is_made (file d is_executable) =
+    task_file (digest_number digests d) is_executable
+kind_of digests is_made (symlink target) = task_symlink target
+kind_of digests is_made (directory d) = if is_made then task_made d else task_directory
 
--- ---- commands
+abbrev pub node_of : List Digest → Bool → PlanNodeValue → TaskNodeValue
+node_of digests is_made n =
+    record { name = n.name; level = n.level; kind = kind_of digests is_made n.kind }
 
--- a command that asks for nothing
-abbrev pub no_command : CommandValue
-no_command = record {
-  arguments = [];
-  environment_variables = [];
-  output_files = [];
-  output_directories = [];
-  working_directory = [];
-  output_paths = [];
-}
+-- the level of a directory that was made before
+abbrev pub made_level : Bool → PlanNodeValue → Option ℕ
+made_level is_made n = if is_made then Some n.level else None
 
--- the command that a text spells, or none
-abbrev pub command_for : List ℕ → CommandValue
-command_for text = unwrap_or (command_in text) no_command
+-- a node behind such a directory in walk order stands in it
+abbrev pub stands_in : Option ℕ → PlanNodeValue → Bool
+stands_in None n = false
+stands_in (Some level) n = nat_lt level n.level
 
-abbrev pub variable_of : EnvironmentVariableValue → VariableValue
-variable_of v = record { name = v.name; value = v.value }
+-- the nodes from a place on, behind a directory that was made before, if any was: what stands in
+-- that is passed over
+abbrev pub nodes_from : List Bool → List Digest → Option ℕ → ℕ → List PlanNodeValue →
+    List TaskNodeValue
+nodes_from made digests inside at [] = []
+nodes_from made digests inside at (n ∷ nodes) =
+    if stands_in inside n then nodes_from made digests inside (at + 1) nodes
+    else node_of digests (get_or made at false) n
+    ∷ nodes_from made digests (made_level (get_or made at false) n) (at + 1) nodes
 
-abbrev pub program_of : CommandValue → values.CommandValue
-program_of c =
-    record { arguments = c.arguments; variables = map variable_of c.environment_variables }
-
-abbrev pub output_paths : CommandValue → List (List ℕ)
-output_paths c = map (λ a. a.path) (asked_outputs c)
+-- the nodes of a plan, each once, but for those that stand in a directory that was made before
+abbrev pub nodes_with : List Bool → List Digest → List PlanNodeValue → List TaskNodeValue
+nodes_with made digests nodes = nodes_from made digests None 0 nodes
 
 -- ---- tasks
 
@@ -55,11 +57,15 @@ abbrev pub function_for : List Digest → HashFunction
 function_for [] = Sha256
 function_for (d ∷ ds) = function_of d.hash
 
--- what runs is the command of the task, in the tree of the task, and what it leaves is hashed by
--- the function of the task's action
+-- what runs is the command of the task, in the tree of the task, of which no directories were made
+-- before but such as may be, and what it leaves is hashed by the function of the task's action
 pub record IsTaskOf (t : TaskValue) (run : Task) : Type 0 where
   pub program : command_shown run.command ≡ program_of (command_for t.command)
   pub directory : string_bytes run.working_directory ≡ (command_for t.command).working_directory
   pub outputs : map string_bytes run.outputs.items ≡ output_paths (command_for t.command)
-  pub nodes : nodes_shown run.nodes.items ≡ map (node_of (blob_digests t.texts)) t.nodes
+  -- which of the nodes are directories that were made before
+  pub made : List Bool
+  pub nodes : task_nodes_shown run.nodes.items ≡ nodes_with made (blob_digests t.texts) t.nodes
+  pub may_be : (at : ℕ) → get_or made at false ≡ true →
+      may_be_made t.nodes (command_for t.command) at ≡ true
   pub function : run.function ≡ function_for (blob_digests t.texts)

@@ -14,11 +14,11 @@ ghost use Rattle.job_runs.specs.Keys.{AreOnce, IsToBegin, all_keys, asked_keys, 
 ghost use Rattle.execution.specs.Orders.{kill, start};
 ghost use Rattle.serve.specs.RunEvents.{CarriesRuns, asked_events, ordered};
 ghost use Rattle.job_runs.specs.Running.{Carry};
-ghost use Rattle.job_runs.specs.Runs.{AreKilled, IsAnsweredFor, IsBegun, IsBegunIf, IsEnded, IsKilledAt, IsOnlyEnded};
+ghost use Rattle.job_runs.specs.Runs.{AreKilled, IsAnsweredFor, IsBegunIf, IsEnded, IsKilledAt, IsOnlyEnded};
 
+use crate::beginning::begin;
 use crate::lent::LentTexts;
 use crate::span::{Span, span_with};
-use crate::tasks::run_task;
 use run_calls::{Folder, Programs, RunKey};
 use run_outcomes::Outcome;
 use runner::{RunFault, Runner};
@@ -127,22 +127,6 @@ impl<F: Folder + Drop, P: Programs + Drop> JobRunner<F, P> {
         self.runner.run(self.place())
     }
 
-    /// Begins the run of a job.
-    fn begin(&mut self, run: RunKey, task: LentTask<'_>) -> Result<(), AllocError>
-        ensures begun { OnOk result (IsBegun run (lent_shown task.entry)
-            self.old.runner.runs.items self.new.runner.runs.items) }
-        ensures refused { OnErr result
-            (self.new.runner.runs.items ≡ self.old.runner.runs.items) }
-        ensures folder { self.new.runner.folder ≡ self.old.runner.folder }
-        ensures programs { self.new.runner.programs ≡ self.old.runner.programs }
-        ensures to_begin { self.new.to_begin ≡ self.old.to_begin }
-        ensures together { self.new.together ≡ self.old.together }
-        ensures next { self.new.next ≡ self.old.next }
-    {
-        let made = run_task(self.alloc, task.pool, task.task)?;
-        self.runner.start(run.instance, run.job, made)
-    }
-
     /// Begins a run that is not there, where its task is lent. There is nothing to tell of it then.
     /// Where none is lent the job that it was noted for does not run any more.
     fn begin_lent(
@@ -152,14 +136,16 @@ impl<F: Folder + Drop, P: Programs + Drop> JobRunner<F, P> {
     ) -> Result<Option<Outcome>, RunFault>
         ensures begun { IsBegunIf (option_map lent_shown task.entry) run result
             self.old.runner.runs.items self.new.runner.runs.items }
-        ensures folder { self.new.runner.folder ≡ self.old.runner.folder }
+        ensures asked { F.asked self.new.runner.folder ≡ F.asked self.old.runner.folder }
+        ensures failures { F.failures self.new.runner.folder
+            ≡ F.failures self.old.runner.folder }
         ensures programs { self.new.runner.programs ≡ self.old.runner.programs }
         ensures to_begin { self.new.to_begin ≡ self.old.to_begin }
         ensures together { self.new.together ≡ self.old.together }
         ensures next { self.new.next ≡ self.old.next }
     {
         if let Some(task) = task {
-            self.begin(run, task)?;
+            begin(self.alloc, &mut self.runner, run, task)?;
         }
         Ok(None)
     }
@@ -388,7 +374,8 @@ impl<F: Folder + Drop, P: Programs + Drop> Runs for JobRunner<F, P> {
             IsBegunIf (option_map lent_shown task.entry) run result
             self.old.runner.runs.items self.new.runner.runs.items }
         ensures only_begun { HasNone run self.old.runner.runs.items →
-            (self.new.runner.folder ≡ self.old.runner.folder)
+            (F.asked self.new.runner.folder ≡ F.asked self.old.runner.folder)
+            × (F.failures self.new.runner.folder ≡ F.failures self.old.runner.folder)
             × (self.new.runner.programs ≡ self.old.runner.programs) }
         ensures answered { list_any (is_run_of run) self.old.runner.runs.items ≡ true →
             IsAnsweredFor (option_map lent_shown task.entry) run result

@@ -30,12 +30,13 @@ pub fn a_number_finds_the_text_of_its_digest()
 
 /// What ran is what that instance ordered. Whatever the runs were told, and whatever was asked of
 /// folders and programs for them, these are parts of one list, in which each is right behind those
-/// before. For each job of an instance, from the order to start it until it is over: all that is made
-/// stands in the folder of its run, and is the tree of its task, or a front of it; its program is
-/// started there, once at most, and is the command of its task; and what the server is told is what
-/// these folders and programs answered for it, or that it failed, as a fault, a rule of outputs or an
-/// operator ended it. Without such an order nothing is made and nothing started, and nothing is
-/// told.
+/// before. For each job of an instance, from the order to start it until it is over: all that is
+/// made stands in the folder of its run, and is the tree of its task, or a front of it; of a
+/// directory of that tree that was made before, nothing is made but that directory, by its digest.
+/// Its program is started there, once at most, and is the command of its task; and what the server
+/// is told is what these folders and programs answered for it, or that it failed, as a fault, a
+/// rule of outputs or an operator ended it. Without such an order nothing is made and nothing
+/// started, and nothing is told.
 pub fn what_ran<F: Folder + Drop, P: Programs + Drop>(runs: &LoggedRuns<OperatedRuns<'_, F, P>>)
     ensures { (h : List RunEvent) (f : List FolderCall) (p : List ProgramCall)
         → runs_logged runs.now.log ≡ Some h
@@ -45,10 +46,10 @@ pub fn what_ran<F: Folder + Drop, P: Programs + Drop>(runs: &LoggedRuns<Operated
 {}
 
 /// Whatever was served while the clock never went back, what happened at the runs is of jobs: under
-/// a number of an instance a task is ordered once at most, and what is lent under it is the task that
-/// is to run under it then. The instances alone see to it. A job gets a number that none had before,
-/// starts once, and runs until it is ordered to be killed or an outcome is told of it; and an outcome
-/// of a job that runs is refused only where the clock went back.
+/// a number of an instance a task is ordered once at most, and what is lent under it is the task
+/// that is to run under it then. The instances alone see to it. A job gets a number that none had
+/// before, starts once, and runs until it is ordered to be killed or an outcome is told of it; and
+/// an outcome of a job that runs is refused only where the clock went back.
 pub fn what_is_served_is_of_jobs()
     ensures { (configs : List ConfigValue) (h : List MarkedHappening) → IsServed configs h
         → NeverBack 0 h → AreOfJobs (filter_map run_event h) }

@@ -2,6 +2,7 @@
 //! runs, the texts of their files, and which run is asked when.
 #![tactic(auto)]
 
+mod beginning;
 mod commands;
 mod ended;
 mod job_runner;
@@ -14,6 +15,7 @@ mod reasons;
 mod run_counts;
 mod span;
 mod tasks;
+mod trees;
 
 pub use ended::EndedJobs;
 pub use job_runner::JobRunner;
@@ -24,4 +26,3 @@ pub use laws::{
 pub use lent::LentTexts;
 pub use operated::{OperatedRuns, Oversight};
 pub use run_counts::{FAULT_WORDS, FAULTS, RunCounts, RunTally};
-pub use tasks::run_task;

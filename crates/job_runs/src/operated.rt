@@ -1,5 +1,5 @@
-//! Runs whose jobs an operator may end, whose outputs are looked at, and of whose faults it is known
-//! why they came.
+//! Runs whose jobs an operator may end, whose outputs are looked at, and of whose faults it is
+//! known why they came.
 
 ghost use Rattle.std.specs.Prelude.{◌≡◌, ◌≤◌, ◌<◌, ◌⊎◌, ◌+◌, ◌++◌, ◌∷◌, ◌||◌, [], true, false, Some, None, Ok, length, nat_lt, slice_get, vec_capacity, vec_len, IfOk, IfSome};
 ghost use Rattle.std.specs.List.{list_any};
@@ -161,8 +161,8 @@ impl<'a, F: Folder + Drop, P: Programs + Drop> OperatedRuns<'a, F, P> {
         self.runs.end_all(configs, moment, errors)
     }
 
-    /// What is told of a run that answered so, as a fault where its outputs break a rule. Faults are
-    /// counted, and what gives more than the quota holds.
+    /// What is told of a run that answered so, as a fault where its outputs break a rule. Faults
+    /// are counted, and what gives more than the quota holds.
     fn judged(
         &self,
         run: RunKey,
@@ -183,7 +183,8 @@ impl<'a, F: Folder + Drop, P: Programs + Drop> OperatedRuns<'a, F, P> {
         answer
     }
 
-    /// The fault that is told in the place of an outcome whose outputs break a rule, which is noted.
+    /// The fault that is told in the place of an outcome whose outputs break a rule, which is
+    /// noted.
     fn refusal(
         &self,
         task: Option<LentTask<'_>>,

@@ -47,7 +47,8 @@ fn add_part(reason: &mut Vec<u8>, part: &[u8]) -> Result<(), AllocError> {
     Ok(())
 }
 
-/// What the system says of a call that failed; or what is said that ends with that, which says more.
+/// What the system says of a call that failed; or what is said that ends with that, which says
+/// more.
 fn add_failure(
     alloc: Global,
     reason: &mut Vec<u8>,

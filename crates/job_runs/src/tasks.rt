@@ -1,15 +1,17 @@
 //! Tasks of jobs as tasks of runs.
 
-ghost use Rattle.std.specs.Prelude.{◌≡◌, IfOk};
-ghost use Rattle.execution.specs.InPool.{task_in};
-ghost use Rattle.job_runs.specs.Tasks.{IsTaskOf, function_for};
-ghost use Rattle.execution.specs.Numbers.{kept_digests};
+ghost use Rattle.std.specs.Prelude.{◌≡◌, IfOk, map, string_bytes};
+ghost use Rattle.actions.specs.Shown.{nodes_shown};
+ghost use Rattle.execution_messages.specs.Actions as messages;
+ghost use Rattle.execution.specs.Numbers.{AreNumbers, kept_digests};
+ghost use Rattle.run_calls.specs.Values.{command_shown, task_nodes_shown};
+ghost use Rattle.job_runs.specs.Tasks.{function_for, nodes_with, output_paths, program_of};
 
-use crate::commands::{command_for, output_paths, program_of};
-use crate::nodes::nodes_of;
-use blob_pool::Pool;
+use crate::commands::{output_paths, program_of};
+use crate::nodes::nodes_with;
 use digest::HashFunction;
-use execution::{KeptText, Task as JobTask, read_task};
+use execution::{KeptText, TaskRead};
+use execution_messages::Command as CommandMessage;
 use run_calls::Task;
 use std::alloc::{AllocError, Global};
 
@@ -23,27 +25,39 @@ fn function_for(texts: &[KeptText]) -> HashFunction
     }
 }
 
-/// What is run for a task of a job: the command that its text spells, with the variables and the
-/// outputs in the order of the command, in the tree of its plan. A file is made of the text whose
-/// number it has among the task's texts (`LentTexts`); where none of them has its digest, that
-/// number is of none, and the file is empty. Where the task's text spells no command that is taken,
-/// nothing is asked for. What the run leaves is hashed by the function of the digest of the task's
-/// action.
+/// What is run for a task of a job that was read: its command, with the variables and the outputs
+/// in the order of the command, in the tree of its plan, of which the directories at some places
+/// were made before. A file is made of the text whose number it has among the task's texts
+/// (`LentTexts`); where none of them has its digest, that number is of none, and the file is empty.
+/// What the run leaves is hashed by the function of the digest of the task's action.
 ///
 /// Err: a request for memory was refused.
-pub fn run_task(alloc: Global, pool: &Pool, task: &JobTask) -> Result<Task, AllocError>
-    ensures { IfOk result (λ run. IsTaskOf (task_in pool.now task.now) run) }
+pub(crate) fn task_with(
+    alloc: Global,
+    texts: &[KeptText],
+    read: &TaskRead,
+    command: &CommandMessage<'_>,
+    made: &[bool],
+) -> Result<Task, AllocError>
+    requires { AreNumbers (kept_digests texts.now) read.now.numbers.entries }
+    ensures program { IfOk result (λ run. command_shown run.command
+        ≡ program_of (messages.command_shown command.now)) }
+    ensures directory { IfOk result (λ run. string_bytes run.working_directory
+        ≡ (messages.command_shown command.now).working_directory) }
+    ensures outputs { IfOk result (λ run. map string_bytes run.outputs.items
+        ≡ output_paths (messages.command_shown command.now)) }
+    ensures nodes { IfOk result (λ run. task_nodes_shown run.nodes.items
+        ≡ nodes_with made.now (kept_digests texts.now) (nodes_shown read.now.plan.nodes.items)) }
+    ensures function { IfOk result (λ run. run.function ≡ function_for (kept_digests texts.now)) }
 {
-    let read = read_task(alloc, pool, task)?;
-    let nodes = nodes_of(alloc, &task.texts, &read.numbers, &read.plan.nodes)?;
-    let message = command_for(alloc, &read.command)?;
-    let command = program_of(alloc, &message)?;
-    let working_directory = String::from_str(alloc, message.working_directory)?;
-    let outputs = output_paths(alloc, &message)?;
-    let function = function_for(&task.texts);
+    let nodes = nodes_with(alloc, texts, &read.numbers, &read.plan.nodes, made)?;
+    let program = program_of(alloc, command)?;
+    let working_directory = String::from_str(alloc, command.working_directory)?;
+    let outputs = output_paths(alloc, command)?;
+    let function = function_for(texts);
     Ok(Task {
         nodes,
-        command,
+        command: program,
         working_directory,
         outputs,
         function,

@@ -1,8 +1,5 @@
 //! What an operator is told of what has to be there before instances are served.
 
-ghost use Rattle.std.specs.Prelude.{◌≡◌, codes};
-ghost use Rattle.std.specs.Str.{bytes_eq};
-
 use crate::instance_words::{
     Instances, InstancesFault, Mistake, WordFault, mistake_of, parent_mistake_of,
 };
@@ -73,20 +70,6 @@ pub fn tell_taken<E: Write>(
     writeln!(errors, "remoted: port {port}: {error}")
 }
 
-/// Tells that a file is no launcher, and why.
-pub fn tell_no_launcher<E: Write>(
-    program: &str,
-    kind: ErrorKind,
-    errors: &mut E,
-) -> io::Result<()> {
-    let why = match kind {
-        ErrorKind::NotFound => "there is no such file",
-        ErrorKind::PermissionDenied => "it is no file that the server may execute",
-        _ => "its path leads to no file",
-    };
-    writeln!(errors, "remoted: cannot run {program}: {why}")
-}
-
 /// How many actions are run at a time, at most.
 pub fn slots_of(instances: &Instances) -> usize {
     let mut slots: usize = 0;
@@ -145,6 +128,16 @@ pub fn tell_file_limit<E: Write>(most: u64, errors: &mut E) -> io::Result<()> {
          raise the limit (ulimit -f unlimited, or LimitFSIZE=infinity), or start it by \
          env --ignore-signal=XFSZ remoted"
     )
+}
+
+/// Whether a process ignores a signal, by the signal's bit: that of its number less one. Its status
+/// is the system's text (proc(5)); where that tells nothing of signals, none is ignored.
+pub fn is_ignored(status: &str, bit: u64) -> bool {
+    let found = status.lines().find_map(|line| line.strip_prefix("SigIgn:"));
+    match found.map(|digits| u64::from_str_radix(digits.trim(), 16)) {
+        Some(Ok(signals)) => signals & bit != 0,
+        _ => false,
+    }
 }
 
 /// The folder in which a file is.
@@ -217,23 +210,4 @@ pub fn tell_leases<E: Write>(prevented: io::Result<bool>, errors: &mut E) -> io:
              (--launcher)"
         )),
     }
-}
-
-/// How a line of a launcher begins that names the files that it needs beside it, and behind ` - `
-/// where they come from.
-const NEEDS: &str = "# needs: ";
-
-/// What a line of a launcher says that is needed, and where it comes from; none where it says
-/// nothing of that.
-pub fn need_of(line: &[u8]) -> Option<(&str, &str)> {
-    let need = str::from_utf8(line).ok()?.strip_prefix(NEEDS)?;
-    Some(need.split_once(" - ").unwrap_or((need, "it needs that")))
-}
-
-/// Whether a line of a launcher says that of what it started nothing runs any more once it has
-/// ended. Then nobody can have a lease on what a run left.
-pub fn says_no_process(line: &[u8]) -> bool
-    ensures { result ≡ bytes_eq line.now (codes "# leaves: no process") }
-{
-    line == b"# leaves: no process".as_slice()
 }

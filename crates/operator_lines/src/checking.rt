@@ -1,9 +1,17 @@
 //! What `remoted check` tells of a server that was asked.
 
+ghost use Rattle.std.specs.Prelude.{◌≡◌, IfOk, IfSome};
+ghost use Rattle.std.specs.Net.Socket.{socket_port};
+
 use crate::lines::ToldAddress;
+use crate::options::ip_of;
+use command_line::Question;
 use port_check::Answer;
 use std::io::{self, Write};
 use std::net::SocketAddr;
+
+/// The most bytes of an instance's name.
+const NAME_LIMIT: usize = 64;
 
 /// What came of asking a server.
 #[derive(Drop)]
@@ -11,6 +19,26 @@ pub enum Outcome {
     /// There is no connection to it.
     Unconnected(io::Error),
     Asked(Answer),
+}
+
+/// The address of the server that is asked. Where the question's words are wrong, that is told, and
+/// there is no answer.
+pub fn address_of<E: Write>(asked: Question<'_>, errors: &mut E) -> io::Result<Option<SocketAddr>>
+    ensures { IfOk result (λ found.
+        IfSome found (λ address. socket_port address ≡ asked.entry.port)) }
+{
+    let name = asked.instance.unwrap_or("");
+    match ip_of("--host", asked.host, errors)? {
+        Some(_) if name.len() > NAME_LIMIT => {
+            writeln!(
+                errors,
+                "remoted: --instance is longer than any name: {name}"
+            )?;
+            Ok(None)
+        }
+        Some(host) => Ok(Some(SocketAddr::new(host, asked.port))),
+        None => Ok(None),
+    }
 }
 
 /// Tells what came of asking the server at an address, which had so many seconds to answer, and

@@ -6,6 +6,7 @@ mod checking;
 mod due;
 mod ending;
 mod instance_words;
+mod launchers;
 mod lines;
 mod notices;
 mod options;
@@ -14,14 +15,14 @@ mod telling;
 mod usage;
 
 pub use beginning::{
-    are_enough_files, can_see_ends, folder_of, need_of, says_no_process, slots_of, tell_file_limit,
-    tell_leases, tell_no_folder, tell_no_launcher, tell_no_sessions, tell_refused_words,
-    tell_taken,
+    are_enough_files, can_see_ends, folder_of, is_ignored, slots_of, tell_file_limit, tell_leases,
+    tell_no_folder, tell_no_sessions, tell_refused_words, tell_taken,
 };
-pub use checking::{Outcome, tell_outcome};
+pub use checking::{Outcome, address_of, tell_outcome};
 pub use due::Due;
 pub use ending::EndingLines;
 pub use instance_words::{Instances, InstancesFault, WordFault, instances_of};
+pub use launchers::{binds_trees, can_bind, leaves_no_process, tell_lacking, tell_no_launcher};
 pub use lines::{is_memory, told};
 pub use notices::Notices;
 pub use options::{Options, ip_of, options_of};

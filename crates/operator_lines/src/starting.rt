@@ -74,6 +74,15 @@ pub fn tell_choices<E: Write>(
     }
     if configs.instances().iter().any(|config| config.slots > 0) {
         tell_line(lines, programs_line(alloc, service.launcher));
+        if service.made_trees > 0 {
+            let most = service.made_trees;
+            tell_line(
+                lines,
+                format!(in alloc;
+                    "remoted: each instance keeps made trees of {most} bytes at most\n"
+                ),
+            );
+        }
     }
     if let Some(path) = service.metrics {
         tell_line(

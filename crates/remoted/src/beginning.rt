@@ -1,10 +1,10 @@
 //! What has to be there before instances are served, and what an operator is told of it.
 
-use crate::process::is_ignored;
+use crate::process::status;
 use host_system::{HostDirectory, HostShells, HostSystem, has_leases, sees_ends};
 use operator_lines::{
-    Instances, are_enough_files, can_see_ends, folder_of, is_memory, tell_file_limit, tell_leases,
-    tell_no_folder, tell_no_sessions, told,
+    Instances, are_enough_files, can_see_ends, folder_of, is_ignored, is_memory, tell_file_limit,
+    tell_leases, tell_no_folder, tell_no_sessions, told,
 };
 use run_programs::has_sessions;
 use std::alloc::{AllocError, Global};
@@ -73,7 +73,7 @@ fn limit_of(resource: i32) -> io::Result<u64> {
 /// process by a signal; where it does that, it is told.
 pub fn can_write<E: Write>(rt: &HostRuntime, errors: &mut E) -> io::Result<bool> {
     let most = limit_of(RLIMIT_FSIZE)?;
-    if most == UNLIMITED || is_ignored(rt, SIGXFSZ) {
+    if most == UNLIMITED || status(rt).is_some_and(|text| is_ignored(text.as_str(), SIGXFSZ)) {
         return Ok(true);
     }
     tell_file_limit(most, errors)?;

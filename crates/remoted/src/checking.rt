@@ -2,14 +2,11 @@
 
 use crate::exit::Exit;
 use command_line::Question;
-use operator_lines::{Outcome, ip_of, is_memory, tell_outcome};
+use operator_lines::{Outcome, address_of, is_memory, tell_outcome};
 use port_check::{ask, question_bytes};
 use std::io::{self, Write};
 use std::net::{SocketAddr, TcpStream};
 use std::time::Duration;
-
-/// The most bytes of an instance's name.
-const NAME_LIMIT: usize = 64;
 
 /// Connects to a server, and asks it.
 fn ask_server(rt: &HostRuntime, address: SocketAddr, asked: Question<'_>) -> io::Result<Outcome> {
@@ -41,18 +38,9 @@ pub fn check_port<O: Write, E: Write>(
     output: &mut O,
     errors: &mut E,
 ) -> io::Result<Exit> {
-    let Some(host) = ip_of("--host", asked.host, errors)? else {
+    let Some(address) = address_of(asked, errors)? else {
         return Ok(Exit::BadWords);
     };
-    let name = asked.instance.unwrap_or("");
-    if name.len() > NAME_LIMIT {
-        writeln!(
-            errors,
-            "remoted: --instance is longer than any name: {name}"
-        )?;
-        return Ok(Exit::BadWords);
-    }
-    let address = SocketAddr::new(host, asked.port);
     let outcome = ask_server(rt, address, asked)?;
     let is_right = tell_outcome(address, asked.seconds, &outcome, output, errors)?;
     Ok(Exit::of_answer(is_right))

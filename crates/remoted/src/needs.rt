@@ -1,8 +1,8 @@
-//! What a launcher says of itself: what it needs, and what it leaves.
+//! What a launcher says of itself, and the files that are beside it.
 
-use operator_lines::{folder_of, need_of, says_no_process};
+use operator_lines::folder_of;
 use std::fs::{self, File};
-use std::io::{self, ErrorKind, Read, Write};
+use std::io::{self, ErrorKind, Read};
 
 /// How many bytes of a launcher are looked at.
 const MOST_BYTES: u64 = 4096;
@@ -15,43 +15,20 @@ fn beginning_of(rt: &HostRuntime, path: &str) -> io::Result<Vec<u8>> {
     Ok(bytes)
 }
 
-/// Whether there is no file of this name in a folder.
-fn is_lacking(rt: &HostRuntime, folder: &str, name: &str) -> io::Result<bool> {
+/// The text in which a launcher says what it needs and does. One that cannot be read says nothing.
+pub fn said_by(rt: &HostRuntime, path: &str) -> Vec<u8> {
+    match beginning_of(rt, path) {
+        Ok(text) => text,
+        Err(_) => Vec::new(rt.alloc()),
+    }
+}
+
+/// Whether there is no file of this name beside a launcher.
+pub fn is_lacking(rt: &HostRuntime, launcher: &str, name: &str) -> io::Result<bool> {
+    let folder = folder_of(launcher);
     let path = format!(in rt.alloc(); "{folder}/{name}")?;
     match fs::metadata(rt, path.as_str()) {
         Err(error) if error.kind() == ErrorKind::NotFound => Ok(true),
         _ => Ok(false),
-    }
-}
-
-/// Tells the first file that a launcher lacks beside it, of those that it says that it needs. Of
-/// one that cannot be read nothing is told.
-pub fn tell_lacking<E: Write>(rt: &HostRuntime, path: &str, errors: &mut E) -> io::Result<()> {
-    let Ok(text) = beginning_of(rt, path) else {
-        return Ok(());
-    };
-    let folder = folder_of(path);
-    for line in text.split(|byte| *byte == b'\n') {
-        let Some((names, origin)) = need_of(line) else {
-            continue;
-        };
-        for name in names.split_ascii_whitespace() {
-            if is_lacking(rt, folder, name)? {
-                return writeln!(
-                    errors,
-                    "remoted: {path} lacks {name} beside it, so each action will fail: {origin}"
-                );
-            }
-        }
-    }
-    Ok(())
-}
-
-/// Whether a launcher says that it leaves no process. One that cannot be read says nothing.
-pub fn leaves_no_process(rt: &HostRuntime, path: &str) -> bool {
-    let says = |line: &[u8]| says_no_process(line);
-    match beginning_of(rt, path) {
-        Ok(text) => text.split(|byte| *byte == b'\n').any(says),
-        Err(_) => false,
     }
 }

@@ -2,18 +2,19 @@
 
 use crate::clock::unix_time;
 use crate::ending::EndFile;
-use crate::process::{processor_milliseconds, resident};
+use crate::process::{processor_milliseconds, status};
 use crate::standard_error::StandardError;
 use crate::watching::{MetricsFile, StopFile};
 use command_line::Service;
-use figures::{Figures, FolderFigures, HostCounts, ProcessFigures};
+use figures::{Figures, FolderFigures, HostCounts, ProcessFigures, resident_of};
 use host_sockets::{HostSockets, SocketCounts};
 use host_wires::{ThisHost, TurnClock};
 use job_runs::{Oversight, RunTally};
+use made_trees::TreeCounts;
 use operator_lines::{Notices, tell_begin, tell_choices, tell_instance, tell_turns};
 use serve::{ErrorLines, Sight, Watch};
 use server_events::Configs;
-use std::alloc::AllocError;
+use std::alloc::{AllocError, Global};
 use std::io;
 use std::time::Instant;
 use work_folders::FolderCounts;
@@ -21,40 +22,65 @@ use work_folders::FolderCounts;
 /// How often there may be lines of one kind about one instance, in milliseconds.
 const NOTICES: u64 = 1_000;
 
-/// What is counted beside the server: folders, jobs that were ended, what the system refuses, and
-/// turns.
+/// What is counted beside the server: folders, made trees, jobs that were ended, and what the
+/// system refuses.
+#[derive(Drop)]
+pub struct Counts {
+    pub folders: FolderCounts,
+    pub trees: TreeCounts,
+    pub oversight: Oversight,
+    pub sockets: SocketCounts,
+}
+
+impl Counts {
+    /// Nothing yet, of these instances.
+    pub fn new(alloc: Global, configs: &Configs) -> Result<Counts, AllocError> {
+        let count = configs.instances().len();
+        Ok(Counts {
+            folders: FolderCounts::new(alloc, count)?,
+            trees: TreeCounts::new(alloc, count)?,
+            oversight: Oversight::new(alloc, configs)?,
+            sockets: SocketCounts::new(),
+        })
+    }
+}
+
+/// The same, and turns.
 #[derive(Clone, Copy)]
 pub struct Counters<'a> {
-    pub folders: &'a FolderCounts,
-    pub oversight: &'a Oversight,
-    pub sockets: &'a SocketCounts,
+    pub counts: &'a Counts,
     pub turns: &'a TurnClock,
 }
 
 impl HostCounts for Counters<'_> {
     fn folders(&self, instance: u32) -> FolderFigures {
+        let folders = &self.counts.folders;
         FolderFigures {
-            left: self.folders.left(instance),
-            held: self.folders.held(instance),
-            links: self.folders.links(instance),
-            last_with_links: self.folders.last_with_links(instance),
+            left: folders.left(instance),
+            held: folders.held(instance),
+            links: folders.links(instance),
+            last_with_links: folders.last_with_links(instance),
         }
     }
 
     fn all_links(&self) -> u64 {
-        self.folders.all_links()
+        self.counts.folders.all_links()
+    }
+
+    fn trees(&self) -> &TreeCounts {
+        &self.counts.trees
     }
 
     fn runs(&self, instance: u32) -> Option<RunTally> {
-        self.oversight.counts.of(instance)
+        self.counts.oversight.counts.of(instance)
     }
 
     fn unaccepted(&self) -> u64 {
-        self.sockets.unaccepted()
+        self.counts.sockets.unaccepted()
     }
 
     fn unaccepted_reason(&self) -> io::Error {
-        self.sockets.reason()
+        self.counts.sockets.reason()
     }
 
     fn turn_began(&self) -> Option<Instant> {
@@ -139,7 +165,7 @@ impl<'a> Operator<'a> {
             return;
         }
         let process = ProcessFigures {
-            resident: resident(self.rt),
+            resident: status(self.rt).and_then(|text| resident_of(text.as_str())),
             processor_milliseconds: processor_milliseconds(),
         };
         let (alloc, path) = (self.rt.alloc(), metrics.path());

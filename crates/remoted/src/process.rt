@@ -63,27 +63,9 @@ fn is_text(place: usize, room: &mut [u8]) -> bool {
     str::from_utf8(&room[..length]).is_ok()
 }
 
-/// Whether the system tells that this process ignores a signal, by the bit of that.
-pub fn is_ignored(rt: &HostRuntime, bit: u64) -> bool {
-    match ignored(rt) {
-        Some(signals) => signals & bit != 0,
-        None => false,
-    }
-}
-
-/// The signals that this process ignores, each at the bit of its number less one.
-fn ignored(rt: &HostRuntime) -> Option<u64> {
-    let text = fs::read_to_string(rt, "/proc/self/status").ok()?;
-    let digits = text.lines().find_map(|line| line.strip_prefix("SigIgn:"))?;
-    u64::from_str_radix(digits.trim(), 16).ok()
-}
-
-/// The bytes of memory that this process has now, if the system tells.
-pub fn resident(rt: &HostRuntime) -> Option<u64> {
-    let text = fs::read_to_string(rt, "/proc/self/status").ok()?;
-    let line = text.lines().find_map(|line| line.strip_prefix("VmRSS:"))?;
-    let kilobytes = line.trim().split(' ').next()?;
-    kilobytes.parse::<u64>().ok()?.checked_mul(1024)
+/// What the system tells of this process, if it does.
+pub fn status(rt: &HostRuntime) -> Option<String> {
+    fs::read_to_string(rt, "/proc/self/status").ok()
 }
 
 /// The milliseconds of processor time that this process has used, if the system tells.

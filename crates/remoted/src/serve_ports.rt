@@ -14,22 +14,24 @@ use crate::beginning::{
 use crate::clock::milliseconds_since;
 use crate::ending::EndFile;
 use crate::exit::{DONE, Exit, FAILED};
-use crate::needs::{leaves_no_process, tell_lacking};
-use crate::operator::{Counters, Operator};
+use crate::needs::{is_lacking, said_by};
+use crate::operator::{Counters, Counts, Operator};
 use crate::sessions::HostSessions;
 use crate::standard_error::StandardError;
 use crate::watching::{MetricsFile, StopFile};
 use command_line::Service;
-use host_sockets::{HostSockets, ListenError, SocketCounts};
+use host_sockets::{HostSockets, ListenError};
 use host_system::{HostShells, HostSpawner, HostSystem};
 use host_wires::{ThisHost, TurnClock};
-use job_runs::{JobRunner, OperatedRuns, Oversight};
+use job_runs::{JobRunner, OperatedRuns};
 use keyed_maps::MapKey;
 use operator_lines::{
-    Instances, Options, instances_of, is_memory, options_of, slots_of, tell_end, tell_no_launcher,
-    tell_refused_words, tell_taken, told,
+    Instances, Options, binds_trees, can_bind, instances_of, is_memory, leaves_no_process,
+    options_of, slots_of, tell_end, tell_lacking, tell_no_launcher, tell_refused_words, tell_taken,
+    told,
 };
 use run_programs::{Launcher, RunPrograms, launcher_path};
+use run_trees::InstanceTrees;
 use serve::{ErrorLines, Sockets, serve};
 use server_events::Configs;
 use std::alloc::AllocError;
@@ -39,7 +41,7 @@ use std::random::RandomSource;
 use std::rc::Rc;
 use std::time::{Duration, Instant};
 use std::{fs, thread};
-use work_folders::{FolderCounts, Links, Work, WorkFolder};
+use work_folders::{Links, Work, WorkFolder};
 
 /// For how many milliseconds it is tried, once each, to end what runs, before the program ends. A
 /// launcher that is told to end may take ten seconds.
@@ -105,7 +107,12 @@ fn launcher_of<E: Write>(
     };
     match launcher_path(&HostSystem::new(rt), program) {
         Ok(path) => {
-            told(tell_lacking(rt, path.as_str(), errors))?;
+            let (launcher, text) = (path.as_str(), said_by(rt, path.as_str()));
+            let lacks = |name: &str| is_lacking(rt, launcher, name);
+            told(tell_lacking(launcher, &text, lacks, errors))?;
+            if !can_bind(service.made_trees, launcher, binds_trees(&text), errors)? {
+                return Ok(None);
+            }
             Ok(Some(Some(Launcher::new(path, names_of(rt, &instances.configs)?))))
         }
         Err(error) if is_memory(&error) => Err(error),
@@ -157,7 +164,7 @@ fn links_of(options: Options) -> Links {
 
 /// Whether nothing runs any more of what a launcher started, once it has ended.
 fn leaves_nothing(rt: &HostRuntime, launcher: &Option<Launcher>) -> bool {
-    matches!(launcher, Some(given) if leaves_no_process(rt, given.path()))
+    matches!(launcher, Some(given) if leaves_no_process(&said_by(rt, given.path())))
 }
 
 /// Runs in this place, of the jobs of these instances.
@@ -165,8 +172,8 @@ fn leaves_nothing(rt: &HostRuntime, launcher: &Option<Launcher>) -> bool {
 fn job_runner<'a, E: Write>(
     rt: &'a HostRuntime,
     work: HostWork<'a>,
-    links: Links,
-    shared: (&'a FolderCounts, &'a Oversight),
+    made: (Links, InstanceTrees<'a>),
+    counts: &'a Counts,
     launcher: Option<Launcher>,
     instances: &Instances,
     errors: &mut E,
@@ -174,11 +181,11 @@ fn job_runner<'a, E: Write>(
     requires launcher { IfSome launcher (KnowsInstances instances.now.configs) }
 {
     let path = String::from_str(rt.alloc(), work.work.path())?;
-    let (folders, oversight) = shared;
-    let failure = &oversight.failure;
-    let failed_at = &oversight.failed_at;
+    let ((links, trees), folders) = (made, &counts.folders);
+    let oversight = &counts.oversight;
+    let (failure, failed_at) = (&oversight.failure, &oversight.failed_at);
     let (shells, work) = (HostShells::new(rt), work.inner());
-    let mut folder = WorkFolder::new(shells, work, links, folders, failure, failed_at);
+    let mut folder = WorkFolder::new(shells, work, links, trees, folders, failure, failed_at);
     if slots_of(instances) > 0 && !leaves_nothing(rt, &launcher) {
         if let Err(error) = guard_against_leases(rt, &mut folder, errors) {
             drop(folder);
@@ -229,7 +236,7 @@ fn operator_of<'a>(
         None => None,
     };
     let end = match service.end {
-        Some(path) => Some(EndFile::new(rt, path, configs, &counters.oversight.ended)),
+        Some(path) => Some(EndFile::new(rt, path, configs, &counters.counts.oversight.ended)),
         None => None,
     };
     Operator::new(rt, configs, counters, metrics, stop, end)
@@ -302,13 +309,29 @@ fn is_stopped<E: Write>(
     Ok(true)
 }
 
-/// Serves these instances as the options say. What the system refuses is counted there.
+/// Whether the host has what serving these instances needs; what it lacks is told.
+fn is_ready<E: Write>(
+    rt: &HostRuntime,
+    service: &Service<'_>,
+    instances: &Instances,
+    errors: &mut E,
+) -> io::Result<bool> {
+    Ok(
+        can_write(rt, errors)?
+            && can_open(instances, errors)?
+            && !is_stopped(rt, service, errors)?
+            && has_folder(rt, "--stop", service.stop, errors)?
+            && has_folder(rt, "--end", service.end, errors)?,
+    )
+}
+
+/// Serves these instances as the options say. What happens beside the server is counted there.
 fn serve_instances<'a, O: Write, E: Write>(
     rt: &'a HostRuntime,
     service: &Service<'_>,
     options: Options,
     instances: &Instances,
-    refusals: &'a SocketCounts,
+    counts: &'a Counts,
     output: &mut O,
     errors: &mut E,
 ) -> io::Result<Exit>
@@ -319,12 +342,7 @@ fn serve_instances<'a, O: Write, E: Write>(
     let Some(launcher) = launcher_of(rt, service, instances, errors)? else {
         return Ok(FAILED);
     };
-    if !can_write(rt, errors)?
-        || !can_open(instances, errors)?
-        || is_stopped(rt, service, errors)?
-        || !has_folder(rt, "--stop", service.stop, errors)?
-        || !has_folder(rt, "--end", service.end, errors)?
-    {
+    if !is_ready(rt, service, instances, errors)? {
         return Ok(FAILED);
     }
     let key = map_key(rt)?;
@@ -333,21 +351,18 @@ fn serve_instances<'a, O: Write, E: Write>(
     let Some(mut sockets) = listen(rt, host, options.address, &instances.ports, errors)? else {
         return Ok(FAILED);
     };
-    sockets.count_in(refusals);
+    sockets.count_in(&counts.sockets);
     let Some(work) = place_of(rt, service, instances, errors)? else {
         return Ok(FAILED);
     };
     let start = String::from_str(rt.alloc(), work.work.path())?;
-    let folders = FolderCounts::new(rt.alloc(), instances.ports.len())?;
-    let oversight = Oversight::new(rt.alloc(), &instances.configs)?;
-    let shared = (&folders, &oversight);
-    let links = links_of(options);
-    let mut runs = job_runner(rt, work, links, shared, launcher, instances, errors)?;
+    let (count, most) = (instances.ports.len(), service.made_trees);
+    let trees = InstanceTrees::new(rt.alloc(), key, most, &counts.trees, count)?;
+    let made = (links_of(options), trees);
+    let mut runs = job_runner(rt, work, made, counts, launcher, instances, errors)?;
     told(announce(&instances.configs, &sockets, output))?;
     let counters = Counters {
-        folders: &folders,
-        oversight: &oversight,
-        sockets: refusals,
+        counts,
         turns: turns.as_ref(),
     };
     let ended = serve_turns(rt, key, instances, sockets, &mut runs, counters, service);
@@ -368,11 +383,11 @@ pub fn serve_ports<O: Write, E: Write>(
         return Ok(Exit::BadWords);
     };
     keep_freed_memory(rt.alloc());
-    let refusals = SocketCounts::new();
     match instances_of(rt.alloc(), service.limits, &service.instances) {
-        Ok(instances) => serve_instances(
-            rt, service, options, &instances, &refusals, output, errors,
-        ),
+        Ok(instances) => {
+            let counts = Counts::new(rt.alloc(), &instances.configs)?;
+            serve_instances(rt, service, options, &instances, &counts, output, errors)
+        }
         Err(fault) => {
             tell_refused_words(&service.instances, fault, errors)?;
             Ok(Exit::BadWords)

@@ -10,8 +10,7 @@ use Rattle.run_calls.specs.declared.folder.Found.{Found}
 use Rattle.run_calls.specs.declared.folder.FileFacts.{FileFacts}
 use Rattle.run_calls.specs.declared.folder.Entry.{Entry}
 use Rattle.run_calls.specs.declared.programs.Stream.{Stream}
-use Rattle.run_calls.specs.Values.{PlaceValue, CommandValue, EntryValue, entry_shown}
-use Rattle.tree_nodes.specs.Nodes.{NodeKindValue}
+use Rattle.run_calls.specs.Values.{PlaceValue, CommandValue, EntryValue, TaskKindValue, entry_shown}
 
 -- ---- of folders
 
@@ -19,7 +18,7 @@ pub data FolderQuestion : Type 0 where
   -- to make the folder of a run
   root_asked : RunKey → FolderQuestion
   -- to make a node in it, which has these names from the root on; a file is empty
-  node_asked : RunKey → List (List ℕ) → NodeKindValue ℕ → FolderQuestion
+  node_asked : RunKey → List (List ℕ) → TaskKindValue → FolderQuestion
   -- to add bytes to a file that was made
   text_asked : RunKey → List (List ℕ) → List ℕ → FolderQuestion
   -- to make the directory in which its program runs

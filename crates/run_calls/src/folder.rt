@@ -2,11 +2,12 @@
 
 ghost use Rattle.std.specs.Prelude.{◌≡◌, ◌≤◌, ℕ, List, Option, None, IfOk, length};
 
+use crate::node::TaskNodeKind;
 use crate::task::RunKey;
-use digest::HashFunction;
+use digest::{Digest, HashFunction};
+use std::alloc::AllocError;
 use std::io;
 use std::rc::RcStr;
-use tree_nodes::NodeKind;
 
 /// A run, the directory in its folder in which its program runs, and how what it leaves is hashed.
 #[derive(Drop)]
@@ -42,6 +43,17 @@ pub struct Entry {
     pub is_directory: bool,
 }
 
+/// A directory of a run's tree that may be made once for many runs.
+#[derive(Drop)]
+pub struct InputTree {
+    /// From the root on, with `/` between names.
+    pub path: String,
+    /// Of the Directory that lists what is in it.
+    pub digest: Digest,
+    /// How much room it takes: the bytes of its files, and 4,096 for each file, directory and link.
+    pub size: u64,
+}
+
 /// The folders of runs, one for each. No call does more than a bounded piece of work.
 ///
 /// In the tree of a task a node has its names from the root on. What was left has the path of an
@@ -49,9 +61,8 @@ pub struct Entry {
 pub trait Folder {
     ghost use Rattle.std.specs.Prelude.{map, string_bytes};
     ghost use Rattle.std.specs.Rc.{rc_str_bytes};
-    ghost use Rattle.tree_nodes.specs.Nodes.{kind_shown};
     ghost use Rattle.run_calls.specs.Calls.{FolderCall, root_asked, node_asked, text_asked, directory_asked, parents_asked, look_asked, file_asked, list_asked, bytes_asked, removal_asked, Adds, done_of, found_of, facts_of, entries_of, folder_bytes_of, gone_of, call};
-    ghost use Rattle.run_calls.specs.Values.{place_shown};
+    ghost use Rattle.run_calls.specs.Values.{place_shown, task_kind_shown};
     ghost use Rattle.run_calls.specs.Failures.{Counts};
 
     // All that was asked, in order, and what was answered, where it is known.
@@ -60,16 +71,30 @@ pub trait Folder {
     // How many calls failed, 2^64 - 1 at most.
     ghost failures: { Self → ℕ };
 
+    /// Which of these directories of a run's tree were made before, and are kept for it from now on:
+    /// whether each is. They stand in walk order.
+    ///
+    /// Err: a request for memory was refused.
+    fn claim(&mut self, run: RunKey, trees: &[InputTree]) -> Result<Vec<bool>, AllocError>
+        ensures same { asked self.new ≡ asked self.old }
+        ensures fails { failures self.new ≡ failures self.old };
+
+    /// Gives back what was claimed for a run whose root was not made.
+    fn forget(&mut self, run: RunKey)
+        ensures same { asked self.new ≡ asked self.old }
+        ensures fails { failures self.new ≡ failures self.old };
+
     /// Makes the folder of a run, which is its root.
     fn make_root(&mut self, run: RunKey) -> io::Result<()>
         ensures adds { Adds (asked self.old) (asked self.new)
             (call (root_asked run) (done_of result)) }
         ensures counts { Counts result (failures self.old) (failures self.new) };
 
-    /// Makes an empty file, a symbolic link or a directory, whose own directory is there.
-    fn make_node(&mut self, run: RunKey, names: &[RcStr], kind: &NodeKind<usize>) -> io::Result<()>
+    /// Makes an empty file, a symbolic link or a directory, whose own directory is there. One that
+    /// was made before stands there with all that is in it once the program runs.
+    fn make_node(&mut self, run: RunKey, names: &[RcStr], kind: &TaskNodeKind) -> io::Result<()>
         ensures adds { Adds (asked self.old) (asked self.new)
-            (call (node_asked run (map rc_str_bytes names.now) (kind_shown kind.now))
+            (call (node_asked run (map rc_str_bytes names.now) (task_kind_shown kind.now))
             (done_of result)) }
         ensures counts { Counts result (failures self.old) (failures self.new) };
 

@@ -2,11 +2,13 @@
 #![tactic(auto)]
 
 mod folder;
+mod node;
 mod programs;
 mod task;
 mod texts;
 
-pub use folder::{Entry, FileFacts, Folder, Found, Place};
+pub use folder::{Entry, FileFacts, Folder, Found, InputTree, Place};
+pub use node::{TaskNode, TaskNodeKind};
 pub use programs::{MOST_LOOKS, Programs, Stream};
-pub use task::{Command, RunKey, Task, TaskNode, Variable};
+pub use task::{Command, RunKey, Task, Variable};
 pub use texts::Texts;

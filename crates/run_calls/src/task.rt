@@ -1,8 +1,8 @@
 //! What is to be run.
 
+use crate::node::TaskNode;
 use digest::HashFunction;
 use std::collections::VecDeque;
-use tree_nodes::Node;
 
 /// A run: a job of an instance.
 #[derive(Clone, Copy, Debug, PartialEq, Eq)]
@@ -11,10 +11,6 @@ pub struct RunKey {
     pub instance: u32,
     pub job: u64,
 }
-
-/// A node of a task's tree, which names texts by their numbers among those that are lent (`Texts`).
-/// The text of a directory is not looked at.
-pub type TaskNode = Node<usize>;
 
 /// A variable of the environment.
 #[derive(Drop)]
@@ -34,7 +30,8 @@ pub struct Command {
 /// A command, and the tree in which it is to be run.
 #[derive(Drop)]
 pub struct Task {
-    /// In walk order: a directory stands before what is in it.
+    /// In walk order: a directory stands before what is in it. One that was made before has none
+    /// behind it that stand in it.
     pub nodes: VecDeque<TaskNode>,
     pub command: Command,
     /// From the root on, with `/` between names; empty for the root itself.

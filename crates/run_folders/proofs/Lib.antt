@@ -3,3 +3,5 @@ pub mod Parting
 pub mod Nowhere
 mod PlaceLemmas
 mod SegmentLemmas
+mod NamesBehind
+mod BelowFolder

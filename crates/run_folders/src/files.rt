@@ -9,11 +9,10 @@ ghost use Rattle.system.specs.declared.directory.Kind.TheVariants.{File};
 
 use crate::entering::COMMON_MODE;
 use crate::removing::is_absence;
-use run_calls::{FileFacts, Found};
+use run_calls::{FileFacts, Found, TaskNodeKind};
 use std::alloc::Global;
 use std::io::{self, ErrorKind};
 use system::{Access, Directory, Facts, Kind, OpenFile, is_same};
-use tree_nodes::NodeKind;
 
 /// Any of these says that a file may be executed.
 const EXECUTABLE_BITS: u32 = 0o111;
@@ -49,20 +48,23 @@ fn found_of(facts: &Facts) -> Found {
     }
 }
 
-/// Makes a node in a directory. A file is open then, to be written.
+/// Makes a node in a directory. A file is open then, to be written. A directory that was made before
+/// is made empty: what was made is bound there.
 pub fn make_node<D: Directory>(
     directory: &D,
     name: &[u8],
-    kind: &NodeKind<usize>,
+    kind: &TaskNodeKind,
 ) -> io::Result<Option<D::File>>
     requires name { IsTrue (is_name name.now) }
     requires may { D.may_change (entry name.now (D.place directory.now)) }
     ensures own { IfOk result (λ made. IfSome made D.File.may_write) }
 {
     match kind {
-        NodeKind::Directory { .. } => directory.make_dir(name, COMMON_MODE)?,
-        NodeKind::Symlink { target } => directory.make_link(name, target)?,
-        NodeKind::File { is_executable, .. } => {
+        TaskNodeKind::Directory | TaskNodeKind::Made { .. } => {
+            directory.make_dir(name, COMMON_MODE)?;
+        }
+        TaskNodeKind::Symlink { target } => directory.make_link(name, target)?,
+        TaskNodeKind::File { is_executable, .. } => {
             return Ok(Some(make_file(directory, name, *is_executable)?));
         }
     }

@@ -5,6 +5,7 @@
 //! requires is all that it can look at or change, whatever programs do meanwhile.
 #![tactic(auto)]
 
+mod behind;
 mod entering;
 mod files;
 mod laws;
@@ -14,6 +15,7 @@ mod paths;
 mod removing;
 mod segments;
 
+pub use behind::{is_below, names_behind};
 pub use entering::{Entered, enter, make};
 pub use files::{
     Kept, file_in, kept_file, look_in, make_node, open_regular, open_to_add, open_to_read,

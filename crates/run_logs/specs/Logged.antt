@@ -15,15 +15,14 @@ use Rattle.run_logs.specs.declared.logged_programs.ProgramAnswered.{ProgramAnswe
 use Rattle.run_logs.specs.declared.logged_programs.ProgramAnswered.TheVariants as program_answered
 use Rattle.run_logs.specs.declared.logged_programs.ProgramRecord.{ProgramRecord}
 use Rattle.run_calls.specs.Calls.{FolderCall, FolderQuestion, FolderAnswer, root_asked, node_asked, text_asked, directory_asked, parents_asked, look_asked, file_asked, list_asked, bytes_asked, removal_asked, done, found, facts, entries, file_bytes, gone, ProgramCall, ProgramQuestion, ProgramAnswer, start_asked, end_asked, kill_asked, length_asked, read_asked, forget_asked, program_done, state_shown, killed, written, bytes}
-use Rattle.tree_nodes.specs.Nodes.{kind_shown}
-use Rattle.run_calls.specs.Values.{place_shown, entry_shown, command_shown}
+use Rattle.run_calls.specs.Values.{place_shown, entry_shown, command_shown, task_kind_shown}
 
 -- ---- of folders
 
 abbrev pub folder_question : FolderAsked → FolderQuestion
 folder_question (asked.Root run) = root_asked run
 folder_question (asked.Node run names kind) =
-    node_asked run (map rc_str_bytes names.items) (kind_shown kind)
+    node_asked run (map rc_str_bytes names.items) (task_kind_shown kind)
 folder_question (asked.Text run names text) =
     text_asked run (map rc_str_bytes names.items) text.items
 folder_question (asked.Directory place) = directory_asked (place_shown place)

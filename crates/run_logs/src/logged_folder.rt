@@ -2,23 +2,21 @@
 
 ghost use Rattle.std.specs.Prelude.{◌≡◌, [], Some, IfOk, map, string_bytes};
 ghost use Rattle.std.specs.Rc.{rc_str_bytes};
-ghost use Rattle.tree_nodes.specs.Nodes.{kind_shown};
 ghost use Rattle.run_calls.specs.Calls.{Adds, call, node_asked, text_asked, directory_asked, parents_asked, look_asked, file_asked, list_asked, bytes_asked, done_of, found_of, facts_of, entries_of, folder_bytes_of, gone_of};
 ghost use Rattle.run_logs.specs.Logged.{folder_log, folder_question, folder_result};
-ghost use Rattle.run_calls.specs.Values.{place_shown};
+ghost use Rattle.run_calls.specs.Values.{place_shown, task_kind_shown};
 
 use crate::copies::{copied_bytes, copied_entries, copied_names, copied_place, shared_names};
-use run_calls::{Entry, FileFacts, Folder, Found, Place, RunKey};
+use run_calls::{Entry, FileFacts, Folder, Found, InputTree, Place, RunKey, TaskNodeKind};
 use std::alloc::{AllocError, Global};
 use std::io::{self, ErrorKind};
 use std::rc::RcStr;
-use tree_nodes::NodeKind;
 
 /// What is asked of folders (`Folder`).
 #[derive(Drop)]
 pub enum FolderAsked {
     Root(RunKey),
-    Node(RunKey, Vec<RcStr>, NodeKind<usize>),
+    Node(RunKey, Vec<RcStr>, TaskNodeKind),
     Text(RunKey, Vec<RcStr>, Vec<u8>),
     Directory(Place),
     Parents(Place, String),
@@ -80,10 +78,10 @@ fn node(
     alloc: Global,
     run: RunKey,
     names: &[RcStr],
-    kind: &NodeKind<usize>,
+    kind: &TaskNodeKind,
 ) -> Result<FolderAsked, AllocError>
     ensures { IfOk result (λ asked. folder_question asked
-        ≡ node_asked run (map rc_str_bytes names.now) (kind_shown kind.now)) }
+        ≡ node_asked run (map rc_str_bytes names.now) (task_kind_shown kind.now)) }
 {
     let names = shared_names(alloc, names)?;
     let kind = kind.shared()?;
@@ -266,18 +264,21 @@ impl<F: Folder> Folder for LoggedFolder<F> {
 
     ghost failures = { λ f. F.failures f.folder };
 
+    fn claim(&mut self, run: RunKey, trees: &[InputTree]) -> Result<Vec<bool>, AllocError> {
+        self.folder.claim(run, trees)
+    }
+
+    fn forget(&mut self, run: RunKey) {
+        self.folder.forget(run);
+    }
+
     fn make_root(&mut self, run: RunKey) -> io::Result<()> {
         let answer = self.folder.make_root(run);
         add(&mut self.log, FolderAsked::Root(run), done_answer(&answer));
         answer
     }
 
-    fn make_node(
-        &mut self,
-        run: RunKey,
-        names: &[RcStr],
-        kind: &NodeKind<usize>,
-    ) -> io::Result<()> {
+    fn make_node(&mut self, run: RunKey, names: &[RcStr], kind: &TaskNodeKind) -> io::Result<()> {
         let answer = self.folder.make_node(run, names, kind);
         match node(self.alloc, run, names, kind) {
             Ok(asked) => add(&mut self.log, asked, done_answer(&answer)),

@@ -3,9 +3,9 @@ use Rattle.std.proofs.Common.{◌≡◌, ℕ, ◌+◌, ◌-◌, List, [], ◌∷
 use Rattle.std.specs.Prelude.{string_bytes}
 use Rattle.std.specs.Rc.{rc_str_bytes}
 use Rattle.run_calls.specs.declared.task.RunKey.{RunKey}
-use Rattle.tree_nodes.specs.declared.node.NodeKind.{NodeKind}
-use Rattle.tree_nodes.specs.declared.node.NodeKind.TheVariants as node_kinds
-use Rattle.run_calls.specs.Values.{TaskNode}
+use Rattle.run_calls.specs.declared.node.TaskNode.{TaskNode}
+use Rattle.run_calls.specs.declared.node.TaskNodeKind.{TaskNodeKind}
+use Rattle.run_calls.specs.declared.node.TaskNodeKind.TheVariants as node_kinds
 use Rattle.run_calls.specs.declared.programs.Stream.{Stream}
 use Rattle.run_outcomes.specs.declared.outcome.OutputNode.{OutputNode}
 use Rattle.run_outcomes.specs.declared.outcome.Output.{Output}
@@ -66,13 +66,15 @@ all_but_last xs x =
     let e : length (xs ++ x ∷ []) - 1 ≡ length xs = omega (arith, length-append xs (x ∷ [])) in
     ap (λ k. take k (xs ++ x ∷ [])) e ∙ front xs (x ∷ [])
 
-pub behind_is_then : (above names : List (List ℕ)) (n : TaskNode) (kind : NodeKind ℕ) →
+pub behind_is_then : (above names : List (List ℕ)) (n : TaskNode) (kind : TaskNodeKind) →
     names ≡ names_at above n.level (rc_str_bytes n.name) → above_behind names kind ≡ above_then above n kind
 behind_is_then above names n (node_kinds.File number is_executable) is =
     ap (λ ns. take (length ns - 1) ns) is ∙ all_but_last (take (n.level - 1) above) (rc_str_bytes n.name)
 behind_is_then above names n (node_kinds.Symlink target) is =
     ap (λ ns. take (length ns - 1) ns) is ∙ all_but_last (take (n.level - 1) above) (rc_str_bytes n.name)
-behind_is_then above names n (node_kinds.Directory number) is = is
+behind_is_then above names n node_kinds.Directory is = is
+behind_is_then above names n (node_kinds.Made directory) is =
+    ap (λ ns. take (length ns - 1) ns) is ∙ all_but_last (take (n.level - 1) above) (rc_str_bytes n.name)
 
 pub output_added : (place : PlaceValue) (old new : List Output) (o : Output) → new ≡ old ++ o ∷ [] →
     output_items place new ≡ output_items place old ++ kind_items place (string_bytes o.path) o.kind

@@ -10,8 +10,8 @@ use Rattle.run_calls.specs.declared.task.RunKey.{RunKey}
 use Rattle.runner.specs.declared.fault.RunFault.{RunFault}
 use Rattle.run_calls.specs.declared.programs.Stream.{Stream}
 use Rattle.run_calls.specs.declared.programs.Stream.TheVariants as streams
-use Rattle.run_calls.specs.Values.{PlaceValue, TaskNode}
-use Rattle.tree_nodes.specs.Nodes.{kind_shown}
+use Rattle.run_calls.specs.declared.node.TaskNode.{TaskNode}
+use Rattle.run_calls.specs.Values.{PlaceValue, task_kind_shown}
 use Rattle.runner.specs.Faults.{FolderAnswered, ProgramsAnswered}
 use Rattle.std.specs.declared.io.ErrorKind.{ErrorKind}
 use Rattle.run_calls.specs.Calls.{ProgramQuestion, ProgramAnswer, kill_asked, read_asked, bytes_asked, killed, killed_of, bytes_of, folder_bytes_of}
@@ -57,16 +57,16 @@ pub node_step : (text : ℕ → List ℕ) (run : RunKey) (above names : List (Li
     (tail making : List MadeItem)
     → all ≡ n ∷ rest → names ≡ names_at above n.level (rc_str_bytes n.name)
     → making ≡ kind_made text run names n.kind ++ (nodes_made text run (above_behind names n.kind) rest ++ tail)
-    → nodes_made text run above all ++ tail ≡ node_item run names (kind_shown n.kind) ∷ making
+    → nodes_made text run above all ++ tail ≡ node_item run names (task_kind_shown n.kind) ∷ making
 node_step text run above names n all rest tail making all_is names_is making_is =
     let at : List (List ℕ) = names_at above n.level (rc_str_bytes n.name) in
     let one : List (List ℕ) → List MadeItem = λ m. kind_made text run m n.kind in
     ap (λ ns. nodes_made text run above ns ++ tail) all_is
-    ∙ ap (λ m. node_item run m (kind_shown n.kind) ∷ ((one m ++ nodes_made text run (above_then above n n.kind) rest) ++ tail))
+    ∙ ap (λ m. node_item run m (task_kind_shown n.kind) ∷ ((one m ++ nodes_made text run (above_then above n n.kind) rest) ++ tail))
     (sym names_is)
-    ∙ ap (λ ab. node_item run names (kind_shown n.kind) ∷ ((one names ++ nodes_made text run ab rest) ++ tail))
+    ∙ ap (λ ab. node_item run names (task_kind_shown n.kind) ∷ ((one names ++ nodes_made text run ab rest) ++ tail))
     (sym (behind_is_then above names n n.kind names_is))
-    ∙ ap (λ zs. node_item run names (kind_shown n.kind) ∷ zs)
+    ∙ ap (λ zs. node_item run names (task_kind_shown n.kind) ∷ zs)
     (append_assoc (one names) (nodes_made text run (above_behind names n.kind) rest) tail ∙ sym making_is)
 
 -- a part was written

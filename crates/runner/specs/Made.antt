@@ -2,16 +2,16 @@
 use Rattle.std.specs.Prelude.{ℕ, ◌-◌, List, [], ◌∷◌, ◌++◌, map, take}
 use Rattle.std.specs.Rc.{rc_str_bytes}
 use Rattle.run_calls.specs.declared.task.RunKey.{RunKey}
-use Rattle.tree_nodes.specs.declared.node.NodeKind.{NodeKind}
-use Rattle.tree_nodes.specs.declared.node.NodeKind.TheVariants.{File, Symlink, Directory}
-use Rattle.tree_nodes.specs.Nodes.{NodeKindValue, kind_shown}
-use Rattle.run_calls.specs.Values.{PlaceValue, TaskNode}
+use Rattle.run_calls.specs.declared.node.TaskNode.{TaskNode}
+use Rattle.run_calls.specs.declared.node.TaskNodeKind.{TaskNodeKind}
+use Rattle.run_calls.specs.declared.node.TaskNodeKind.TheVariants.{File, Symlink, Directory, Made}
+use Rattle.run_calls.specs.Values.{PlaceValue, TaskKindValue, task_kind_shown}
 use Rattle.run_calls.specs.Calls.{FolderCall, FolderQuestion, root_asked, node_asked, text_asked, directory_asked, parents_asked, look_asked, file_asked, list_asked, bytes_asked, removal_asked, collect}
 
 pub data MadeItem : Type 0 where
   root_item : RunKey → MadeItem
   -- a node, by its names from the root on; a file is empty
-  node_item : RunKey → List (List ℕ) → NodeKindValue ℕ → MadeItem
+  node_item : RunKey → List (List ℕ) → TaskKindValue → MadeItem
   -- a byte at the end of a file
   byte_item : RunKey → List (List ℕ) → ℕ → MadeItem
   directory_item : PlaceValue → MadeItem
@@ -40,20 +40,22 @@ made calls = collect (λ c. made_by c.question) calls
 abbrev pub names_at : List (List ℕ) → ℕ → List ℕ → List (List ℕ)
 names_at above level name = take (level - 1) above ++ name ∷ []
 
-abbrev pub kind_made : (ℕ → List ℕ) → RunKey → List (List ℕ) → NodeKind ℕ → List MadeItem
+abbrev pub kind_made : (ℕ → List ℕ) → RunKey → List (List ℕ) → TaskNodeKind → List MadeItem
 kind_made text run names (File number is_executable) = map (byte_item run names) (text number)
 kind_made text run names (Symlink target) = []
-kind_made text run names (Directory number) = []
+kind_made text run names Directory = []
+kind_made text run names (Made directory) = []
 
--- the directory that is reached with a node
-abbrev pub above_then : List (List ℕ) → TaskNode → NodeKind ℕ → List (List ℕ)
+-- the directory that is reached with a node: nothing more is made in one that was made before
+abbrev pub above_then : List (List ℕ) → TaskNode → TaskNodeKind → List (List ℕ)
 above_then above n (File number is_executable) = take (n.level - 1) above
 above_then above n (Symlink target) = take (n.level - 1) above
-above_then above n (Directory number) = names_at above n.level (rc_str_bytes n.name)
+above_then above n Directory = names_at above n.level (rc_str_bytes n.name)
+above_then above n (Made directory) = take (n.level - 1) above
 
 abbrev pub node_made : (ℕ → List ℕ) → RunKey → List (List ℕ) → TaskNode → List MadeItem
 node_made text run names n =
-    node_item run names (kind_shown n.kind) ∷ kind_made text run names n.kind
+    node_item run names (task_kind_shown n.kind) ∷ kind_made text run names n.kind
 
 -- each node once, in order
 abbrev pub nodes_made : (ℕ → List ℕ) → RunKey → List (List ℕ) → List TaskNode → List MadeItem

@@ -15,8 +15,8 @@ use Rattle.runner.specs.declared.stage.Stage.TheVariants as stages
 use Rattle.runner.specs.declared.stage.Step.{Step}
 use Rattle.runner.specs.declared.stage.Step.TheVariants as steps
 use Rattle.runner.specs.declared.tree.Tree.{Tree}
-use Rattle.tree_nodes.specs.declared.node.NodeKind.{NodeKind}
-use Rattle.tree_nodes.specs.declared.node.NodeKind.TheVariants as node_kinds
+use Rattle.run_calls.specs.declared.node.TaskNodeKind.{TaskNodeKind}
+use Rattle.run_calls.specs.declared.node.TaskNodeKind.TheVariants as node_kinds
 use Rattle.run_calls.specs.Values.{PlaceValue, command_shown}
 use Rattle.run_calls.specs.Calls.{FolderCall, FolderQuestion, ProgramCall, ProgramQuestion, start_asked, look_asked, root_asked, node_asked, text_asked, directory_asked, parents_asked, file_asked, list_asked, bytes_asked, removal_asked, RunCall, folder_calls, program_calls, Adds, collect}
 use Rattle.runner.specs.Made.{MadeItem, root_item, byte_item, directory_item, parents_item, nodes_made, made}
@@ -60,10 +60,11 @@ making_starts place (makings.Parents p) = start_asked place (command_shown p.com
 making_starts place (makings.Starting p) = start_asked place (command_shown p.command) ∷ []
 
 -- the directory that is reached with a node of these names
-abbrev pub above_behind : List (List ℕ) → NodeKind ℕ → List (List ℕ)
+abbrev pub above_behind : List (List ℕ) → TaskNodeKind → List (List ℕ)
 above_behind names (node_kinds.File number is_executable) = take (length names - 1) names
 above_behind names (node_kinds.Symlink target) = take (length names - 1) names
-above_behind names (node_kinds.Directory number) = names
+above_behind names node_kinds.Directory = names
+above_behind names (node_kinds.Made directory) = take (length names - 1) names
 
 abbrev pub making_outputs : Making → List (List ℕ)
 making_outputs (makings.Root n) = map string_bytes n.next.outputs.items

@@ -15,8 +15,7 @@ ghost use Rattle.runner.specs.declared.stage.Making.TheVariants as Makings;
 
 use crate::fault::{RunFault, of_folder, of_programs};
 use crate::stage::{Making, Nodes, Parents, Prepared, Stage, Step, Writing};
-use run_calls::{Folder, Place, Programs, Texts};
-use tree_nodes::{Node, NodeKind};
+use run_calls::{Folder, Place, Programs, TaskNode, TaskNodeKind, Texts};
 
 /// How many bytes of a file are written or read at most by a step.
 pub(crate) const PIECE: u32 = 65_536;
@@ -61,7 +60,7 @@ fn make_root<F: Folder>(folder: &mut F, place: &Place, nodes: Nodes) -> Result<S
 }
 
 /// What follows a node that was made, whose names stand in `nodes.above`.
-fn after_node(nodes: Nodes, kind: NodeKind<usize>) -> Making
+fn after_node(nodes: Nodes, kind: TaskNodeKind) -> Making
     ensures left { (text : ℕ → List ℕ) → (place : PlaceValue) →
         making_left text place result
         ≡ kind_made text place.run (map rc_str_bytes nodes.above.items) kind
@@ -71,13 +70,14 @@ fn after_node(nodes: Nodes, kind: NodeKind<usize>) -> Making
     ensures outputs { making_outputs result ≡ map string_bytes nodes.next.outputs.items }
 {
     match kind {
-        NodeKind::File { text, .. } => Making::Writing(Writing {
+        TaskNodeKind::File { text, .. } => Making::Writing(Writing {
             text,
             from: 0,
             nodes,
         }),
-        NodeKind::Symlink { .. } => Making::Nodes(left_above(nodes)),
-        NodeKind::Directory { .. } => Making::Nodes(nodes),
+        TaskNodeKind::Symlink { .. } => Making::Nodes(left_above(nodes)),
+        TaskNodeKind::Directory => Making::Nodes(nodes),
+        TaskNodeKind::Made { .. } => Making::Nodes(left_above(nodes)),
     }
 }
 
@@ -108,7 +108,7 @@ fn make_node<F: Folder>(folder: &mut F, place: &Place, nodes: Nodes) -> Result<S
     let Some(node) = nodes.left.pop_front() else {
         return Ok(Step::Goes(Stage::Making(Making::Directory(nodes.next())), 1));
     };
-    let Node { name, level, kind } = node;
+    let TaskNode { name, level, kind } = node;
     nodes.above.truncate(level.saturating_sub(1));
     nodes.above.push(name)?;
     of_folder(folder.make_node(place.run, &nodes.above, &kind))?;

@@ -16,7 +16,7 @@ use crate::going::Going;
 use crate::stage::{Ending, Making, Nodes, Prepared, Run, Stage, State, Step};
 use crate::turn::turn;
 use crate::wanted::Wanted;
-use run_calls::{Folder, Place, Programs, RunKey, Task, Texts};
+use run_calls::{Folder, InputTree, Place, Programs, RunKey, Task, Texts};
 use run_outcomes::{Outcome, Streams};
 use std::alloc::{AllocError, Global};
 use std::mem;
@@ -152,6 +152,28 @@ impl<F: Folder + Drop, P: Programs + Drop> Runner<F, P> {
             programs,
             runs: Vec::new(alloc),
         }
+    }
+
+    /// Which of these directories of a run's tree were made before, and are kept for it from now on.
+    ///
+    /// Err: a request for memory was refused.
+    pub fn claim(&mut self, run: RunKey, trees: &[InputTree]) -> Result<Vec<bool>, AllocError>
+        ensures runs { self.new.runs ≡ self.old.runs }
+        ensures programs { self.new.programs ≡ self.old.programs }
+        ensures asked { F.asked self.new.folder ≡ F.asked self.old.folder }
+        ensures failures { F.failures self.new.folder ≡ F.failures self.old.folder }
+    {
+        self.folder.claim(run, trees)
+    }
+
+    /// Gives back what was claimed for a run that was not started.
+    pub fn forget(&mut self, run: RunKey)
+        ensures runs { self.new.runs ≡ self.old.runs }
+        ensures programs { self.new.programs ≡ self.old.programs }
+        ensures asked { F.asked self.new.folder ≡ F.asked self.old.folder }
+        ensures failures { F.failures self.new.folder ≡ F.failures self.old.folder }
+    {
+        self.folder.forget(run);
     }
 
     /// Adds the run of a job of an instance. Its folder is made, and its program started, by the
@@ -389,7 +411,10 @@ fn end<F: Folder, P: Programs>(
         (P.failures programs.old) (P.failures programs.new)) }
 {
     match ending {
-        None => Ok(None),
+        None => {
+            folder.forget(key);
+            Ok(None)
+        }
         Some(Ending::Killing) => Ok(Some(kill_program(programs, key))),
         Some(Ending::Removing) => match folder.remove(key) {
             Ok(true) => Ok(None),

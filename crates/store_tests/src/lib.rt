@@ -1,6 +1,6 @@
 //! Texts of a pool, put in and read back, alone and by instances side by side, and trees of many
-//! shapes, walked: tests of `paged_text`, `blob_pool`, `instance_view`, `quota_evict` and
-//! `actions`.
+//! shapes, walked, and such as are made once: tests of `paged_text`, `blob_pool`, `instance_view`,
+//! `quota_evict`, `actions` and `made_trees`.
 #![tactic(auto)]
 
 #[cfg(test)]

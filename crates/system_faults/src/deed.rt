@@ -3,7 +3,7 @@
 use crate::fake::{FakeDirectory, FakeFile};
 use crate::scene::{ASIDE, ROOT};
 use crate::tree::Maker;
-use run_calls::{Entry, Found};
+use run_calls::{Entry, Found, TaskNodeKind};
 use run_folders::{
     Entered, enter, entry_name, list_in, look_in, make, make_node, open_to_add, open_to_read,
     read_part, remove, remove_some,
@@ -12,7 +12,6 @@ use std::alloc::Global;
 use std::io::{self, ErrorKind};
 use std::rc::RcStr;
 use system::{Directory, OpenFile};
-use tree_nodes::NodeKind;
 
 /// How often a removal is asked for.
 const MOST_ASKED: u32 = 50;
@@ -66,8 +65,8 @@ fn make_twice(alloc: Global, start: &FakeDirectory<'_>) -> io::Result<String> {
 fn told_of(alloc: Global, maker: Maker) -> io::Result<String> {
     let text = match maker {
         Maker::Run => "the run's",
-        Maker::Other => "another run's",
-        Maker::Call => "made",
+        Maker::Other | Maker::Outside => "another run's",
+        Maker::Call | Maker::Start | Maker::Made => "made",
         Maker::Program => "a program's",
     };
     Ok(String::from_str(alloc, text)?)
@@ -82,12 +81,12 @@ fn text_of(bytes: Vec<u8>) -> io::Result<String> {
 }
 
 /// Makes a node that is no file.
-fn make_in(alloc: Global, start: &FakeDirectory<'_>, kind: &NodeKind<usize>) -> io::Result<String> {
+fn make_in(alloc: Global, start: &FakeDirectory<'_>, kind: &TaskNodeKind) -> io::Result<String> {
     let deep = entered(alloc, start, DEEP)?;
     let name = entry_name("new")?;
     let file = make_node(&deep.directory, name, kind)?;
     match kind {
-        NodeKind::Symlink { .. } if file.is_none() => {
+        TaskNodeKind::Symlink { .. } if file.is_none() => {
             text_of(deep.directory.link_text(alloc, name)?)
         }
         _ => told_of(alloc, deep.directory.maker_in(name)?),
@@ -96,13 +95,13 @@ fn make_in(alloc: Global, start: &FakeDirectory<'_>, kind: &NodeKind<usize>) -> 
 
 fn make_link(alloc: Global, start: &FakeDirectory<'_>) -> io::Result<String> {
     let target = RcStr::from_str(alloc, "../there")?;
-    make_in(alloc, start, &NodeKind::Symlink { target })
+    make_in(alloc, start, &TaskNodeKind::Symlink { target })
 }
 
 /// Makes a file, and writes it in two parts.
 fn write(alloc: Global, start: &FakeDirectory<'_>) -> io::Result<String> {
     let deep = entered(alloc, start, DEEP)?;
-    let kind = NodeKind::File {
+    let kind = TaskNodeKind::File {
         text: 0,
         is_executable: true,
     };
@@ -210,7 +209,7 @@ pub fn carry_out(
     match deed {
         Deed::Enter => enter_twice(alloc, start),
         Deed::MakeAll => make_twice(alloc, start),
-        Deed::MakeDirectory => make_in(alloc, start, &NodeKind::Directory { text: 0 }),
+        Deed::MakeDirectory => make_in(alloc, start, &TaskNodeKind::Directory),
         Deed::MakeLink => make_link(alloc, start),
         Deed::Write => write(alloc, start),
         Deed::Add => add(alloc, start),

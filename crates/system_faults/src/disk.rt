@@ -57,8 +57,13 @@ pub struct Disk {
     /// What goes wrong, at which call, counted from 1.
     pub trouble: Trouble,
     pub at: u64,
-    /// How many calls there were.
+    /// How many calls there were, and for whom.
     pub count: u64,
+    asked: Vec<Maker>,
+    /// For whom the one was made at which something went wrong.
+    pub met: Option<Maker>,
+    /// How many milliseconds have passed.
+    pub passed: u64,
     /// Whether a call was refused, and a name in a directory that it went by.
     pub was_refused: bool,
     pub refused: Option<Spot>,
@@ -93,6 +98,9 @@ impl Disk {
             trouble: Trouble::Nothing,
             at: 0,
             count: 0,
+            asked: Vec::new(alloc),
+            met: None,
+            passed: 0,
             was_refused: false,
             refused: None,
             given: Vec::new(alloc),
@@ -107,19 +115,33 @@ impl Disk {
         }
     }
 
+    /// Whether the call of this number was made for this one.
+    pub fn is_asked_for(&self, maker: Maker, at: u64) -> bool {
+        self.asked.get((at as usize).saturating_sub(1)) == Some(&maker)
+    }
+
     /// A call begins: the program does what it does before it, or the call is refused.
     pub fn begin(&mut self, call: Call, above: NodeId, name: &[u8]) -> io::Result<()> {
         count(&mut self.count);
+        self.asked.push(self.tree.acting)?;
         if self.count != self.at {
             return Ok(());
         }
         match self.trouble {
             Trouble::Refused(kind) if call.can_fail(kind) => {
                 self.was_refused = true;
+                self.met = Some(self.tree.acting);
                 self.refused = known_name(name).map(|name| Spot { above, name });
                 self.noted(error(kind))
             }
-            Trouble::Changed(spot, change) => self.change(spot, change),
+            Trouble::Changed(spot, change) if self.can_change(spot, change) => {
+                self.met = Some(self.tree.acting);
+                self.change(spot, change)
+            }
+            Trouble::Full => {
+                self.met = Some(self.tree.acting);
+                Ok(())
+            }
             _ => Ok(()),
         }
     }
@@ -135,6 +157,17 @@ impl Disk {
         }
     }
 
+    /// Whether a program finds the directory of a name, and what a link is to lead to.
+    fn can_change(&self, spot: Spot, change: Change) -> bool {
+        let has_target = match change {
+            Change::Link(target) | Change::LinkOnce(target) | Change::RenewedLink(target) => {
+                self.tree.has_name(target)
+            }
+            _ => true,
+        };
+        has_target && self.tree.has_name(spot.above)
+    }
+
     /// A program changes what has a name.
     fn change(&mut self, spot: Spot, change: Change) -> io::Result<()> {
         let name = spot.name.as_bytes();
@@ -142,7 +175,10 @@ impl Disk {
         self.tree.detach(spot.above, name);
         let what = match change {
             Change::Vanishes => return Ok(()),
-            Change::Link(target) | Change::RenewedLink(target) => What::Link(Some(target)),
+            Change::Back(old) => return self.tree.put(spot.above, name, old),
+            Change::Link(target) | Change::LinkOnce(target) | Change::RenewedLink(target) => {
+                What::Link(Some(target))
+            }
             Change::Directory => What::Directory,
             Change::File | Change::Renewed => What::File,
             Change::Fifo => What::Fifo,
@@ -153,6 +189,10 @@ impl Disk {
         match (change, old) {
             (Change::Renewed, Some(old)) => self.tree.renew(new, old)?,
             (Change::RenewedLink(target), Some(old)) => self.tree.renew(target, old)?,
+            (Change::LinkOnce(_), Some(old)) => {
+                self.trouble = Trouble::Changed(spot, Change::Back(old));
+                self.at = self.at.saturating_add(1);
+            }
             _ => {}
         }
         self.tree.node_mut(new)?.bytes.extend_from_slice(b"new")?;
@@ -308,7 +348,8 @@ impl Disk {
         mode: u32,
     ) -> io::Result<NodeId> {
         self.can_name(above, name)?;
-        self.tree.add(above, name, what, mode, Maker::Call)
+        let maker = self.tree.maker_of(above, name);
+        self.tree.add(above, name, what, mode, maker)
     }
 
     /// Removes what has a name: a directory, where that is wanted.

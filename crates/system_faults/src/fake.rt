@@ -1,6 +1,6 @@
 //! Directories and files of a tree in memory, as a system has them open.
 
-ghost use Rattle.std.specs.Prelude.{◌≡◌, ◌≤◌, ◌∷◌, IfOk, Some, length, map, ⊤};
+ghost use Rattle.std.specs.Prelude.{◌≡◌, ◌≤◌, ◌∷◌, [], IfOk, Some, length, map, ⊤};
 
 use crate::disk::Disk;
 use crate::tree::{Maker, NodeId, START, What};
@@ -43,7 +43,7 @@ pub struct FakeFile<'a> {
 }
 
 /// The disk, for as long as something is done there.
-fn borrowed<'a>(disk: &'a RefCell<Disk>) -> io::Result<RefMut<'a, Disk>> {
+pub fn borrowed<'a>(disk: &'a RefCell<Disk>) -> io::Result<RefMut<'a, Disk>> {
     match disk.try_borrow_mut() {
         Ok(disk) => Ok(disk),
         Err(_) => Err(io::Error::from(ErrorKind::Deadlock)),
@@ -51,7 +51,7 @@ fn borrowed<'a>(disk: &'a RefCell<Disk>) -> io::Result<RefMut<'a, Disk>> {
 }
 
 /// The same, for a call.
-fn called<'a>(
+pub fn called<'a>(
     disk: &'a RefCell<Disk>,
     call: Call,
     node: NodeId,
@@ -102,7 +102,9 @@ fn same_names(alloc: Global, names: &[Vec<u8>]) -> Result<Vec<Vec<u8>>, AllocErr
 
 impl<'a> FakeDirectory<'a> {
     /// The directory of the start.
-    pub fn start(alloc: Global, disk: &'a RefCell<Disk>) -> FakeDirectory<'a> {
+    pub fn start(alloc: Global, disk: &'a RefCell<Disk>) -> FakeDirectory<'a>
+        ensures { result.names.items ≡ [] }
+    {
         FakeDirectory {
             handle: Handle { disk, node: START },
             names: Vec::new(alloc),

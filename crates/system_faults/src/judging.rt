@@ -172,6 +172,23 @@ impl Outcome {
     }
 }
 
+impl Notes {
+    /// What was done that may not be done.
+    pub fn misdeed(&self) -> Option<&'static str> {
+        if self.entered > 0 {
+            Some("another run's folder was entered")
+        } else if self.changed > 0 {
+            Some("something of another run was changed")
+        } else if self.read > 0 {
+            Some("something of another run was read")
+        } else if self.waits > 0 {
+            Some("a program was waited for")
+        } else {
+            None
+        }
+    }
+}
+
 impl Came {
     /// Whether a call failed so, or what was found is no file, or no more the same.
     fn is_met(&self, kind: ErrorKind, wrong: Wrong) -> bool {
@@ -179,28 +196,14 @@ impl Came {
             || (kind == ErrorKind::InvalidInput && matches!(wrong, Wrong::Changed(..)))
     }
 
-    /// What was done that may not be done.
-    fn misdeed(&self) -> Option<&'static str> {
-        if self.notes.entered > 0 {
-            Some("another run's folder was entered")
-        } else if self.notes.changed > 0 {
-            Some("something of another run was changed")
-        } else if self.notes.read > 0 {
-            Some("something of another run was read")
-        } else if self.notes.waits > 0 {
-            Some("a program was waited for")
-        } else if self.left_at_end > 0 {
-            Some("something is left")
-        } else {
-            None
-        }
-    }
-
     /// What is not right of a run, if anything, where it may come to this.
     pub fn fault(&self, deed: Deed, wrong: Wrong, due: &Outcome) -> Option<&'static str> {
-        let misdeed = self.misdeed();
+        let misdeed = self.notes.misdeed();
         if misdeed.is_some() {
             return misdeed;
+        }
+        if self.left_at_end > 0 {
+            return Some("something is left");
         }
         let is_removal = deed == Deed::Remove;
         match &self.outcome {

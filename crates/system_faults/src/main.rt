@@ -1,5 +1,6 @@
 //! Goes down into the folder of a run, makes, reads, lists and removes what is there, over a system
-//! in memory, while something goes wrong at one call: the first, the second, and so on.
+//! in memory, while something goes wrong at one call: the first, the second, and so on. So does a
+//! start with all that it does for two runs, from their folders' making to their removal.
 //!
 //! Each line says of a case how many calls there are where nothing goes wrong, and how many runs
 //! there were: those in which a call was refused, for each reason for which it can be; those in
@@ -12,7 +13,12 @@ mod cases;
 mod deed;
 mod disk;
 mod fake;
+mod host;
 mod judging;
+mod left;
+mod life;
+mod lives;
+mod run;
 mod scene;
 mod tally;
 mod tree;
@@ -20,6 +26,7 @@ mod trouble;
 
 use crate::cases::{CASES, Case, ERRORS, WAYS};
 use crate::judging::{Came, Outcome, Wrong, run, told_absence};
+use crate::lives::{LIVES, carry_out_lives};
 use crate::scene::Target;
 use crate::tally::{NONE, Tally, add_fault, add_tallies};
 use std::alloc::Global;
@@ -71,12 +78,12 @@ fn try_each(
         }
         let fault = fault_of(alloc, case, wrong, &came, usual)?;
         if let Some(fault) = fault {
-            if tally.wrong == 0 {
+            if tally.is_right() {
                 let what = format!(in alloc; "{}, {wrong:?}, call {at}: {fault}", case.name)?;
-                add_fault(text, what.as_str(), &came.outcome)?;
+                add_fault(text, what.as_str(), came.outcome.words())?;
             }
         }
-        tally.count(&came, fault.is_none());
+        tally.count(&came.notes, fault.is_none());
     }
     Ok(tally)
 }
@@ -117,7 +124,7 @@ fn carry_out_case(alloc: Global, case: &Case) -> io::Result<String> {
     let mut text = String::new(alloc);
     let usual = run(alloc, case.deed, Wrong::Nothing, 0)?;
     if !usual.outcome.is_answer(case.answer) {
-        add_fault(&mut text, case.name, &usual.outcome)?;
+        add_fault(&mut text, case.name, usual.outcome.words())?;
     }
     let tallies = [
         refuse_each(alloc, case, &usual.outcome, &mut text)?,
@@ -131,6 +138,10 @@ fn carry_out_case(alloc: Global, case: &Case) -> io::Result<String> {
 fn main(rt: HostRuntime) -> io::Result<()> {
     for case in &CASES {
         let text = carry_out_case(rt.alloc(), case)?;
+        rt.stdout().write_all(text.as_bytes())?;
+    }
+    for setting in &LIVES {
+        let text = carry_out_lives(rt.alloc(), setting)?;
         rt.stdout().write_all(text.as_bytes())?;
     }
     Ok(())

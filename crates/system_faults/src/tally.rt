@@ -1,6 +1,6 @@
 //! Counts of runs, and how they are told.
 
-use crate::judging::{Came, Outcome};
+use crate::disk::Notes;
 use std::alloc::{AllocError, Global};
 
 /// How many runs of a case there were.
@@ -8,7 +8,7 @@ use std::alloc::{AllocError, Global};
 pub struct Tally {
     runs: u64,
     /// In how many runs something was not right.
-    pub wrong: u64,
+    wrong: u64,
     /// How often a file of another run was opened by a link, and closed unread.
     closed: u64,
     /// How often another run's mode was changed by a link.
@@ -23,14 +23,19 @@ pub const NONE: Tally = Tally {
 };
 
 impl Tally {
+    /// Whether nothing was wrong so far.
+    pub fn is_right(&self) -> bool {
+        self.wrong == 0
+    }
+
     /// Counts a run.
-    pub fn count(&mut self, came: &Came, is_right: bool) {
-        let closed = came.notes.opened_by_link;
+    pub fn count(&mut self, notes: &Notes, is_right: bool) {
+        let closed = notes.opened_by_link;
         self.add(Tally {
             runs: 1,
             wrong: u64::from(!is_right),
             closed: if is_right { closed } else { 0 },
-            allowed: came.notes.allowed_by_link,
+            allowed: notes.allowed_by_link,
         });
     }
 
@@ -44,11 +49,11 @@ impl Tally {
 }
 
 /// Tells what was not right, and what it came to.
-pub fn add_fault(text: &mut String, what: &str, outcome: &Outcome) -> Result<(), AllocError> {
+pub fn add_fault(text: &mut String, what: &str, answer: &str) -> Result<(), AllocError> {
     text.push_str("WRONG: ")?;
     text.push_str(what)?;
     text.push_str(": ")?;
-    text.push_str(outcome.words())?;
+    text.push_str(answer)?;
     text.push_str("\n")
 }
 

@@ -12,6 +12,9 @@ pub struct NodeId(usize);
 /// The directory of the start.
 pub const START: NodeId = NodeId(0);
 
+/// How the names of the folders begin in which trees are made for the runs of the first instance.
+const TREE_FOLDERS: &[u8] = b"0-18446744073709551";
+
 /// What a node is.
 #[derive(Clone, Copy, PartialEq, Eq)]
 pub enum What {
@@ -33,6 +36,12 @@ pub enum Maker {
     Call,
     /// A program, between two calls.
     Program,
+    /// A start.
+    Start,
+    /// Runs, of what is made once for them.
+    Made,
+    /// Nobody whose work is in the directory: nobody may touch it.
+    Outside,
 }
 
 #[derive(Drop)]
@@ -61,6 +70,8 @@ struct Entry {
 #[derive(Drop)]
 pub struct Tree {
     alloc: Global,
+    /// For whom calls are made.
+    pub acting: Maker,
     nodes: Vec<Node>,
     entries: Vec<Entry>,
     last_serial: u64,
@@ -75,11 +86,12 @@ impl Tree {
     pub fn new(alloc: Global) -> io::Result<Tree> {
         let mut tree = Tree {
             alloc,
+            acting: Maker::Call,
             nodes: Vec::new(alloc),
             entries: Vec::new(alloc),
             last_serial: 0,
         };
-        tree.make(What::Directory, 0o700, Maker::Run)?;
+        tree.make(What::Directory, 0o700, Maker::Call)?;
         Ok(tree)
     }
 
@@ -140,9 +152,52 @@ impl Tree {
         }
     }
 
-    /// Whether it is another run's.
+    /// Whose a new name is.
+    pub fn maker_of(&self, above: NodeId, name: &[u8]) -> Maker {
+        let is_of_tree = self.is_of(above, Maker::Made)
+            || (self.is_of(above, Maker::Start) && name.starts_with(TREE_FOLDERS));
+        if is_of_tree { Maker::Made } else { self.acting }
+    }
+
+    /// Whether whoever calls may not touch it, as it is another run's.
     pub fn is_other(&self, id: NodeId) -> bool {
-        self.is_of(id, Maker::Other)
+        let Ok(node) = self.node(id) else {
+            return false;
+        };
+        matches!(
+            (self.acting, node.maker),
+            (_, Maker::Outside)
+                | (Maker::Call | Maker::Run, Maker::Other)
+                | (Maker::Other, Maker::Run)
+        )
+    }
+
+    /// The node of this place among those that one made, counted from 0.
+    pub fn made(&self, maker: Maker, place: usize) -> io::Result<NodeId> {
+        let mut left = place;
+        for at in 0..self.nodes.len() {
+            if self.is_of(NodeId(at), maker) {
+                if left == 0 {
+                    return Ok(NodeId(at));
+                }
+                left -= 1;
+            }
+        }
+        Err(not_found())
+    }
+
+    /// What stands on the disk of what one made: its names, with modes and bytes.
+    pub fn standing(&self, maker: Maker) -> io::Result<Vec<u8>> {
+        let mut text = Vec::new(self.alloc);
+        for entry in &self.entries {
+            if self.is_of(entry.node, maker) {
+                let node = self.node(entry.node)?;
+                text.extend_from_slice(&entry.name)?;
+                text.extend_from_slice(&node.mode.to_be_bytes())?;
+                text.extend_from_slice(&node.bytes)?;
+            }
+        }
+        Ok(text)
     }
 
     /// Notes that a node is opened.
@@ -159,13 +214,18 @@ impl Tree {
         }
     }
 
+    /// Whether a node has a name, or is where all names begin.
+    pub fn has_name(&self, id: NodeId) -> bool {
+        id == START || self.entries.iter().any(|entry| entry.node == id)
+    }
+
     /// Whether a node is still there: it has a name, or is open.
     fn is_there(&self, id: NodeId) -> bool {
         let is_open = match self.node(id) {
             Ok(node) => node.opened > 0,
             Err(_) => false,
         };
-        is_open || self.entries.iter().any(|entry| entry.node == id)
+        is_open || self.has_name(id)
     }
 
     /// Gives a node the number that another one had, unless that is still there.
@@ -182,6 +242,37 @@ impl Tree {
         for entry in &self.entries {
             if entry.above == above && entry.name.as_slice() == name {
                 return Ok(entry.node);
+            }
+        }
+        Err(not_found())
+    }
+
+    /// All that has names in a directory.
+    pub fn all_in(&self, above: NodeId) -> io::Result<Vec<NodeId>> {
+        let mut all = Vec::new(self.alloc);
+        for entry in &self.entries {
+            if entry.above == above {
+                all.push(entry.node)?;
+            }
+        }
+        Ok(all)
+    }
+
+    /// The first in a directory of those that one made.
+    pub fn first_of(&self, above: NodeId, maker: Maker) -> io::Result<NodeId> {
+        for entry in &self.entries {
+            if entry.above == above && self.is_of(entry.node, maker) {
+                return Ok(entry.node);
+            }
+        }
+        Err(not_found())
+    }
+
+    /// The name of a node.
+    pub fn name_of(&self, id: NodeId) -> io::Result<&[u8]> {
+        for entry in &self.entries {
+            if entry.node == id {
+                return Ok(&entry.name);
             }
         }
         Err(not_found())

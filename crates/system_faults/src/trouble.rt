@@ -26,6 +26,10 @@ pub enum Call {
     Write,
     AllowFile,
     Lock,
+    /// What time it is.
+    Clock,
+    /// A shell is started, or told something.
+    AskShell,
 }
 
 /// A name in a directory.
@@ -36,11 +40,14 @@ pub struct Spot {
 }
 
 /// What a program does to a name between two calls.
-#[derive(Clone, Copy)]
+#[derive(Clone, Copy, Debug)]
 pub enum Change {
     Vanishes,
     /// A link comes in its place, to this.
     Link(NodeId),
+    /// The same for one call, and then this comes back.
+    LinkOnce(NodeId),
+    Back(NodeId),
     Directory,
     File,
     Fifo,
@@ -51,7 +58,7 @@ pub enum Change {
 }
 
 /// What goes wrong, and then or from then on.
-#[derive(Clone, Copy)]
+#[derive(Clone, Copy, Debug)]
 pub enum Trouble {
     Nothing,
     /// The call is refused.
@@ -99,6 +106,8 @@ impl Call {
                 | Call::Write
                 | Call::AllowFile
                 | Call::Lock
+                | Call::Clock
+                | Call::AskShell
         )
     }
 

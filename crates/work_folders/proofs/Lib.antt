@@ -1,3 +1,4 @@
 pub mod Nowhere
+mod AtSites
 mod OfRuns
 mod Paths

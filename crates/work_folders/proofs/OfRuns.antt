@@ -2,7 +2,7 @@
 use Rattle.std.proofs.Common.{ℕ, List, [], Option, None, Some}
 use Rattle.std.specs.Prelude.{IfSome, codes}
 use Rattle.run_calls.specs.declared.task.RunKey.{RunKey}
-use Rattle.work_folders.specs.Rights.{Below, MayLink, MayRemove, MayRun, aside_place, root_place}
+use Rattle.work_folders.specs.Rights.{Below, MayLink, MayRemove, MayRun, MayTell, aside_place, root_place}
 
 module _ (look change settled : Option (List (List ℕ)) → Type 0) where
   pub looks_of : (start : Option (Option (List (List ℕ)))) (run : RunKey)
@@ -45,4 +45,13 @@ module _ (look change settled : Option (List (List ℕ)) → Type 0) where
   removes_of (Some at) run h = record {
     root = record { may_look = h.looks []; may_change = h.changes []; is_settled = h.is_settled };
     aside = h.aside;
+  }
+
+  pub tells_of : (start : Option (Option (List (List ℕ)))) (run : RunKey)
+      → IfSome start (λ at. MayRun look change settled at run)
+      → IfSome start (λ at. MayTell look change at run)
+  tells_of None run h = tt
+  tells_of (Some at) run h = record {
+    aside = h.aside.at.may_look;
+    file = (h.aside.entries (codes "trees")).may_change;
   }

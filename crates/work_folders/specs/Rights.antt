@@ -1,16 +1,13 @@
 -- What may be touched where runs work.
-use Rattle.std.specs.Prelude.{◌≡◌, ◌⊎◌, ℕ, List, ◌∷◌, ◌++◌, Option, codes}
+use Rattle.std.specs.Prelude.{◌≡◌, ℕ, List, ◌++◌, Option, codes}
 use Rattle.run_calls.specs.declared.task.RunKey.{RunKey}
 use Rattle.run_folders.specs.Folders.{aside_name, root_name}
+pub use Rattle.run_folders.specs.Below.{IsBelow}
 use Rattle.system.specs.Places.{AtAndBelow, MayTake, entry, place_below}
 
 -- something may be done at a place, and at each below it
 abbrev pub Below : (Option (List (List ℕ)) → Type 0) → Option (List (List ℕ)) → Type 0
 Below may place = (names : List (List ℕ)) → may (place_below place names)
-
--- a path is that of a folder, by its name, or goes on behind that
-abbrev pub IsBelow : List ℕ → List ℕ → Type 0
-IsBelow folder path = (path ≡ folder) ⊎ ((rest : List ℕ) × (path ≡ folder ++ 47 ∷ rest))
 
 -- ---- of a run
 
@@ -41,6 +38,12 @@ pub record MayRun (look change settled : Option (List (List ℕ)) → Type 0)
   pub changes : Below change (root_place start run)
   pub is_settled : settled (root_place start run)
   pub aside : AtAndBelow (MayTake look change settled) (aside_place start run)
+
+-- the file that says which trees it has may be written, in its folder aside
+pub record MayTell (look change : Option (List (List ℕ)) → Type 0) (start : Option (List (List ℕ)))
+    (run : RunKey) : Type 0 where
+  pub aside : look (aside_place start run)
+  pub file : change (entry (codes "trees") (aside_place start run))
 
 -- ---- of the directory for all
 

@@ -8,13 +8,14 @@ ghost use Rattle.work_folders.specs.Rights.{MayRun};
 use crate::counts::FolderCounts;
 use crate::folders::{Folders, Links};
 use crate::work::Work;
-use run_calls::{Entry, FileFacts, Folder, Found, Place, RunKey};
+use run_calls::{Entry, FileFacts, Folder, Found, InputTree, Place, RunKey, TaskNodeKind};
+use run_trees::InstanceTrees;
+use std::alloc::AllocError;
 use std::cell::{Cell, RefCell};
 use std::io;
 use std::marker::Model;
 use std::rc::RcStr;
 use system::{Directory, Shells};
-use tree_nodes::NodeKind;
 
 /// Folders in that of a start: that of job 3 of instance 1 is `1-3` there. Where something of that
 /// name is there already, it is not made. No link is followed below it.
@@ -57,13 +58,14 @@ fn note_path(noted: &RefCell<Vec<u8>>, path: &str, names: &[String]) {
 }
 
 impl<'a, D: Directory, S: Shells<File = D::File>> WorkFolder<'a, D, S> {
-    /// Folders where a start has its place, and what becomes of links in output directories. What is
-    /// still to be removed of them, and which runs left links, is counted there, and why a call
-    /// failed is noted, and at which output.
+    /// Folders where a start has its place, what becomes of links in output directories, and which
+    /// trees there are. What is still to be removed of folders, and which runs left links, is counted
+    /// there, and why a call failed is noted, and at which output.
     pub fn new(
         shells: S,
         work: Work<D, S>,
         links: Links,
+        trees: InstanceTrees<'a>,
         counts: &'a FolderCounts,
         failure: &'a Cell<Option<io::Error>>,
         failed_at: &'a RefCell<Vec<u8>>,
@@ -73,7 +75,7 @@ impl<'a, D: Directory, S: Shells<File = D::File>> WorkFolder<'a, D, S> {
         ensures none { result ≡ 0 }
     {
         WorkFolder {
-            folders: Folders::new(shells, work, links, counts),
+            folders: Folders::new(shells, work, links, trees, counts),
             faults: 0,
             failure,
             failed_at,
@@ -112,18 +114,21 @@ impl<'a, D: Directory, S: Shells<File = D::File>> WorkFolder<'a, D, S> {
 impl<'a, D: Directory, S: Shells<File = D::File>> Folder for WorkFolder<'a, D, S> {
     ghost failures = { λ f. f };
 
+    fn claim(&mut self, run: RunKey, trees: &[InputTree]) -> Result<Vec<bool>, AllocError> {
+        self.folders.claim(run, trees)
+    }
+
+    fn forget(&mut self, run: RunKey) {
+        self.folders.forget(run);
+    }
+
     fn make_root(&mut self, run: RunKey) -> io::Result<()> {
         let answer = self.folders.make_root(run);
         self.count(&answer);
         answer
     }
 
-    fn make_node(
-        &mut self,
-        run: RunKey,
-        names: &[RcStr],
-        kind: &NodeKind<usize>,
-    ) -> io::Result<()> {
+    fn make_node(&mut self, run: RunKey, names: &[RcStr], kind: &TaskNodeKind) -> io::Result<()> {
         let answer = self.folders.make_node(run, names, kind);
         self.count(&answer);
         answer

@@ -1,22 +1,29 @@
 //! Folders in the folder of a start.
 
 ghost use Rattle.std.specs.Prelude.{◌≡◌, ◌≤◌, IfOk, IfSome, length, map, string_bytes};
+ghost use Rattle.std.specs.Rc.{rc_str_bytes};
+ghost use Rattle.made_trees.specs.declared.store.Removal.{Removal};
 ghost use Rattle.run_folders.specs.Folders.{left_path, root_name};
 ghost use Rattle.run_calls.specs.Values.{place_shown};
 ghost use Rattle.work_folders.specs.Reading.{WasRead};
-ghost use Rattle.work_folders.specs.Rights.{Below, MayLink, MayRemove, aside_place, root_place};
+ghost use Rattle.work_folders.specs.Rights.{Below, MayLink, MayRemove, MayRun, MayTell, aside_place, root_place};
+ghost use Rattle.run_trees.specs.RunTrees.{IfTree, IsBoundAs, IsRemovalIn, site_in};
 
 use crate::counts::FolderCounts;
+use crate::places::Places;
 use crate::remover::Remover;
+use crate::sited::{make_at, write_at};
 use crate::tallies::Tallies;
 use crate::work::Work;
-use run_calls::{Entry, FileFacts, Found, Place, RunKey};
-use run_folders::{Listed, root_name};
+use made_trees::Removal;
+use run_calls::{Entry, FileFacts, Found, InputTree, Place, RunKey, TaskNodeKind};
+use run_folders::{Listed, PRIVATE_MODE, root_name};
 use run_shells::Removing;
+use run_trees::InstanceTrees;
+use std::alloc::AllocError;
 use std::io::{self, ErrorKind};
 use std::rc::RcStr;
 use system::{Directory, Shells};
-use tree_nodes::NodeKind;
 
 /// What becomes of symbolic links in the output directories of runs.
 #[derive(Clone, Copy, Debug, PartialEq, Eq)]
@@ -41,7 +48,13 @@ pub(crate) struct Folders<'a, D: Directory, S: Shells> {
     moved: u64,
     /// How much was gathered of runs.
     tallies: Tallies,
+    trees: InstanceTrees<'a>,
+    /// Where trees of runs are bound.
+    places: Places,
 }
+
+/// Why a run failed whose program moved a directory with a tree in it.
+const MOVED: &str = "a made tree was in a directory that was moved into an output directory";
 
 /// There is no folder of a start.
 fn nowhere() -> io::Error {
@@ -54,6 +67,7 @@ impl<'a, D: Directory, S: Shells<File = D::File>> Folders<'a, D, S> {
         shells: S,
         work: Work<D, S>,
         links: Links,
+        trees: InstanceTrees<'a>,
         counts: &'a FolderCounts,
     ) -> Folders<'a, D, S>
         ensures same { result.work.start ≡ work.start }
@@ -68,6 +82,8 @@ impl<'a, D: Directory, S: Shells<File = D::File>> Folders<'a, D, S> {
             remover: Remover::new(alloc, counts),
             moved: 0,
             tallies: Tallies::new(alloc),
+            trees,
+            places: Places::new(alloc),
         }
     }
 
@@ -82,10 +98,31 @@ impl<'a, D: Directory, S: Shells<File = D::File>> Folders<'a, D, S> {
         }
     }
 
+    /// Claims trees for a run. Whether each was made before.
+    pub(crate) fn claim(
+        &mut self,
+        run: RunKey,
+        trees: &[InputTree],
+    ) -> Result<Vec<bool>, AllocError>
+        ensures same { self.new.work.start ≡ self.old.work.start }
+    {
+        self.trees.claim(run, trees)
+    }
+
+    /// A run that did not begin does not have its trees any more.
+    pub(crate) fn forget(&mut self, run: RunKey)
+        ensures same { self.new.work.start ≡ self.old.work.start }
+    {
+        self.trees.give_back(run);
+    }
+
     /// Whether the folder of a run may be made.
     pub(crate) fn has_room(&mut self, run: RunKey) -> bool
         ensures same { self.new.work.start ≡ self.old.work.start }
     {
+        if self.trees.waits(run) {
+            return false;
+        }
         let paths = self.work.paths();
         self.remover.has_room(&mut self.shells, paths, run.instance)
     }
@@ -94,15 +131,29 @@ impl<'a, D: Directory, S: Shells<File = D::File>> Folders<'a, D, S> {
     pub(crate) fn make_root(&mut self, run: RunKey) -> io::Result<()>
         requires root { IfSome self.old.work.start (λ at. D.may_change (root_place at run)) }
         requires aside { IfSome self.old.work.start (λ at. D.may_change (aside_place at run)) }
+        requires trees { (removal : Removal) → IsRemovalIn run.instance self.old.trees removal
+            → IfSome self.old.work.start
+            (λ at. MayRemove D.may_look D.may_change D.is_settled at removal.folder) }
         ensures same { self.new.work.start ≡ self.old.work.start }
     {
         self.work.clear_some(&mut self.shells);
-        self.tallies.begin(run)?;
-        let answer = self.make_both(run);
+        self.clear_tree(run.instance);
+        let answer = self.begin(run);
         if answer.is_err() {
             self.tallies.end(run);
+            self.trees.give_back(run);
         }
         answer
+    }
+
+    fn begin(&mut self, run: RunKey) -> io::Result<()>
+        requires root { IfSome self.old.work.start (λ at. D.may_change (root_place at run)) }
+        requires aside { IfSome self.old.work.start (λ at. D.may_change (aside_place at run)) }
+        ensures same { self.new.work.start ≡ self.old.work.start }
+    {
+        self.trees.settle(run)?;
+        self.tallies.begin(run)?;
+        self.make_both(run)
     }
 
     fn make_both(&self, run: RunKey) -> io::Result<()>
@@ -110,7 +161,7 @@ impl<'a, D: Directory, S: Shells<File = D::File>> Folders<'a, D, S> {
         requires aside { IfSome self.now.work.start (λ at. D.may_change (aside_place at run)) }
     {
         match &self.work.start {
-            Some(start) => start.make_root(self.shells.alloc(), run),
+            Some(start) => start.make_root(self.shells.alloc(), run, PRIVATE_MODE),
             None => Err(nowhere()),
         }
     }
@@ -120,15 +171,22 @@ impl<'a, D: Directory, S: Shells<File = D::File>> Folders<'a, D, S> {
         &mut self,
         run: RunKey,
         names: &[RcStr],
-        kind: &NodeKind<usize>,
+        kind: &TaskNodeKind,
     ) -> io::Result<()>
         requires look { IfSome self.old.work.start (λ at. Below D.may_look (root_place at run)) }
         requires change { IfSome self.old.work.start
             (λ at. Below D.may_change (root_place at run)) }
+        requires tree { IfTree (site_in run self.old.trees (map rc_str_bytes names.now))
+            (λ folder. IfSome self.old.work.start
+            (λ at. MayRun D.may_look D.may_change D.is_settled at folder)) }
+        ensures bound { IfOk result
+            (λ _. IsBoundAs kind.now (site_in run self.old.trees (map rc_str_bytes names.now))) }
         ensures same { self.new.work.start ≡ self.old.work.start }
     {
+        let alloc = self.shells.alloc();
+        let site = self.trees.site(run, names);
         match &mut self.work.start {
-            Some(start) => start.make_node(self.shells.alloc(), run, names, kind),
+            Some(start) => make_at(start, alloc, site, run, names, kind, &mut self.places),
             None => Err(nowhere()),
         }
     }
@@ -138,24 +196,50 @@ impl<'a, D: Directory, S: Shells<File = D::File>> Folders<'a, D, S> {
         requires look { IfSome self.old.work.start (λ at. Below D.may_look (root_place at run)) }
         requires change { IfSome self.old.work.start
             (λ at. Below D.may_change (root_place at run)) }
+        requires tree { IfTree (site_in run self.old.trees (map rc_str_bytes names.now))
+            (λ folder. IfSome self.old.work.start
+            (λ at. MayRun D.may_look D.may_change D.is_settled at folder)) }
         ensures same { self.new.work.start ≡ self.old.work.start }
     {
+        let alloc = self.shells.alloc();
+        let site = self.trees.site(run, names);
         match &mut self.work.start {
-            Some(start) => start.write(self.shells.alloc(), run, names, bytes),
+            Some(start) => write_at(start, alloc, site, run, names, bytes),
             None => Err(nowhere()),
         }
     }
 
-    /// Makes the directory in which the program of a run starts, and those above it.
+    /// Makes the directory in which the program of a run starts, and those above it. What trees the
+    /// run makes are whole now. Those that it has are told beside its folder.
     pub(crate) fn make_working_directory(&mut self, place: &Place) -> io::Result<()>
         requires look { IfSome self.old.work.start
             (λ at. Below D.may_look (root_place at place.now.run)) }
         requires change { IfSome self.old.work.start
             (λ at. Below D.may_change (root_place at place.now.run)) }
+        requires tell { IfSome self.old.work.start
+            (λ at. MayTell D.may_look D.may_change at place.now.run) }
         ensures same { self.new.work.start ≡ self.old.work.start }
     {
         match &mut self.work.start {
-            Some(start) => start.make_working_directory(self.shells.alloc(), place),
+            Some(start) => start.make_working_directory(self.shells.alloc(), place)?,
+            None => return Err(nowhere()),
+        }
+        self.trees.finish(place.run);
+        self.tell_trees(place.run)
+    }
+
+    /// Tells which trees a run has, if it has any.
+    fn tell_trees(&self, run: RunKey) -> io::Result<()>
+        requires tell { IfSome self.now.work.start
+            (λ at. MayTell D.may_look D.may_change at run) }
+    {
+        if !self.trees.has_some(run) {
+            return Ok(());
+        }
+        let alloc = self.shells.alloc();
+        let text = self.trees.words(alloc, self.work.path(), run)?;
+        match &self.work.start {
+            Some(start) => start.tell_trees(alloc, run, &text),
             None => Err(nowhere()),
         }
     }
@@ -216,6 +300,9 @@ impl<'a, D: Directory, S: Shells<File = D::File>> Folders<'a, D, S> {
             (λ at. Below D.may_look (root_place at place.now.run)) }
         ensures same { self.new.work.start ≡ self.old.work.start }
     {
+        if self.is_place(place, path, names)? {
+            return Err(io::Error::other(MOVED));
+        }
         let Listed { entries, has_links } = match &mut self.work.start {
             Some(start) => start.list(self.shells.alloc(), place, path, names, most)?,
             None => return Err(nowhere()),
@@ -225,6 +312,23 @@ impl<'a, D: Directory, S: Shells<File = D::File>> Folders<'a, D, S> {
         }
         self.tallies.add_entries(place.run, entries.len())?;
         Ok(entries)
+    }
+
+    /// Whether a directory that a run left is the place of a tree, which was moved there with what is
+    /// above it.
+    fn is_place(&mut self, place: &Place, path: &str, names: &[String]) -> io::Result<bool>
+        requires look { IfSome self.old.work.start
+            (λ at. Below D.may_look (root_place at place.now.run)) }
+        ensures same { self.new.work.start ≡ self.old.work.start }
+    {
+        let run = place.run;
+        match &mut self.work.start {
+            Some(start) if self.places.has_some(run) => {
+                let left = start.identity_of_left(self.shells.alloc(), place, path, names)?;
+                Ok(self.places.has(run, left))
+            }
+            _ => Ok(false),
+        }
     }
 
     /// Counts a run that left links in an output directory, once. It is an error where these are to
@@ -300,21 +404,51 @@ impl<'a, D: Directory, S: Shells<File = D::File>> Folders<'a, D, S> {
         }
     }
 
-    /// Goes on with the removal of the folder of a run. Whether nothing is left of it.
+    /// Goes on with the removal of the folder of a run, and of a tree that nobody has. Whether
+    /// nothing is left of the run's.
     pub(crate) fn remove(&mut self, run: RunKey) -> io::Result<bool>
         requires remove { IfSome self.old.work.start
             (λ at. MayRemove D.may_look D.may_change D.is_settled at run) }
+        requires trees { (removal : Removal) → IsRemovalIn run.instance self.old.trees removal
+            → IfSome self.old.work.start
+            (λ at. MayRemove D.may_look D.may_change D.is_settled at removal.folder) }
         ensures same { self.new.work.start ≡ self.old.work.start }
     {
         self.work.clear_some(&mut self.shells);
-        let Ok(root) = root_name(self.shells.alloc(), run) else {
-            // It is asked for again.
-            return Ok(false);
-        };
+        self.clear_tree(run.instance);
         if !self.remover.has(run) && self.let_go(run).is_err() {
             // There is no memory now, so it is asked for again.
             return Ok(false);
         }
+        self.remove_folder(run)
+    }
+
+    /// Goes on with the removal of a tree of an instance that nobody has, if there is one.
+    fn clear_tree(&mut self, instance: u32)
+        requires trees { (removal : Removal) → IsRemovalIn instance self.old.trees removal
+            → IfSome self.old.work.start
+            (λ at. MayRemove D.may_look D.may_change D.is_settled at removal.folder) }
+        ensures same { self.new.work.start ≡ self.old.work.start }
+    {
+        let Some(Removal { key, folder }) = self.trees.next_removal(instance) else {
+            return;
+        };
+        // What cannot be removed now is tried again.
+        if matches!(self.remove_folder(folder), Ok(true)) {
+            self.trees.removed(instance, &key);
+        }
+    }
+
+    /// Goes on with the removal of a folder. Whether nothing is left of it.
+    fn remove_folder(&mut self, run: RunKey) -> io::Result<bool>
+        requires remove { IfSome self.old.work.start
+            (λ at. MayRemove D.may_look D.may_change D.is_settled at run) }
+        ensures same { self.new.work.start ≡ self.old.work.start }
+    {
+        let Ok(root) = root_name(self.shells.alloc(), run) else {
+            // It is asked for again.
+            return Ok(false);
+        };
         self.reap();
         let paths = self.work.paths();
         match self
@@ -340,6 +474,8 @@ impl<'a, D: Directory, S: Shells<File = D::File>> Folders<'a, D, S> {
         ensures same { self.new.work.start ≡ self.old.work.start }
     {
         self.tallies.end(run);
+        self.trees.give_back(run);
+        self.places.forget(run);
         if let Some(start) = &mut self.work.start {
             start.let_go(run)?;
         }

@@ -7,12 +7,13 @@ ghost use Rattle.run_folders.specs.Folders.{left_path, root_name};
 ghost use Rattle.system.specs.Places.{MayTake, WasFileAt, entry};
 ghost use Rattle.run_folders.specs.Listing.{NamesRise};
 ghost use Rattle.work_folders.specs.Reading.{IsFileOf, WasRead};
-ghost use Rattle.work_folders.specs.Rights.{Below, IsBelow, MayLink, MayRemove, aside_place, root_place};
+ghost use Rattle.work_folders.specs.Rights.{Below, IsBelow, MayLink, MayRemove, MayTell, aside_place, root_place};
 
 use crate::entrance::Entrance;
 use crate::opener::Opener;
+use crate::places::identity_of;
 use crate::request::Target;
-use run_calls::{Found, Place, RunKey};
+use run_calls::{Found, Place, RunKey, TaskNodeKind};
 use run_folders::{
     Entered, Kept, Listed, PRIVATE_MODE, aside_name, entry_name, file_path, kept_file, left_path,
     list_in, look_in, make_node, node_path, open_to_add, open_to_read, parted, read_part, remove,
@@ -22,11 +23,15 @@ use std::alloc::{AllocError, Global};
 use std::io::{self, ErrorKind};
 use std::marker::Model;
 use std::rc::RcStr;
-use system::{Directory, OpenFile, Shells};
-use tree_nodes::NodeKind;
+use system::{Directory, Identity, OpenFile, Shells};
 
 /// Why no run can begin any more where somebody removed the folder of the start.
 const START_GONE: &str = "the folder of this start in --work is gone: restart the server";
+
+/// The file in a run's folder aside that says which trees it has, and how it can be used.
+const TREES: &[u8] = b"trees";
+
+const TOLD_MODE: u32 = 0o600;
 
 /// The folder of a start, and what is open there.
 #[derive(Drop)]
@@ -57,18 +62,18 @@ impl<D: Directory, S: Shells> Model for StartFolder<D, S> {
 }
 
 /// Makes the folder of a run in that of a start.
-fn make_root_in<D: Directory>(alloc: Global, start: &D, run: RunKey) -> io::Result<()>
+fn make_root_in<D: Directory>(alloc: Global, start: &D, run: RunKey, mode: u32) -> io::Result<()>
     requires root { D.may_change (root_place (D.place start.now) run) }
 {
     let root = root_name(alloc, run)?;
-    start.make_dir(entry_name(root.as_str())?, PRIVATE_MODE)
+    start.make_dir(entry_name(root.as_str())?, mode)
 }
 
 /// Makes a node in a directory, under this name. A file is open then, to be written.
 fn make_node_in<D: Directory>(
     directory: &D,
     name: &str,
-    kind: &NodeKind<usize>,
+    kind: &TaskNodeKind,
 ) -> io::Result<Option<D::File>>
     requires may { D.may_change (entry name.now (D.place directory.now)) }
     ensures own { IfOk result (λ made. IfSome made D.File.may_write) }
@@ -129,8 +134,8 @@ impl<D: Directory, S: Shells<File = D::File>> StartFolder<D, S> {
         Ok(can_open)
     }
 
-    /// Makes the folder of a run, and the one aside.
-    pub(crate) fn make_root(&self, alloc: Global, run: RunKey) -> io::Result<()>
+    /// Makes the folder of a run, which has this mode, and the one aside.
+    pub(crate) fn make_root(&self, alloc: Global, run: RunKey, mode: u32) -> io::Result<()>
         requires root { D.may_change (root_place self.now run) }
         requires aside { D.may_change (aside_place self.now run) }
     {
@@ -143,7 +148,7 @@ impl<D: Directory, S: Shells<File = D::File>> StartFolder<D, S> {
             }
             made => made?,
         }
-        let answer = make_root_in(alloc, start, run);
+        let answer = make_root_in(alloc, start, run, mode);
         if answer.is_err() {
             start.remove_dir(aside)?;
         }
@@ -163,7 +168,7 @@ impl<D: Directory, S: Shells<File = D::File>> StartFolder<D, S> {
         alloc: Global,
         run: RunKey,
         names: &[RcStr],
-        kind: &NodeKind<usize>,
+        kind: &TaskNodeKind,
     ) -> io::Result<()>
         requires look { Below D.may_look (root_place self.old run) }
         requires change { Below D.may_change (root_place self.old run) }
@@ -219,6 +224,15 @@ impl<D: Directory, S: Shells<File = D::File>> StartFolder<D, S> {
         self.make_directory(alloc, place, "")
     }
 
+    /// Writes the file of a run that says which trees it has, in its folder aside.
+    pub(crate) fn tell_trees(&self, alloc: Global, run: RunKey, text: &[u8]) -> io::Result<()>
+        requires may { MayTell D.may_look D.may_change self.now run }
+    {
+        let aside = opened_aside(alloc, self.entrance.start(), run)?;
+        let mut file = aside.make_file(TREES, TOLD_MODE)?;
+        file.write_all(text)
+    }
+
     /// Makes the directories above an output.
     pub(crate) fn make_parents(
         &mut self,
@@ -265,6 +279,47 @@ impl<D: Directory, S: Shells<File = D::File>> StartFolder<D, S> {
         let answer = look_at(&entered.directory, name);
         self.entrance.keep(entered);
         answer
+    }
+
+    /// By what the directory at a path is known.
+    fn identity_at(&mut self, alloc: Global, run: RunKey, path: &str) -> io::Result<Identity>
+        requires below { IsBelow (root_name run.instance run.job) path.now }
+        requires look { Below D.may_look (root_place self.old run) }
+        ensures same { self.new ≡ self.old }
+    {
+        let entered = self.entrance.enter(alloc, path)?;
+        let answer = identity_of(&entered.directory);
+        self.entrance.keep(entered);
+        answer
+    }
+
+    /// The same of a directory that was made for a run.
+    pub(crate) fn identity_of_made(
+        &mut self,
+        alloc: Global,
+        run: RunKey,
+        names: &[RcStr],
+    ) -> io::Result<Identity>
+        requires look { Below D.may_look (root_place self.old run) }
+        ensures same { self.new ≡ self.old }
+    {
+        let path = node_path(alloc, run, names)?;
+        self.identity_at(alloc, run, path.as_str())
+    }
+
+    /// The same of one that it left.
+    pub(crate) fn identity_of_left(
+        &mut self,
+        alloc: Global,
+        place: &Place,
+        path: &str,
+        names: &[String],
+    ) -> io::Result<Identity>
+        requires look { Below D.may_look (root_place self.old place.now.run) }
+        ensures same { self.new ≡ self.old }
+    {
+        let path = left_path(alloc, place, path, names)?;
+        self.identity_at(alloc, place.run, path.as_str())
     }
 
     /// What is in a directory, of which there are at most so many entries.

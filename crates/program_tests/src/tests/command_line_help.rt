@@ -187,6 +187,9 @@ static HELP: [(&str, Wanted); 7] = [
             there\n      \
             --launcher <PROGRAM>  The program that starts the program of each action, as in a \
             sandbox or elsewhere\n      \
+            --made-trees <SIZE>   How many bytes of large input directories each instance keeps \
+            on the disk, as 20G, for actions that share them; with 0 none. The launcher binds them \
+            [default: 0]\n      \
             --turns <T>           How many turns to take at most, or endless: a busy server \
             takes the 1000000000 in a day [default: 1000000000]\n      \
             --listen <ADDRESS>    The address to listen on, IPv4 or IPv6. Whoever can reach a \

@@ -4,7 +4,7 @@ use crate::tests::cases::all_hold;
 use crate::tests::command_lines::Wanted::{self, Ends};
 use std::test::*;
 
-static MISTAKES: [(&str, Wanted); 35] = [
+static MISTAKES: [(&str, Wanted); 37] = [
     (
         "remoted unary",
         Ends(
@@ -277,6 +277,25 @@ static MISTAKES: [(&str, Wanted); 35] = [
             2,
             "error: --result-bytes is not a number of bytes from 4194304 to 2147483648, as 64M \
             or 2G: '4095K'\n\n\
+            Usage: remoted serve [OPTIONS] --work <DIR> <NAME:PORT:QUOTA:SLOTS[:PARENT]>...\n\n\
+            For more information, try '--help'.\n",
+        ),
+    ),
+    (
+        "remoted serve --work here --launcher l --made-trees 20g a:1:2:3",
+        Ends(
+            2,
+            "error: --made-trees is not a number of bytes from 0 to 9223372036854775807, as 500M \
+            or 20G: '20g'\n\n\
+            Usage: remoted serve [OPTIONS] --work <DIR> <NAME:PORT:QUOTA:SLOTS[:PARENT]>...\n\n\
+            For more information, try '--help'.\n",
+        ),
+    ),
+    (
+        "remoted serve --work here --made-trees 1 a:1:2:3",
+        Ends(
+            2,
+            "error: --made-trees is given, and no --launcher, which is to bind them\n\n\
             Usage: remoted serve [OPTIONS] --work <DIR> <NAME:PORT:QUOTA:SLOTS[:PARENT]>...\n\n\
             For more information, try '--help'.\n",
         ),

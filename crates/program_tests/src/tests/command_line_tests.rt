@@ -5,7 +5,7 @@ use crate::tests::command_lines::Wanted::{self, Asks};
 use crate::tests::command_lines::{Numbers, Task};
 use std::test::*;
 
-static TASKS: [(&str, Wanted); 18] = [
+static TASKS: [(&str, Wanted); 20] = [
     (
         "remoted",
         Asks(Task {
@@ -110,6 +110,26 @@ static TASKS: [(&str, Wanted); 18] = [
         "remoted serve --launcher bin/sandbox --work here a:1:2:3",
         Asks(Task {
             kind: "bin/sandbox",
+            file: Some("here"),
+            numbers: (1000000000, 0, 0),
+            others: &["127.0.0.1", "", "", "", ""],
+            instances: &["a:1:2:3"],
+        }),
+    ),
+    (
+        "remoted serve --made-trees 20G --launcher bin/sandbox --work here a:1:2:3",
+        Asks(Task {
+            kind: "bin/sandbox",
+            file: Some("here"),
+            numbers: (1000000000, 21474836480, 0),
+            others: &["127.0.0.1", "", "", "", ""],
+            instances: &["a:1:2:3"],
+        }),
+    ),
+    (
+        "remoted serve --work here --made-trees 0K a:1:2:3",
+        Asks(Task {
+            kind: "serve",
             file: Some("here"),
             numbers: (1000000000, 0, 0),
             others: &["127.0.0.1", "", "", "", ""],

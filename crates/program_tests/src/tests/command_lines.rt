@@ -28,8 +28,8 @@ pub struct Task {
     pub kind: &'static str,
     /// Its file or folder.
     pub file: Option<&'static str>,
-    /// The port, the count and the turns of a probe, the turns of serving, or the port and the
-    /// seconds of a check; zeros for the rest.
+    /// The port, the count and the turns of a probe, the turns of serving and the bytes of made
+    /// trees, or the port and the seconds of a check; zeros for the rest.
     pub numbers: (u64, u64, u64),
     /// The address, the file of the figures, the one that ends a server, the one that ends jobs, and
     /// what becomes of links; or the address and the instance of a check; an empty text where there
@@ -58,7 +58,8 @@ impl Task {
             service.links.unwrap_or(""),
         ];
         let kind = service.launcher.unwrap_or("serve");
-        self.is(kind, Some(service.work), (service.turns, 0, 0), &others)
+        let numbers = (service.turns, service.made_trees, 0);
+        self.is(kind, Some(service.work), numbers, &others)
             && self.instances == service.instances.as_slice()
     }
 

@@ -1,10 +1,9 @@
 use Rattle.std.proofs.Common.{[], ◌∷◌, ◌∙◌, refl, sym, ap, subst, map, ◌++◌}
 use Rattle.std.specs.Prelude.{string_bytes}
 use Rattle.std.specs.Rc.{rc_str_bytes}
-use Rattle.tree_nodes.specs.Nodes.{kind_shown}
 use Rattle.runner.specs.declared.stage.Stage.TheVariants as Stages
 use Rattle.runner.specs.declared.stage.Making.TheVariants as Makings
-use Rattle.run_calls.specs.Values.{place_shown, command_shown}
+use Rattle.run_calls.specs.Values.{place_shown, command_shown, task_kind_shown}
 use Rattle.run_calls.specs.Calls.{start_asked, node_asked, look_asked, call, Adds, done_of}
 use Rattle.runner.specs.Made.{nodes_made}
 use Rattle.runner.specs.Steps.{prepared_left}
@@ -29,10 +28,10 @@ returns-in_default-clause-goes g c = λ text p.
 pub returns-clause-goes : goal.returns-clause-goes
 returns-clause-goes g c = λ text p.
     let names = map rc_str_bytes c.push.new.self.items in
-    let q = node_asked c.args.place.now.run (map rc_str_bytes c.push.new.self.items) (kind_shown c.in-Some.node.kind) in
+    let q = node_asked c.args.place.now.run (map rc_str_bytes c.push.new.self.items) (task_kind_shown c.in-Some.node.kind) in
     goes_folder text (place_shown c.args.place.now) _ _ _ _ p q _ refl
     (subst (λ ns. Adds (g.F.Folder.asked c.args.folder.now) (g.F.Folder.asked c.make_node.new.self)
-    (call (node_asked c.args.place.now.run (map rc_str_bytes ns) (kind_shown c.in-Some.node.kind)) (done_of c.make_node.result)))
+    (call (node_asked c.args.place.now.run (map rc_str_bytes ns) (task_kind_shown c.in-Some.node.kind)) (done_of c.make_node.result)))
     c.deref.ensures.value c.make_node.ensures.adds)
     (node_step text c.args.place.now.run (map rc_str_bytes c.args.nodes.above.items) names c.in-Some.node _ _ _ _
     (popped _ _ _ _ c.pop_front.ensures.items c.in-Some.is)
@@ -47,9 +46,9 @@ pub returns-in_err-of_folder-clause-stops : goal.returns-in_err-of_folder-clause
 returns-in_err-of_folder-clause-stops g c = folder_failed c.from_residual-in_err-of_folder.result _ _ _ _
     c.from_residual-in_err-of_folder.ensures.1 c.of_folder.ensures c.in_err-of_folder.was done_of (λ e. refl) (λ fault small text p.
     folder_stops text (place_shown c.args.place.now) _ fault _ _ p
-    (node_asked c.args.place.now.run (map rc_str_bytes c.push.new.self.items) (kind_shown c.in-Some.node.kind)) _ refl small
+    (node_asked c.args.place.now.run (map rc_str_bytes c.push.new.self.items) (task_kind_shown c.in-Some.node.kind)) _ refl small
     (subst (λ ns. Adds (g.F.Folder.asked c.args.folder.now) (g.F.Folder.asked c.make_node.new.self)
-    (call (node_asked c.args.place.now.run (map rc_str_bytes ns) (kind_shown c.in-Some.node.kind)) (done_of c.make_node.result)))
+    (call (node_asked c.args.place.now.run (map rc_str_bytes ns) (task_kind_shown c.in-Some.node.kind)) (done_of c.make_node.result)))
     c.deref.ensures.value c.make_node.ensures.adds) (
       _,
       node_step text c.args.place.now.run (map rc_str_bytes c.args.nodes.above.items)

@@ -32,7 +32,7 @@ pub returns-then-not-has-clause-carries : goal.returns-then-not-has-clause-carri
 returns-then-not-has-clause-carries g c = λ h was.
     begun_carries c.args.run _ c.begin_lent.result c.args.self.now.runner.runs.items c.begin_lent.new.self.runner.runs.items
     c.args.self.now.to_begin.items c.begin_lent.new.self.to_begin.items _ _ _ _ h
-    (sym c.has.ensures ∙ c.if-not-has.true) c.begin_lent.ensures.begun (ap g.F.Folder.asked c.begin_lent.ensures.folder)
+    (sym c.has.ensures ∙ c.if-not-has.true) c.begin_lent.ensures.begun c.begin_lent.ensures.asked
     (ap g.P.Programs.asked c.begin_lent.ensures.programs)
     (ap (λ v. v.items) c.begin_lent.ensures.to_begin ∙ c.take-was_noted.ensures.others) was
 

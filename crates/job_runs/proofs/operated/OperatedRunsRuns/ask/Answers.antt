@@ -25,8 +25,8 @@ returns-clause-asked g c = judged_asked _ c.args.run c.ask-answer.result c.judge
     record {
       begun = λ none. (
         c.ask-answer.ensures.begun none,
-        ap g.F.Folder.asked (c.ask-answer.ensures.only_begun none).0,
-        ap g.P.Programs.asked (c.ask-answer.ensures.only_begun none).1,
+        (c.ask-answer.ensures.only_begun none).0,
+        ap g.P.Programs.asked (c.ask-answer.ensures.only_begun none).2,
       );
       answered = c.ask-answer.ensures.answered;
     }

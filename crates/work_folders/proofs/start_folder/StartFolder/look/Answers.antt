@@ -1,6 +1,5 @@
 use Rattle.std.proofs.Common.{◌∙◌, map, string_bytes}
 use Rattle.run_calls.specs.Values.{place_shown}
-use Rattle.system.specs.Places.{entry}
 use Rattle.work_folders.proofs.Paths.{at_path, is_left, way_above}
 use Rattle.work_folders.proofs.start_folder.StartFolder.look.Goals as goal
 

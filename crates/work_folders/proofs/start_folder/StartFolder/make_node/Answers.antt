@@ -1,6 +1,5 @@
 use Rattle.std.proofs.Common.{◌∙◌, map}
 use Rattle.std.specs.Rc.{rc_str_bytes}
-use Rattle.system.specs.Places.{entry}
 use Rattle.work_folders.proofs.Paths.{at_path, is_node, way_above}
 use Rattle.work_folders.proofs.start_folder.StartFolder.make_node.Goals as goal
 

@@ -1,4 +1,3 @@
-use Rattle.system.specs.Places.{entry}
 use Rattle.work_folders.proofs.Paths.{at_path, way_above}
 use Rattle.work_folders.proofs.start_folder.StartFolder.open_left.Goals as goal
 

@@ -1,0 +1,302 @@
+-- Directories that may be made once for many runs.
+use Rattle.std.proofs.Common.{◌≡◌, ◌⊎◌, inl, inr, ℕ, zero, suc, ◌+◌, ◌-◌, ◌<◌, ◌≤◌, Bool, true, false, not, cond, ◌&&◌, List, [], ◌∷◌, ◌++◌, map, length, take, drop, get_or, slice_set, filter, min, nat_eq, nat_lt, nat_le, Option, Some, None, IfSome, option_map, refl, sym, ap, ap₂, ◌∙◌, append_assoc, append-nil, length-drop, take_all, arith}
+use Rattle.std.specs.List.{flat_map, join_by, list_all, starts_with}
+use Rattle.std.specs.Borrow.{Bor}
+use Rattle.std.specs.Global.{Vec}
+use Rattle.std.specs.Option.{option_to_list}
+use Rattle.std.specs.Rc.{rc_str_bytes}
+use Rattle.std.proofs.lemmas.Bool.Decides.{Decides-eqb, nat_tests}
+use Rattle.std.proofs.lemmas.List.Folds.{list_all-append}
+use Rattle.std.proofs.lemmas.List.{map-append, take-map}
+use Rattle.std.proofs.lemmas.Slice.Eq.{starts_is}
+use Rattle.execution_messages.specs.Actions.{CommandValue}
+use Rattle.actions.specs.Nodes.{PlanNode, PlanNodeValue}
+use Rattle.actions.specs.Paths.{Path, path_behind, paths_behind, paths_of}
+use Rattle.actions.specs.Shown.{node_shown, nodes_shown}
+use Rattle.run_calls.specs.declared.folder.InputTree.{InputTree}
+use Rattle.job_runs.specs.declared.trees.FoundTrees.{FoundTrees}
+use Rattle.job_runs.specs.Commands.{output_paths}
+use Rattle.job_runs.specs.Made.{InputTreeValue, are_apart, file_count, is_file, is_free, is_free_of, is_large, may_be_first, may_be_made, node_size, nodes_size, path_text, slashed, tree_at, tree_of_first, tree_of_kind, tree_shown, within}
+
+-- ---- what stands in a directory
+
+within_none : (level : ℕ) (n : PlanNodeValue) (ns : List PlanNodeValue) → n.level ≤ level → within level (n ∷ ns) ≡ []
+within_none level n ns le = let test : nat_lt level n.level ≡ false = grind (arith, nat_tests) in rw test refl
+
+-- so many files were counted before these nodes
+abbrev pub IsCount : ℕ → ℕ → List PlanNodeValue → ℕ → Type 0
+IsCount level files left all = files + file_count (within level left) ≡ all
+
+-- so many bytes were counted before these nodes
+abbrev pub most : ℕ
+most = 18446744073709551615
+
+abbrev pub IsSize : ℕ → ℕ → List PlanNodeValue → ℕ → Type 0
+IsSize level size left all = min (size + nodes_size (within level left)) most ≡ all
+
+pub size_ends : (level size all : ℕ) (left : List PlanNode) (n : PlanNode) (rest : List PlanNode) → IsSize level size (nodes_shown left) all →
+    left ≡ n ∷ rest → n.level ≤ level → size ≤ most → size ≡ all
+size_ends level size all left n rest is left_is le small =
+    let e : nodes_size (within level (nodes_shown left)) ≡ 0 =
+    ap (λ ns. nodes_size (within level (nodes_shown ns))) left_is
+    ∙ ap nodes_size (within_none level (node_shown n) (nodes_shown rest) le) in
+    omega (arith, is, e, small)
+
+pub size_is : (level size all : ℕ) (left : List PlanNode) → IsSize level size (nodes_shown left) all → left ≡ [] → size ≤ most → size ≡ all
+size_is level size all left is left_is small =
+    let e : nodes_size (within level (nodes_shown left)) ≡ 0 = ap (λ ns. nodes_size (within level (nodes_shown ns))) left_is in
+    omega (arith, is, e, small)
+
+-- ---- paths
+
+begins : (xs ys : List ℕ) → starts_with nat_eq xs ys ≡ true → xs ≡ ys ++ drop (length ys) xs
+begins xs ys e = (starts_is Decides-eqb xs ys (starts_with nat_eq xs ys) refl).0 e
+
+begun : (xs ys rest : List ℕ) → xs ≡ ys ++ rest → starts_with nat_eq xs ys ≡ true
+begun xs ys rest e = (starts_is Decides-eqb xs ys (starts_with nat_eq xs ys) refl).1 rest e
+
+same_tests : (a b : Bool) → (a ≡ true → b ≡ true) → (b ≡ true → a ≡ true) → a ≡ b
+same_tests true b to from = sym (to refl)
+same_tests false true to from = from refl
+same_tests false false to from = refl
+
+not_both : (a : Bool) → a ≡ false → a ≡ true → ⊥
+not_both true n y = cc
+not_both false n y = cc
+
+cancel : (d r s : List ℕ) → d ++ r ≡ d ++ s → r ≡ s
+cancel [] r s e = e
+cancel (x ∷ d) r s e = cancel d r s (ap (drop 1) e)
+
+starts_behind : (d r o : List ℕ) → starts_with nat_eq (d ++ r) (d ++ o) ≡ starts_with nat_eq r o
+starts_behind d r o = same_tests _ _
+    (λ e. begun r o (drop (length (d ++ o)) (d ++ r)) (cancel d r (o ++ drop (length (d ++ o)) (d ++ r))
+    (begins (d ++ r) (d ++ o) e ∙ append_assoc d o (drop (length (d ++ o)) (d ++ r)))))
+    (λ e. begun (d ++ r) (d ++ o) (drop (length o) r) (ap (λ z. d ++ z) (begins r o e) ∙ sym (append_assoc d o (drop (length o) r))))
+
+starts_before : (path d o : List ℕ) → starts_with nat_eq path (d ++ o) ≡ true → starts_with nat_eq path d ≡ true
+starts_before path d o e = begun path d (o ++ drop (length (d ++ o)) path)
+    (begins path (d ++ o) e ∙ append_assoc d o (drop (length (d ++ o)) path))
+
+head_is : (x y : ℕ) (xs ys : List ℕ) → x ∷ xs ≡ y ∷ ys → x ≡ y
+head_is x y xs ys e = ap (λ l. get_or l 0 x) e
+
+-- of two beginnings of a text one begins the other
+one_begins : (d o path z : List ℕ) → d ++ o ≡ path ++ z → ((w : List ℕ) × (d ≡ path ++ w)) ⊎ ((w : List ℕ) × (path ≡ d ++ w))
+one_begins [] o path z e = inr (path, refl)
+one_begins (x ∷ d) o [] z e = inl (x ∷ d, refl)
+one_begins (x ∷ d) o (y ∷ path) z e = go (one_begins d o path z (ap (drop 1) e)) where
+  go : ((w : List ℕ) × (d ≡ path ++ w)) ⊎ ((w : List ℕ) × (path ≡ d ++ w)) →
+      ((w : List ℕ) × (x ∷ d ≡ (y ∷ path) ++ w)) ⊎ ((w : List ℕ) × (y ∷ path ≡ (x ∷ d) ++ w))
+  go (inl (w, is)) = inl (w, ap₂ (λ (a : ℕ) (l : List ℕ). a ∷ l) (head_is x y (d ++ o) (path ++ z) e) is)
+  go (inr (w, is)) = inr (w, ap₂ (λ (a : ℕ) (l : List ℕ). a ∷ l) (sym (head_is x y (d ++ o) (path ++ z) e)) is)
+
+neither : (a b : Bool) → (a ≡ true → ⊥) → (b ≡ true → ⊥) → (not a && not b) ≡ true
+neither true b no_a no_b = absurd (no_a refl)
+neither false true no_a no_b = absurd (no_b refl)
+neither false false no_a no_b = refl
+
+-- what is beside a directory is apart from all that is in it
+beside : (path d o : List ℕ) → starts_with nat_eq path d ≡ false → starts_with nat_eq d path ≡ false → are_apart path (d ++ o) ≡ true
+beside path d o not_in not_above = neither _ _
+    (λ e. not_both _ not_in (starts_before path d o e))
+    (λ e. go (one_begins d o path (drop (length path) (d ++ o)) (begins (d ++ o) path e))) where
+      go : ((w : List ℕ) × (d ≡ path ++ w)) ⊎ ((w : List ℕ) × (path ≡ d ++ w)) → ⊥
+      go (inl (w, is)) = not_both _ not_above (begun d path w is)
+      go (inr (w, is)) = not_both _ not_in (begun path d w is)
+
+all_beside : (path d : List ℕ) (outputs : List (List ℕ)) → starts_with nat_eq path d ≡ false → starts_with nat_eq d path ≡ false →
+    list_all (λ o. are_apart path (d ++ o)) outputs ≡ true
+all_beside path d [] not_in not_above = refl
+all_beside path d (o ∷ outputs) not_in not_above =
+    ap₂ (λ a b. a && b) (beside path d o not_in not_above) (all_beside path d outputs not_in not_above)
+
+apart_inside : (d r o : List ℕ) → are_apart (d ++ r) (d ++ o) ≡ are_apart r o
+apart_inside d r o = ap₂ (λ a b. not a && not b) (starts_behind d r o) (starts_behind d o r)
+
+all_inside : (d r : List ℕ) (outputs : List (List ℕ)) →
+    list_all (λ o. are_apart (d ++ r) (d ++ o)) outputs ≡ list_all (are_apart r) outputs
+all_inside d r [] = refl
+all_inside d r (o ∷ outputs) = ap₂ (λ a b. a && b) (apart_inside d r o) (all_inside d r outputs)
+
+pub free_beside : (d path : List ℕ) (outputs : List (List ℕ)) → starts_with nat_eq d path ≡ false → starts_with nat_eq path d ≡ false →
+    is_free_of d outputs path ≡ true
+free_beside d path outputs not_above not_in =
+    ap₂ (λ a b. not a && b) not_above (all_beside path d outputs not_in not_above)
+
+pub free_inside : (d path rest : List ℕ) (outputs others : List (Vec ℕ)) → starts_with nat_eq d path ≡ false →
+    starts_with nat_eq path d ≡ true → rest ≡ drop (length d) path → others ≡ outputs →
+    is_free_of d (map (λ o. o.items) outputs) path ≡ list_all (are_apart rest) (map (λ o. o.items) others)
+free_inside d path rest outputs others not_above is_in rest_is others_are =
+    let whole : path ≡ d ++ rest = begins path d is_in ∙ ap (λ z. d ++ z) (sym rest_is) in
+    ap₂ (λ a b. not a && b) not_above
+    (ap (λ p. list_all (λ o. are_apart p (d ++ o)) (map (λ o. o.items) outputs)) whole ∙ all_inside d rest (map (λ o. o.items) outputs)
+    ∙ ap (λ os. list_all (are_apart rest) (map (λ o. o.items) os)) (sym others_are))
+
+-- what is left of a path behind a place, as a slice
+pub behind_place : (path : List ℕ) (k : ℕ) (d : List ℕ) → k ≡ length d → take (length path - k) (drop k path) ≡ drop (length d) path
+behind_place path k d is =
+    take_all (length path - k) (drop k path) (let e = length-drop k path in omega (arith, e)) ∙ ap (λ j. drop j path) is
+
+-- the texts of names
+flat_names : (sep : List ℕ) (names : List (Bor (List ℕ))) →
+    flat_map (λ y. sep ++ y.now) names ≡ flat_map (λ name. sep ++ name) (map (λ s. s.now) names)
+flat_names sep [] = refl
+flat_names sep (s ∷ names) = ap (λ rest. (sep ++ s.now) ++ rest) (flat_names sep names)
+
+pub joined_names : (sep : List ℕ) (names : List (Bor (List ℕ))) →
+    join_by (λ s. s.now) sep names ≡ join_by (λ name. name) sep (map (λ s. s.now) names)
+joined_names sep [] = refl
+joined_names sep (s ∷ names) = ap (λ rest. s.now ++ rest) (flat_names sep names)
+
+-- ---- along a plan
+
+pub drop_more : {A : Type 0} (at : ℕ) (xs : List A) (x : A) (ys : List A) → drop at xs ≡ x ∷ ys → drop (at + 1) xs ≡ ys
+drop_more zero xs x ys e = ap (drop 1) e
+drop_more (suc at) [] x ys e = absurd (omega (arith, ap length e))
+drop_more (suc at) (z ∷ zs) x ys e =
+    let k : suc at + 1 ≡ suc (at + 1) = omega arith in ap (λ j. drop j (z ∷ zs)) k ∙ drop_more at zs x ys e
+
+-- the names that lead to a node, where those are left of the one before it that are above it
+pub names_behind : {A : Type 0} (f : A → List ℕ) (before cut now : List A) (name : A) (k : ℕ) (n : PlanNodeValue)
+    → now ≡ cut ++ name ∷ [] → cut ≡ take k before → k ≡ n.level - 1 → f name ≡ n.name → map f now ≡ path_behind (map f before) n
+names_behind f before cut now name k n push trunc is named =
+    ap (map f) push ∙ map-append f cut (name ∷ []) ∙ ap (λ c. map f c ++ f name ∷ []) trunc
+    ∙ ap (λ c. c ++ f name ∷ []) (sym (take-map f k before)) ∙ ap₂ (λ m t. take m (map f before) ++ t ∷ []) is named
+
+may_here : (nodes : List PlanNodeValue) (c : CommandValue) (at : ℕ) (path : Path) (paths : List Path) (n : PlanNodeValue)
+    (behind : List PlanNodeValue) → drop at nodes ≡ n ∷ behind → drop at (paths_of nodes) ≡ path ∷ paths
+    → is_large n.kind (within n.level behind) ≡ true → is_free c (slashed (path_text path)) ≡ true → may_be_made nodes c at ≡ true
+may_here nodes c at path paths n behind here paths_are large free =
+    ap₂ (may_be_first c) paths_are here ∙ ap₂ (λ a b. a && b) large free
+
+tree_here : (nodes : List PlanNodeValue) (at : ℕ) (path : Path) (paths : List Path) (n : PlanNodeValue) (behind : List PlanNodeValue)
+    (tree : InputTreeValue) → drop at nodes ≡ n ∷ behind → drop at (paths_of nodes) ≡ path ∷ paths
+    → tree_of_kind path n.kind (within n.level behind) ≡ Some tree → Some tree ≡ tree_at nodes at
+tree_here nodes at path paths n behind tree here paths_are is = sym (ap₂ tree_of_first paths_are here ∙ is)
+
+-- what was found among the nodes before a place, where these are left, and these names lead to the
+-- last of them
+pub record AreFound (nodes : List PlanNode) (c : CommandValue) (at : ℕ) (left : List PlanNode) (names : List (Bor (List ℕ)))
+    (found : FoundTrees) : Type 0 where
+  pub here : drop at (nodes_shown nodes) ≡ nodes_shown left
+  pub paths : drop at (paths_of (nodes_shown nodes)) ≡ paths_behind (map (λ s. s.now) names) (nodes_shown left)
+  pub may_be : list_all (may_be_made (nodes_shown nodes) c) found.places.items ≡ true
+  pub trees : map (λ t. Some (tree_shown t)) found.trees.items ≡ map (tree_at (nodes_shown nodes)) found.places.items
+
+pub found_none : (nodes : List PlanNode) (c : CommandValue) (names : List (Bor (List ℕ))) (found : FoundTrees) → names ≡ []
+    → found.places.items ≡ [] → found.trees.items ≡ [] → AreFound nodes c 0 nodes names found
+found_none nodes c names found names_are places_are trees_are = record {
+  here = refl;
+  paths = ap (λ (ns : List (Bor (List ℕ))). paths_behind (map (λ s. s.now) ns) (nodes_shown nodes)) (sym names_are);
+  may_be = ap (list_all (may_be_made (nodes_shown nodes) c)) places_are;
+  trees = ap (map (λ t. Some (tree_shown t))) trees_are ∙ sym (ap (map (tree_at (nodes_shown nodes))) places_are);
+}
+
+more_may : (p : ℕ → Bool) (places now : List ℕ) (at : ℕ) (tree : Option InputTree)
+    → now ≡ places ++ option_to_list (option_map (λ t. at) tree) → list_all p places ≡ true → IfSome tree (λ t. p at ≡ true)
+    → list_all p now ≡ true
+more_may p places now at None is were this = ap (list_all p) (is ∙ append-nil places) ∙ were
+more_may p places now at (Some t) is were this =
+    ap (list_all p) is ∙ list_all-append p places (at ∷ []) ∙ ap₂ (λ a b. a && (b && true)) were this
+
+more_trees : {B : Type 0} (f : InputTree → B) (g : ℕ → B) (trees now : List InputTree) (places then : List ℕ) (at : ℕ)
+    (tree : Option InputTree) → then ≡ places ++ option_to_list (option_map (λ t. at) tree) → now ≡ trees ++ option_to_list tree
+    → map f trees ≡ map g places → IfSome tree (λ t. f t ≡ g at) → map f now ≡ map g then
+more_trees f g trees now places then at None then_is now_is were this =
+    ap (map f) (now_is ∙ append-nil trees) ∙ were ∙ sym (ap (map g) (then_is ∙ append-nil places))
+more_trees f g trees now places then at (Some t) then_is now_is were this =
+    ap (map f) now_is ∙ map-append f trees (t ∷ []) ∙ ap₂ (λ a b. a ++ b ∷ []) were this
+    ∙ sym (map-append g places (at ∷ [])) ∙ sym (ap (map g) then_is)
+
+pub found_more : (nodes : List PlanNode) (c : CommandValue) (at : ℕ) (left rest : List PlanNode) (first : PlanNode)
+    (before cut now shown : List (Bor (List ℕ))) (name : Bor (List ℕ)) (k : ℕ) (place : List ℕ) (outputs : List (List ℕ))
+    (found then : FoundTrees) (tree : Option InputTree)
+    → AreFound nodes c at left before found → left ≡ first ∷ rest
+    → now ≡ cut ++ name ∷ [] → cut ≡ take k before → k ≡ first.level - 1 → name.now ≡ rc_str_bytes first.name → shown ≡ now
+    → place ≡ slashed c.working_directory → outputs ≡ map slashed (output_paths c)
+    → IfSome tree (λ t. is_large (node_shown first).kind (within first.level (nodes_shown rest)) ≡ true)
+    → IfSome tree (λ t. is_free_of place outputs (slashed (path_text (map (λ s. s.now) shown))) ≡ true)
+    → IfSome tree (λ t. tree_of_kind (map (λ s. s.now) shown) (node_shown first).kind (within first.level (nodes_shown rest))
+    ≡ Some (tree_shown t))
+    → then.places.items ≡ found.places.items ++ option_to_list (option_map (λ t. at) tree)
+    → then.trees.items ≡ found.trees.items ++ option_to_list tree → AreFound nodes c (at + 1) rest now then
+found_more nodes c at left rest first before cut now shown name k place outputs found then tree are left_is push trunc k_is named shown_is
+    place_is outputs_is large free asked places_are trees_are =
+    let n : PlanNodeValue = node_shown first in
+    let behind : List PlanNodeValue = nodes_shown rest in
+    let path : Path = map (λ s. s.now) now in
+    let here : drop at (nodes_shown nodes) ≡ n ∷ behind = are.here ∙ ap nodes_shown left_is in
+    let path_is : path ≡ path_behind (map (λ s. s.now) before) n =
+    names_behind (λ (s : Bor (List ℕ)). s.now) before cut now name k n push trunc k_is named in
+    let paths : drop at (paths_of (nodes_shown nodes)) ≡ path ∷ paths_behind path behind =
+    are.paths ∙ ap (paths_behind (map (λ s. s.now) before)) (ap nodes_shown left_is) ∙ ap (λ p. p ∷ paths_behind p behind) (sym path_is) in
+    record {
+      here = drop_more at (nodes_shown nodes) n behind here;
+      paths = drop_more at (paths_of (nodes_shown nodes)) path (paths_behind path behind) paths;
+      may_be = more_may (may_be_made (nodes_shown nodes) c) found.places.items then.places.items at tree places_are are.may_be
+          (may tree large free here paths path_is);
+      trees = more_trees (λ t. Some (tree_shown t)) (tree_at (nodes_shown nodes)) found.trees.items then.trees.items
+          found.places.items then.places.items at tree places_are trees_are are.trees (asks tree asked here paths);
+    } where
+      may : (tree : Option InputTree)
+          → IfSome tree (λ t. is_large (node_shown first).kind (within first.level (nodes_shown rest)) ≡ true)
+          → IfSome tree (λ t. is_free_of place outputs (slashed (path_text (map (λ s. s.now) shown))) ≡ true)
+          → drop at (nodes_shown nodes) ≡ node_shown first ∷ nodes_shown rest
+          → drop at (paths_of (nodes_shown nodes)) ≡ map (λ s. s.now) now ∷ paths_behind (map (λ s. s.now) now) (nodes_shown rest)
+          → map (λ s. s.now) now ≡ path_behind (map (λ s. s.now) before) (node_shown first)
+          → IfSome tree (λ t. may_be_made (nodes_shown nodes) c at ≡ true)
+      may None large free here paths path_is = tt
+      may (Some t) large free here paths path_is =
+          may_here (nodes_shown nodes) c at (map (λ s. s.now) now) _ (node_shown first) (nodes_shown rest) here paths large
+          (ap₂ (λ p os. is_free_of p os (slashed (path_text (map (λ s. s.now) now)))) (sym place_is) (sym outputs_is)
+          ∙ ap (λ ns. is_free_of place outputs (slashed (path_text (map (λ s. s.now) ns)))) (sym shown_is) ∙ free)
+
+      asks : (tree : Option InputTree)
+          → IfSome tree (λ t. tree_of_kind (map (λ s. s.now) shown) (node_shown first).kind (within first.level (nodes_shown rest))
+          ≡ Some (tree_shown t))
+          → drop at (nodes_shown nodes) ≡ node_shown first ∷ nodes_shown rest
+          → drop at (paths_of (nodes_shown nodes)) ≡ map (λ s. s.now) now ∷ paths_behind (map (λ s. s.now) now) (nodes_shown rest)
+          → IfSome tree (λ t. Some (tree_shown t) ≡ tree_at (nodes_shown nodes) at)
+      asks None asked here paths = tt
+      asks (Some t) asked here paths =
+          tree_here (nodes_shown nodes) at (map (λ s. s.now) now) _ (node_shown first) (nodes_shown rest) (tree_shown t) here paths
+          (ap (λ ns. tree_of_kind (map (λ s. s.now) ns) (node_shown first).kind (within first.level (nodes_shown rest))) (sym shown_is) ∙ asked)
+
+-- ---- marks
+
+set_marks : (made : List Bool) (place at : ℕ) → get_or (slice_set made place true) at false ≡ true →
+    (at ≡ place) ⊎ (get_or made at false ≡ true)
+set_marks [] place at is = inr is
+set_marks (b ∷ made) zero zero is = inl refl
+set_marks (b ∷ made) zero (suc at) is = inr is
+set_marks (b ∷ made) (suc place) zero is = inr is
+set_marks (b ∷ made) (suc place) (suc at) is = go (set_marks made place at is) where
+  go : (at ≡ place) ⊎ (get_or made at false ≡ true) → (suc at ≡ suc place) ⊎ (get_or made at false ≡ true)
+  go (inl same) = inl (ap suc same)
+  go (inr was) = inr was
+
+both : (a b : Bool) → (a && b) ≡ true → (a ≡ true) × (b ≡ true)
+both true b e = (refl, e)
+both false b e = absurd (not_both false refl e)
+
+-- the marks stand at places that are among these, of which these are left
+abbrev pub AreMarks : List ℕ → List ℕ → List Bool → Type 0
+AreMarks places left made =
+    (may : ℕ → Bool) → list_all may places ≡ true
+    → (list_all may left ≡ true) × ((at : ℕ) → get_or made at false ≡ true → may at ≡ true)
+
+pub first_number : (xs : List ℕ) → get_or xs 0 0 ≡ get_or xs 0 (get_or xs 0 0)
+first_number [] = refl
+first_number (x ∷ xs) = refl
+
+pub marks_more : (places left rest : List ℕ) (place : ℕ) (made now : List Bool) → AreMarks places left made → left ≡ place ∷ rest →
+    now ≡ slice_set made place true → AreMarks places rest now
+marks_more places left rest place made now are left_is now_is may all =
+    let were = are may all in
+    let two : (may place ≡ true) × (list_all may rest ≡ true) = both (may place) (list_all may rest) (sym (ap (list_all may) left_is) ∙ were.0) in
+    (two.1, λ at is. go at two.0 were.1 (set_marks made place at (ap (λ m. get_or m at false) (sym now_is) ∙ is))) where
+      go : (at : ℕ) → may place ≡ true → ((at : ℕ) → get_or made at false ≡ true → may at ≡ true)
+          → (at ≡ place) ⊎ (get_or made at false ≡ true) → may at ≡ true
+      go at this were (inl same) = ap may same ∙ this
+      go at this were (inr was) = were at was

@@ -1,0 +1,127 @@
+//! The begin of a job's run.
+
+ghost use Rattle.std.specs.Prelude.{◌≡◌, ℕ, Bool, true, false, get_or, slice_set, IfOk, OnErr, OnOk};
+ghost use Rattle.std.specs.List.{list_all};
+ghost use Rattle.actions.specs.Shown.{nodes_shown};
+ghost use Rattle.execution_messages.specs.Actions.{command_shown};
+ghost use Rattle.server_core.specs.Lent.{lent_shown};
+ghost use Rattle.job_runs.specs.Made.{may_be_made};
+ghost use Rattle.job_runs.specs.Runs.{IsBegun};
+
+use crate::commands::command_for;
+use crate::tasks::task_with;
+use crate::trees::find_trees;
+use actions::PlanNode;
+use execution::read_task;
+use execution_messages::Command as CommandMessage;
+use run_calls::{Folder, Programs, RunKey};
+use runner::Runner;
+use server_core::LentTask;
+use std::alloc::{AllocError, Global};
+
+/// Marks a place, where it is there.
+fn mark(made: &mut Vec<bool>, at: usize)
+    ensures { made.new.items ≡ slice_set made.old.items at true }
+{
+    if at < made.len() {
+        made[at] = true;
+    }
+}
+
+/// So many places, of which those among these are marked that are bound.
+fn marked(
+    alloc: Global,
+    count: usize,
+    places: &[usize],
+    are_bound: &[bool],
+) -> Result<Vec<bool>, AllocError>
+    ensures { IfOk result (λ made. (may : ℕ → Bool) → list_all may places.now ≡ true
+        → (at : ℕ) → get_or made.items at false ≡ true → may at ≡ true) }
+{
+    let mut made = vec![in alloc; false; count]?;
+    let mut left = places;
+    let mut bound_left = are_bound;
+    while let [place, places_behind @ ..] = left {
+        let [is_bound, bound_behind @ ..] = bound_left else {
+            return Ok(made);
+        };
+        if *is_bound {
+            mark(&mut made, *place);
+        }
+        left = places_behind;
+        bound_left = bound_behind;
+    }
+    Ok(made)
+}
+
+/// At which places of a plan directories stand that were made before, and are kept for a run from
+/// now on. There is none beyond the last.
+///
+/// Err: a request for memory was refused.
+fn claimed<F: Folder + Drop, P: Programs + Drop>(
+    alloc: Global,
+    runner: &mut Runner<F, P>,
+    run: RunKey,
+    nodes: &[PlanNode],
+    command: &CommandMessage<'_>,
+) -> Result<Vec<bool>, AllocError>
+    ensures may_be { IfOk result (λ made. (at : ℕ) → get_or made.items at false ≡ true
+        → may_be_made (nodes_shown nodes.now) (command_shown command.now) at ≡ true) }
+    ensures runs { runner.new.runs ≡ runner.old.runs }
+    ensures programs { runner.new.programs ≡ runner.old.programs }
+    ensures asked { F.asked runner.new.folder ≡ F.asked runner.old.folder }
+    ensures failures { F.failures runner.new.folder ≡ F.failures runner.old.folder }
+{
+    let found = find_trees(alloc, nodes, command)?;
+    if found.trees.is_empty() {
+        return Ok(Vec::new(alloc));
+    }
+    let are_bound = runner.claim(run, &found.trees)?;
+    marked(alloc, nodes.len(), &found.places, &are_bound)
+}
+
+/// Begins the run of a job. Where memory is refused, what was claimed for it may stay so.
+fn begin_claimed<F: Folder + Drop, P: Programs + Drop>(
+    alloc: Global,
+    runner: &mut Runner<F, P>,
+    run: RunKey,
+    task: LentTask<'_>,
+) -> Result<(), AllocError>
+    ensures begun { OnOk result (IsBegun run (lent_shown task.entry)
+        runner.old.runs.items runner.new.runs.items) }
+    ensures refused { OnErr result (runner.new.runs.items ≡ runner.old.runs.items) }
+    ensures programs { runner.new.programs ≡ runner.old.programs }
+    ensures asked { F.asked runner.new.folder ≡ F.asked runner.old.folder }
+    ensures failures { F.failures runner.new.folder ≡ F.failures runner.old.folder }
+{
+    let read = read_task(alloc, task.pool, task.task)?;
+    let command = command_for(alloc, &read.command)?;
+    let made = claimed(alloc, runner, run, &read.plan.nodes, &command)?;
+    let made_task = task_with(alloc, &task.task.texts, &read, &command, &made)?;
+    runner.start(run.instance, run.job, made_task)
+}
+
+/// Begins the run of a job: of its command, in the tree of its plan. Where the task's text spells
+/// no command that is taken, nothing is asked for. Of the directories that may be made once for
+/// many runs, those are taken as they were made that the folders keep for it.
+///
+/// Err: a request for memory was refused, and nothing is kept for it.
+pub(crate) fn begin<F: Folder + Drop, P: Programs + Drop>(
+    alloc: Global,
+    runner: &mut Runner<F, P>,
+    run: RunKey,
+    task: LentTask<'_>,
+) -> Result<(), AllocError>
+    ensures begun { OnOk result (IsBegun run (lent_shown task.entry)
+        runner.old.runs.items runner.new.runs.items) }
+    ensures refused { OnErr result (runner.new.runs.items ≡ runner.old.runs.items) }
+    ensures programs { runner.new.programs ≡ runner.old.programs }
+    ensures asked { F.asked runner.new.folder ≡ F.asked runner.old.folder }
+    ensures failures { F.failures runner.new.folder ≡ F.failures runner.old.folder }
+{
+    let begun = begin_claimed(alloc, runner, run, task);
+    if begun.is_err() {
+        runner.forget(run);
+    }
+    begun
+}

@@ -1,0 +1,3 @@
+pub mod Trees
+pub mod Stages
+pub mod Claims

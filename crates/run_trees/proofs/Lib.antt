@@ -1,0 +1,4 @@
+pub mod AnySite
+mod Claimed
+mod OfInstances
+mod Others

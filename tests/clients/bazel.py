@@ -73,9 +73,9 @@ class Counts:
 class Bazel:
     """Bazel with an output base of its own in a workspace. Its server ends with `with`."""
 
-    def __init__(self, folder, workspace, base):
-        self.workspace = workspace
-        self.words = ["bazel", f"--output_user_root={folder}/root", f"--output_base={folder}/{base}"]
+    def __init__(self, folder, workspace, base, program="bazel"):
+        self.workspace, self.base = workspace, os.path.join(folder, base)
+        self.words = [program, f"--output_user_root={folder}/root", f"--output_base={folder}/{base}"]
         self.words += ["--nohome_rc", "--noworkspace_rc", "--max_idle_secs=60", "--local_startup_timeout_secs=600"]
 
     def __enter__(self):
@@ -89,6 +89,14 @@ class Bazel:
         words = [*self.words, word, "--color=no", "--curses=no", *flags]
         done = subprocess.run(words, cwd=self.workspace, capture_output=True, text=True, timeout=seconds)
         return done.returncode, done.stdout + done.stderr
+
+    def processor_seconds(self):
+        """What its server took of the processors, and all that this has started and that has ended."""
+        with open(os.path.join(self.base, "server", "server.pid.txt")) as file:
+            number = file.read().strip()
+        with open(f"/proc/{number}/stat") as stat:
+            words = stat.read().rpartition(")")[2].split()
+        return sum(map(int, words[11:15])) / os.sysconf("SC_CLK_TCK")
 
     def outputs(self):
         return os.path.realpath(os.path.join(self.workspace, "bazel-bin"))

@@ -1,6 +1,6 @@
 #!/usr/bin/env python3
-"""bazel_execution.py PROGRAM [--slots N] [--jobs N] [--seconds N] [--launcher L | --slurm] [--keep]:
-Bazel has a server build its actions.
+"""bazel_execution.py PROGRAM [--slots N] [--jobs N] [--seconds N] [--launcher L | --sandbox | --slurm | --slurm-sandbox]
+[--made-trees SIZE] [--keep]: Bazel has a server build its actions.
 
 PROGRAM is the built `remoted`. A workspace of some 200 actions is made: C++ libraries and programs that are compiled,
 linked and run, genrules (over one another, over directories, over 2,000 files, with outputs of 20 MB), rules whose
@@ -10,13 +10,13 @@ output is a directory, and tests that pass, fail, time out and leave programs be
   2. with `--remote_executor`, all by the server, and what it makes is the same, byte for byte;
   3. again from another output base: each action that ended well comes from the cache;
   4. against another instance, broken off in its midst: no program goes on, and then to its end.
-With --slurm actions run on a cluster of two nodes that is made for it (slurm_cluster.py says what that needs), and
-the programs that tests leave are not looked for. Then no process and no folder of the server's is left. A line for each; it ends with status 1 at the first that is not
-as said, and after N seconds (600).
+Programs are started by the launcher L, by `launchers/sandbox` (--sandbox), on a cluster of two nodes that is made for it
+(--slurm; slurm_cluster.py says what that needs), where the programs that tests leave are not looked for, or there in a
+sandbox (--slurm-sandbox). With --made-trees the server has trees, too. Then no process and no folder of the server's is
+left. A line for each; it ends with status 1 at the first that is not as said, and after N seconds (600).
 """
 
 import argparse
-import contextlib
 import os
 import shutil
 import signal
@@ -25,9 +25,9 @@ import tempfile
 import time
 
 import programs
+import ways
 from bazel import DIRECTORY_RULE, STUBS, Bazel, Counts, contents, make_files, overrides
-from server import Server
-from slurm_cluster import Cluster, launcher
+from server import Server, is_tree
 
 LIBRARIES, PROGRAMS, RULES, TREES = 24, 8, 56, 10
 PASSING, FAILING, SLOW, LEAVING = 5, 3, 2, 3
@@ -163,14 +163,7 @@ def broken_off(options, bazel, given, server):
     expect(not left, f"programs go on: {left}")
 
 
-@contextlib.contextmanager
-def cluster_launcher(folder):
-    """What starts actions on a cluster of two nodes, which is there meanwhile."""
-    with Cluster(folder) as cluster:
-        yield launcher(cluster, folder)
-
-
-def build_all(folder, options, started_by):
+def build_all(folder, options, way):
     make_files(os.path.join(folder, "stubs"), STUBS)
     for copy in ("here", "one", "two", "three"):
         make_files(os.path.join(folder, copy), workspace())
@@ -181,7 +174,8 @@ def build_all(folder, options, started_by):
         [("main", 2 * 10**9, options.slots), ("other", 2 * 10**9, options.slots)],
         2**62,
         heard=True,
-        launcher=started_by,
+        launcher=way.launcher,
+        extra=way.extra,
     ) as server:
         main, other = server.ports
         with Bazel(folder, os.path.join(folder, "here"), "base-here") as bazel:
@@ -214,7 +208,8 @@ def build_all(folder, options, started_by):
         expect(not running, f"programs are left: {running}")
         if time.monotonic() - begun > 1:
             print(f"note: the last program ended {time.monotonic() - begun:.1f} s after Bazel did", flush=True)
-        expect(not programs.settled(server.entries), f"folders are left: {server.entries()}")
+        folders = programs.settled(lambda: [name for name in server.entries() if not is_tree(name)])
+        expect(not folders, f"folders are left: {folders}")
         expect(not programs.settled(lambda: programs.zombies(server.process.pid)), "zombies are left")
         expect(not server.said(), f"on standard error: {server.said()[:10]}")
         cpu, peak = server.cpu_seconds(), server.peak_megabytes()
@@ -230,15 +225,15 @@ def main():
     parser.add_argument("--slots", type=int, default=os.cpu_count())
     parser.add_argument("--jobs", type=int, default=20)
     parser.add_argument("--seconds", type=int, default=600)
-    parser.add_argument("--launcher")
-    parser.add_argument("--slurm", action="store_true")
+    ways.add_ways(parser)
+    ways.add_made_trees(parser)
     parser.add_argument("--keep", action="store_true")
     options = parser.parse_args()
     folder = tempfile.mkdtemp(prefix="bazel-execution-")
-    by_slurm = cluster_launcher(tempfile.mkdtemp(dir=folder)) if options.slurm else None
+    os.chmod(folder, 0o755)
     try:
-        with by_slurm or contextlib.nullcontext(options.launcher) as started_by:
-            build_all(folder, options, started_by)
+        with ways.made(options, folder) as way:
+            build_all(folder, options, way)
     except subprocess.TimeoutExpired:
         raise SystemExit(f"FAULT it takes longer than {options.seconds} seconds")
     finally:

@@ -21,14 +21,14 @@ def shell(script, **more):
 
 
 class Context:
-    """A server, what it is to say on standard error, and what stays in its folder."""
+    """A server, what it is to say on standard error, what stays in its folder, and a factor for all limits of time."""
 
-    def __init__(self, server, kept):
-        self.server, self.kept, self.lines = server, kept, []
+    def __init__(self, server, kept, slow=1.0):
+        self.server, self.kept, self.lines, self.slow = server, kept, [], slow
         self.descriptors = server.descriptors()
 
     def peer(self, instance=0):
-        return Peer(self.server.ports[instance])
+        return Peer(self.server.ports[instance], 120 * self.slow)
 
     def action(self, words, variables=(PATH,), **more):
         """An action whose processes can be told by a variable."""
@@ -59,6 +59,6 @@ class Context:
         if word:
             line = f"remoted: run {name} {done.name.rpartition('/')[2]} failed: {word}"
             self.lines.append(line)
-            programs.settled(lambda: line not in self.server.said(), 2)
+            programs.settled(lambda: line not in self.server.said(), 2 * self.slow)
             # What is counted may be told behind it.
             expect(line in self.server.said()[-2:], True, f"on standard error: {self.server.said()[-2:]}")

@@ -161,8 +161,8 @@ def timeouts(c):
         done = peer.operations(number)[-1]
         passed = time.monotonic() - begun
         expect((done.status.code, done.status.text, done.result), (4, "timed out", None), "after a second")
-        expect(0.8 < passed < 4, True, f"a timeout of a second took {passed:.2f} s")
-        expect(programs.settled(lambda: marked(c), 5), {}, "processes that are left")
+        expect(0.8 < passed < 4 * c.slow, True, f"a timeout of a second took {passed:.2f} s")
+        expect(programs.settled(lambda: marked(c), 5 * c.slow), {}, "processes that are left")
         tree = {f"f{number}": b"%d" % number for number in range(5_000)}
         done = peer.execute(c.action(shell("sleep 1000", nanos=1_000_000), tree=tree))
         expect((done.status.code, done.status.text), (4, "timed out"), "a millisecond")
@@ -181,13 +181,13 @@ def leftovers_of_programs(c):
             "with a tree of children",
         )
         passed = time.monotonic() - begun
-        expect(passed < 10, True, f"three runs took {passed:.1f} s")
-        expect(programs.settled(lambda: marked(c), 5), {}, "processes that are left")
+        expect(passed < 10 * c.slow, True, f"three runs took {passed:.1f} s")
+        expect(programs.settled(lambda: marked(c), 5 * c.slow), {}, "processes that are left")
         writers = "(while :; do echo more >> o; done) & mkdir t; (while :; do echo x > t/$((n=n+1)); done) & sleep 0.3"
         result = c.ran(peer, shell(writers, paths=["o", "t"])).result
         text = peer.text(result.files["o"][0])
         expect(m.digest(text), result.files["o"][0], "an output that a child still writes")
-        expect(programs.settled(lambda: marked(c), 5), {}, "writers that are left")
+        expect(programs.settled(lambda: marked(c), 5 * c.slow), {}, "writers that are left")
     return "children that outlive their program, also with its streams open, are killed and hold nothing up"
 
 
@@ -195,7 +195,7 @@ def own_groups(c):
     with c.peer() as peer:
         expect(c.said(peer, shell("timeout 1000 sleep 999 & sleep 0.2; printf abc")), b"abc", "beside `timeout`")
         expect(
-            programs.settled(lambda: marked(c), 5), {}, "a child in a process group of its own, by `timeout`, is left"
+            programs.settled(lambda: marked(c), 5 * c.slow), {}, "a child in a process group of its own, by `timeout`, is left"
         )
         expect(
             c.said(peer, c.action(["/bin/bash", "-c", "set -m; sleep 998 & sleep 0.1; printf abc"])),
@@ -203,7 +203,7 @@ def own_groups(c):
             "job control",
         )
         expect(
-            programs.settled(lambda: marked(c), 5), {}, "a child in a process group of its own, by job control, is left"
+            programs.settled(lambda: marked(c), 5 * c.slow), {}, "a child in a process group of its own, by job control, is left"
         )
     return "children in process groups of their own are killed too"
 
@@ -295,7 +295,7 @@ def cut(c):
     second.socket.setsockopt(socket.SOL_SOCKET, socket.SO_LINGER, struct.pack("ii", 1, 0))
     second.close()
     with c.peer() as third:
-        end = time.monotonic() + 10
+        end = time.monotonic() + 10 * c.slow
         while time.monotonic() < end and None in (third.cached(action), third.cached(reset)):
             time.sleep(0.1)
         expect(
@@ -364,12 +364,12 @@ def rights(c):
         c.ran(peer, shell("mkdir -p d/e; echo > d/e/f; chmod 0 d/e; chmod 0 d; chmod 500 ."))
         c.ran(peer, shell("mkdir d; echo > d/f; chmod 500 d"))
         stray = lambda: [name for name in c.server.entries() if name not in c.kept]
-        expect(programs.settled(stray), [], "folders without rights")
+        expect(programs.settled(stray, 10 * c.slow), [], "folders without rights")
         c.failed(peer, shell("mkdir t; echo > t/f; chmod 0 t", paths=["t"]), "folder")
         c.failed(peer, shell("echo > f; chmod 0 f", paths=["f"]), "folder")
         told = c.said(peer, c.action(shell("id -u; ./run"), tree={"run": Executable(b"#!/bin/sh\nprintf run")}))
         expect(told, b"65534\nrun", "the user")
-        expect(programs.settled(stray), [], "folders")
+        expect(programs.settled(stray, 10 * c.slow), [], "folders")
     return (
         "programs are the server's user's; folders without rights are removed; an output that may not be read: `folder`"
     )

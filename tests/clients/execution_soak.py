@@ -1,15 +1,19 @@
 #!/usr/bin/env python3
-"""execution_soak.py PROGRAM [SECONDS] [--seed N] [--megabytes N]: random actions, cut connections and a full disk.
+"""execution_soak.py PROGRAM [SECONDS] [--launcher L | --sandbox | --slurm | --slurm-sandbox] [--made-trees SIZE] [--plain]
+[--seed N] [--megabytes N] [--slow FACTOR]: random actions, cut connections and a full disk.
 
 PROGRAM is the built `remoted`. For SECONDS (600) six clients of one instance have random actions executed: with trees
 and outputs that fill the disk and its inodes, programs that are not there, that run into their timeout, that leave
 children, FIFOs, links and folders without rights behind. They wait, or reset the call, or cut or reset the connection.
 Beside them another instance's client has its own small actions run, and blobs stored and read, and each answer of these
 has to be right, or 13 `run failed` where the disk was full. The folder of `--work` is a file system in memory of N
-megabytes (48) where the system lets one be mounted; else it is a plain folder, and the disk is never full.
+megabytes (48) where the system lets one be mounted; else it is a plain folder, and the disk is never full. With
+--made-trees most actions have one of a few directories that are made trees, which take so much of the disk at most: some
+try to change it, and the other instance's client reads all of its own. With --plain, which root can give, the server is
+a plain user's.
 Then no process, folder or descriptor may be left, all slots are free, the lines on standard error are of the one kind,
 and the server has as much memory as after a fifth of the time: nothing of all the jobs' texts is held. A line for each;
-it ends with status 1 at the first that is not as said.
+it ends with status 1 at the first that is not as said. --slow stretches all limits of time.
 """
 
 import argparse
@@ -27,14 +31,20 @@ import time
 
 import messages as m
 import programs
+import ways
 from executing import PATH, Action, Executable, Link, Operation, Peer
+from made_tree_stages import flat
 from raw import frame
-from server import Server
+from server import Server, is_tree
 
 SLOTS, QUOTA, CLIENTS = 6, 60_000_000, 6
+# A number of a user for --plain.
+PLAIN = 61_779
+# Directories that are made trees: so many different ones, each of so many files.
+TREES, FILES = 5, 100
 # Everything ends by its timeout within so many seconds.
 LONGEST = 4
-LINE = re.compile(r"remoted: run (wild|calm) [1-9]\d* failed: (folder|start|too large|memory)")
+LINE = re.compile(r"remoted: run (wild|calm) [1-9]\d* failed: (folder|start|launcher|too large|memory)")
 # The quota is small, so what it drops was used a moment ago; clients are cut off, and lines are ten a second.
 OF_OPERATORS = re.compile(r"remoted: (wild|calm): .+|remoted: \d+ lines were dropped|remoted: failed runs .+")
 
@@ -61,14 +71,21 @@ SCRIPTS = [
     "mkdir ../0-{next} 2>/dev/null; exit 1",
     "rm -rf ../$(basename $PWD); exit 0",
 ]
+OF_TREES = [
+    "cat lib/* | cksum",
+    "cat lib/* > o; rm -rf lib; mv lib t; echo more >> lib/f1; mkdir -p lib/o; chmod 0 lib lib/f1; printf abc",
+    "cd lib && sleep 1000 & (while :; do cat lib/*; done) > o & sleep 0.{short}",
+    "sleep 1000 < lib/f1 & cp -r lib t; mkdir u; mv u lib; ln -s lib l",
+]
 
 
 class Wild:
     """A client that has random actions executed, and leaves them as it likes."""
 
-    def __init__(self, port, folder, seed, counts):
-        self.port, self.folder, self.counts = port, folder, counts
+    def __init__(self, options, port, folder, seed, counts):
+        self.options, self.port, self.folder, self.counts = options, port, folder, counts
         self.dice, self.peer = random.Random(seed), None
+        self.scripts = [*SCRIPTS, *(OF_TREES if options.made_trees else [])]
 
     def action(self):
         dice = self.dice
@@ -77,10 +94,12 @@ class Wild:
             tree["in"] |= {f"f{number}": b"%d" % number for number in range(dice.choice([100, 2_000]))}
         if dice.random() < 0.05:
             tree["large"] = dice.randbytes(30_000_000 if dice.random() < 0.3 else 5_000_000)
+        if self.options.made_trees and dice.random() < 0.8:
+            tree["lib"] = flat(dice.randrange(TREES), FILES)
         words = [
             "/bin/sh",
             "-c",
-            dice.choice(SCRIPTS).format(
+            dice.choice(self.scripts).format(
                 size=dice.choice([1000, 70_000, 3_000_000, 60_000_000]),
                 files=dice.choice([10, 500, 20_000]),
                 short=dice.randrange(10),
@@ -111,7 +130,7 @@ class Wild:
 
     def once(self):
         if self.peer is None:
-            self.peer = Peer(self.port, 60)
+            self.peer = Peer(self.port, 60 * self.options.slow)
         peer, dice = self.peer, self.dice
         started = [peer.start(self.action(), skip=dice.random() < 0.8) for _ in range(dice.choice([1, 1, 1, 3]))]
         end = dice.random()
@@ -141,13 +160,15 @@ class Wild:
 class Calm:
     """A client that compares each answer with the right one."""
 
-    def __init__(self, port, folder, counts, problems):
-        self.port, self.folder, self.counts, self.problems = port, folder, counts, problems
+    def __init__(self, options, port, folder, counts, problems):
+        self.options, self.port, self.folder, self.counts, self.problems = options, port, folder, counts, problems
+        self.lib = flat("calm", FILES) if options.made_trees else {"f": b""}
+        self.whole = b"".join(self.lib[name] for name in sorted(self.lib))
 
     def go(self, is_over):
         dice, number = random.Random(7), 0
         try:
-            with Peer(self.port, 60) as peer:
+            with Peer(self.port, 60 * self.options.slow) as peer:
                 while not is_over.is_set():
                     number += 1
                     self.blobs(peer, dice)
@@ -166,26 +187,27 @@ class Calm:
         self.counts["calm calls"] += 3
 
     def action(self, peer, number):
-        tree = {"f": b"%d" % number}
+        tree = {"f": b"%d" % number, "lib": self.lib}
         # on a full disk it ends with 1 or 2
         code = number % 3 * 40
-        script = f"set -e; cat f; printf {number} > o; exit {code}"
+        script = f"set -e; cat f; cat lib/* > o; printf {number} >> o; exit {code}"
         action = Action(["/bin/sh", "-c", script], tree, LONGEST, paths=["o"], variables=[PATH, ("MARK", self.folder)])
         done = peer.execute(action)
         if done.status.code in (4, 13) or (done.result and done.result.code in (1, 2)):
             self.counts["calm actions that failed on the full disk"] += 1
             return
-        digest = m.digest(b"%d" % number)
+        text = b"%d" % number
         found = done.result and (done.result.code, done.result.stdout, done.result.files)
-        if found != (code, digest, {"o": (digest, False)}):
+        if found != (code, m.digest(text), {"o": (m.digest(self.whole + text), False)}):
             self.problems.append(f"action {number}: {done.status.code} {done.status.text} {found}")
         self.counts["calm actions"] += 1
 
 
-def soak(server, seconds, seed, counts):
+def soak(server, options, share, counts):
     is_over, problems = threading.Event(), []
-    clients = [Wild(server.ports[0], server.folder, seed * 100 + place, counts) for place in range(CLIENTS)]
-    clients.append(Calm(server.ports[1], server.folder, counts, problems))
+    seed, seconds = options.seed + int(share * 10), options.seconds * share
+    clients = [Wild(options, server.ports[0], server.folder, seed * 100 + place, counts) for place in range(CLIENTS)]
+    clients.append(Calm(options, server.ports[1], server.folder, counts, problems))
     threads = [threading.Thread(target=each.go, args=(is_over,)) for each in clients]
     for each in threads:
         each.start()
@@ -201,18 +223,19 @@ def soak(server, seconds, seed, counts):
         )
 
 
-def settled(server, made):
+def settled(server, slow, made):
     """Waits until all has ended, and looks at what is left."""
-    left = programs.settled(lambda: programs.running(server.folder, server.process.pid), LONGEST + 20)
+    left = programs.settled(lambda: programs.running(server.folder, server.process.pid), (LONGEST + 20) * slow)
     if left:
         raise SystemExit(f"FAULT programs are left: {left}")
     # an action makes folders of runs to come, which are then not the server's
-    stray = programs.settled(lambda: [name for name in server.entries() if not is_made(server, name)], 20)
+    names = lambda: [name for name in server.entries() if not is_tree(name)]
+    stray = programs.settled(lambda: [name for name in names() if not is_made(server, name)], 20 * slow)
     if stray:
         raise SystemExit(f"FAULT folders are left: {stray[:10]}")
-    for name in server.entries():
+    for name in names():
         os.rmdir(os.path.join(server.start(), name))
-    zombies = programs.settled(lambda: programs.zombies(server.process.pid))
+    zombies = programs.settled(lambda: programs.zombies(server.process.pid), 10 * slow)
     if zombies:
         raise SystemExit(f"FAULT {len(zombies)} ended programs were not waited for")
     time.sleep(3)
@@ -230,21 +253,21 @@ def is_made(server, name):
     )
 
 
-def filled(server):
+def filled(server, slow):
     """Puts other blobs in the place of all that the instances store."""
     for port in server.ports:
-        with Peer(port) as peer:
+        with Peer(port, 120 * slow) as peer:
             for _ in range(QUOTA // 2_000_000):
                 peer.store([os.urandom(1_990_000)])
 
 
-def slots(server):
+def slots(server, slow):
     """How many actions run at once."""
-    with Peer(server.ports[0]) as peer:
-        script = "date +%s.%N; sleep 0.5; date +%s.%N"
+    with Peer(server.ports[0], 120 * slow) as peer:
+        script = f"date +%s.%N; sleep {0.5 * slow}; date +%s.%N"
         variables = [PATH, ("MARK", server.folder)]
         calls = [
-            peer.start(Action(["/bin/sh", "-c", f": {n}; {script}"], {}, LONGEST * 5, variables=variables))
+            peer.start(Action(["/bin/sh", "-c", f": {n}; {script}"], {}, int(LONGEST * 5 * slow), variables=variables))
             for n in range(3 * SLOTS)
         ]
         spans = [peer.text(peer.operations(number)[-1].result.stdout).decode().split() for number in calls]
@@ -268,15 +291,18 @@ def told(server, counts):
 def run(options, folder, is_small):
     counts, made = collections.Counter(), []
     instances = [("wild", QUOTA, SLOTS), ("calm", QUOTA, 2)]
-    with Server(options.program, instances, 2**62, None, folder, True) as server:
-        filled(server)
+    user = {"user": PLAIN, "group": PLAIN, "extra_groups": []} if options.plain else {}
+    more = {"launcher": options.way.launcher, "extra": options.way.extra, **user}
+    with Server(options.program, instances, 2**62, None, folder, True, **more) as server:
+        filled(server, options.slow)
         for share in [0.2, 0.8]:
-            soak(server, options.seconds * share, options.seed + int(share * 10), counts)
-            settled(server, made)
-            filled(server)
+            soak(server, options, share, counts)
+            settled(server, options.slow, made)
+            filled(server, options.slow)
             made[-1] = (made[-1][0], server.resident_megabytes())
+            trees = [name for name in server.entries() if is_tree(name)]
             print(
-                f"ok after {options.seconds * share:.0f} s no process and no folder is left; "
+                f"ok after {options.seconds * share:.0f} s no process and no folder is left but {len(trees)} of made trees; "
                 f"{made[-1][0]} descriptors, {made[-1][1]:.0f} MB",
                 flush=True,
             )
@@ -285,7 +311,7 @@ def run(options, folder, is_small):
             raise SystemExit(f"FAULT {made[1][0] - made[0][0]} descriptors more")
         if made[1][1] > made[0][1] + 60:
             raise SystemExit(f"FAULT {made[1][1] - made[0][1]:.0f} MB more")
-        at_once = slots(server)
+        at_once = slots(server, options.slow)
         if at_once != SLOTS:
             raise SystemExit(f"FAULT {at_once} of {SLOTS} slots are at work at once")
         print(
@@ -301,9 +327,26 @@ def main():
     parser.add_argument("seconds", type=float, nargs="?", default=600)
     parser.add_argument("--seed", type=int, default=1)
     parser.add_argument("--megabytes", type=int, default=48)
+    parser.add_argument("--plain", action="store_true")
+    parser.add_argument("--slow", type=float, default=1.0, metavar="FACTOR")
+    ways.add_ways(parser)
+    ways.add_made_trees(parser)
     options = parser.parse_args()
+    beside = tempfile.mkdtemp(prefix="execution-soak-way-")
+    os.chmod(beside, 0o755)
+    try:
+        with ways.made(options, beside) as options.way:
+            on_small_disk(options)
+    finally:
+        shutil.rmtree(beside, ignore_errors=True)
+
+
+def on_small_disk(options):
     folder = tempfile.mkdtemp(prefix="execution-soak-")
     size = f"size={options.megabytes}m,nr_inodes=5000,mode=0755"
+    if options.plain:
+        os.chown(folder, PLAIN, PLAIN)
+        size += f",uid={PLAIN},gid={PLAIN}"
     mounted = subprocess.run(["mount", "-t", "tmpfs", "-o", size, "tmpfs", folder], capture_output=True).returncode == 0
     try:
         run(options, folder, mounted)

@@ -1,19 +1,21 @@
 #!/usr/bin/env python3
-"""executions.py PROGRAM [--launcher L | --sandbox | --slurm | --slurm-sandbox] [--large] [--only NAME ..]
-[--skip NAME ..]: has a server run actions, and looks at each answer.
+"""executions.py PROGRAM [--launcher L | --sandbox | --slurm | --slurm-sandbox] [--made-trees SIZE] [--large]
+[--only NAME ..] [--skip NAME ..] [--slow FACTOR]: has a server run actions, and looks at each answer.
 
 PROGRAM is the built `remoted`. A server with some instances runs small shell scripts, whose input trees, outputs,
 streams, codes, timeouts and leftovers are looked at one after another, a line for each thing: `ok`, or `FAULT` with
 what was found. In the end no process, no folder and no descriptor may be left. --large has outputs of 1,073,741,824
 bytes gathered, which takes as much memory. Programs are started by the launcher L, by `launchers/sandbox` (--sandbox),
 on a cluster that is made for it (--slurm; slurm_cluster.py says what that needs), or there in a sandbox
-(--slurm-sandbox); then what looks at the host from within a program is left out. Run as root it starts a second server
-as a plain user. It ends with status 1 where there was a fault.
+(--slurm-sandbox); then what looks at the host from within a program is left out. With --made-trees servers have trees,
+too. Run as root it starts a second server as a plain user. --slow stretches all limits of time. It ends with status 1
+where there was a fault.
 """
 
 import argparse
 import os
 import shutil
+import subprocess
 import sys
 import tempfile
 import threading
@@ -23,12 +25,13 @@ import execution_ends as ends
 import execution_inputs as inputs
 import programs
 import ways
-from executing import Peer
 from execution_context import Context, expect, shell
-from server import Server
+from server import Server, is_tree
 
 INSTANCES = [("main", 2**34, 4), ("other", 10**8, 2), ("small", 20_000, 1), ("off", 1000, 0)]
 NOBODY = 65534
+# In so many seconds 3,000 turns are over even where nothing runs.
+TURNS_SECONDS = 400
 
 OF_INPUTS = [inputs.probed, inputs.printed, inputs.codes, inputs.signals, inputs.not_there, inputs.found, inputs.environment]
 OF_INPUTS += [
@@ -82,15 +85,15 @@ def leftovers(context):
 
 def nothing_left(context):
     server = context.server
-    with Peer(server.ports[0]) as peer:
+    seconds = 10 * context.slow
+    with context.peer() as peer:
         context.ran(peer, shell("printf last"))
-    left = programs.settled(lambda: programs.running(server.folder, server.process.pid))
+    left = programs.settled(lambda: programs.running(server.folder, server.process.pid), seconds)
     expect(left, {}, "running programs")
-    expect(
-        programs.settled(lambda: programs.zombies(server.process.pid)), [], "ended programs that were not waited for"
-    )
-    stray = lambda: [name for name in server.entries() if name not in context.kept]
-    expect(programs.settled(stray), [], "folders")
+    zombies = programs.settled(lambda: programs.zombies(server.process.pid), seconds)
+    expect(zombies, [], "ended programs that were not waited for")
+    stray = lambda: [name for name in server.entries() if name not in context.kept and not is_tree(name)]
+    expect(programs.settled(stray, seconds), [], "folders")
     time.sleep(3)
     more = server.descriptors() - context.descriptors
     # two of each shell that is kept: to end sessions, to open outputs, and to remove the folders of each instance
@@ -139,9 +142,9 @@ def as_root(program, options):
         make_leftovers(program, folder)
     every = [leftovers, *OF_INPUTS, *OF_ENDS, *([ends.largest] if options.large else []), nothing_left]
     try:
-        more = {"launcher": options.launcher, "umask": 0o077}
+        more = {"launcher": options.launcher, "extra": options.extra, "umask": 0o077}
         with Server(program, INSTANCES, 2**62, {"SECRET": "of the server"}, folder, True, **more) as server:
-            return run_all(Context(server, []), every, options)
+            return run_all(Context(server, [], options.slow), every, options)
     finally:
         shutil.rmtree(folder, ignore_errors=True)
 
@@ -151,9 +154,10 @@ def as_nobody(program, options):
     folder = tempfile.mkdtemp(prefix="executions-")
     os.chown(folder, NOBODY, NOBODY)
     try:
-        plain = {"user": NOBODY, "group": NOBODY, "extra_groups": [], "launcher": options.launcher}
-        with Server(program, INSTANCES, 2**62, None, folder, True, **plain) as server:
-            return run_all(Context(server, []), [*PLAIN_USER, nothing_left], options)
+        plain = {"user": NOBODY, "group": NOBODY, "extra_groups": []}
+        more = {"launcher": options.launcher, "extra": options.extra, **plain}
+        with Server(program, INSTANCES, 2**62, None, folder, True, **more) as server:
+            return run_all(Context(server, [], options.slow), [*PLAIN_USER, nothing_left], options)
     finally:
         shutil.rmtree(folder, ignore_errors=True)
 
@@ -162,16 +166,17 @@ def turns_end(program, options):
     """A server that ends after its turns leaves no program and no folder."""
     for turns in [3_000, 20_000, 200_000]:
         folder = tempfile.mkdtemp(prefix="executions-")
-        with Server(program, INSTANCES[:1], turns, None, folder, True, launcher=options.launcher) as server:
-            context = Context(server, [])
+        more = {"launcher": options.launcher, "extra": options.extra}
+        with Server(program, INSTANCES[:1], turns, None, folder, True, **more) as server:
+            context = Context(server, [], options.slow)
             begun = threading.Event()
-            threading.Thread(target=begin_and_wait, args=(server.ports[0], context, begun), daemon=True).start()
-            was_begun = begun.wait(20)
+            threading.Thread(target=begin_and_wait, args=(context, begun), daemon=True).start()
+            was_begun = begun.wait(20 * options.slow)
             try:
-                status = server.process.wait(120)
-            except OSError:
+                status = server.process.wait(TURNS_SECONDS * options.slow)
+            except subprocess.TimeoutExpired:
                 status = None
-            left = programs.settled(lambda: programs.running(folder, server.process.pid), 2)
+            left = programs.settled(lambda: programs.running(folder, server.process.pid), 2 * options.slow)
             entries = server.entries()
         for number in left:
             os.kill(number, 9)
@@ -188,10 +193,10 @@ def turns_end(program, options):
     return 0
 
 
-def begin_and_wait(port, context, begun):
+def begin_and_wait(context, begun):
     """Has programs run that would go on for long, and says when they run."""
     try:
-        with Peer(port) as peer:
+        with context.peer() as peer:
             number = peer.start(context.action("sleep 1000 & (trap '' TERM INT; sleep 1000) & echo > file; sleep 1000"))
             peer.next(number)
             peer.next(number)
@@ -207,8 +212,10 @@ def main():
     parser.add_argument("program")
     parser.add_argument("--large", action="store_true")
     ways.add_ways(parser)
+    ways.add_made_trees(parser)
     parser.add_argument("--only", nargs="*", default=[])
     parser.add_argument("--skip", nargs="*", default=[])
+    parser.add_argument("--slow", type=float, default=1.0, metavar="FACTOR")
     options = parser.parse_args()
     parts = [as_root]
     if os.geteuid() == 0:
@@ -219,7 +226,7 @@ def main():
     os.chmod(folder, 0o755)
     try:
         with ways.made(options, folder) as way:
-            options.launcher = way.launcher
+            options.launcher, options.extra = way.launcher, way.extra
             faults = sum(part(options.program, options) for part in parts)
     finally:
         shutil.rmtree(folder, ignore_errors=True)

@@ -1,6 +1,6 @@
 #!/usr/bin/env python3
-"""hostile_actions.py PROGRAM [--launcher L | --sandbox | --slurm | --slurm-sandbox] [--case NAME ..] [--user WHO]
-[--slow FACTOR] [--seconds N]: actions that mean harm, beside a team.
+"""hostile_actions.py PROGRAM [--launcher L | --sandbox | --slurm | --slurm-sandbox] [--made-trees SIZE] [--case NAME ..]
+[--user WHO] [--slow FACTOR] [--seconds N]: actions that mean harm, beside a team.
 
 PROGRAM is the built `remoted`. Each case is a server of two instances. `red` has actions executed that try to read,
 stop or remove what is not theirs, or a start finds what it should not take; `blue` calls GetCapabilities and
@@ -11,7 +11,7 @@ with one of this user. What cannot be tried is skipped, and the line says why.
 Programs are started by the server itself; by the launcher L; by `launchers/sandbox` (--sandbox); on a cluster that is
 made for it (--slurm; slurm_cluster.py says what that needs); or there in a sandbox (--slurm-sandbox). Where programs see
 nothing of the host but their folder, what an action tries does not reach the host: that is looked at then. What any
-launcher has started has to end with its run, or with its server.
+launcher has started has to end with its run, or with its server. With --made-trees servers have trees, too.
 
 A line for each: `ok` with what holds and how long blue's slowest call waited, or `FAILED` with what was found. It ends
 with `N passed, M failed`, and with status 1 where one failed. --case runs those named alone, --list lists them, --user
@@ -27,6 +27,7 @@ import hostile_folders as folders
 import hostile_programs as host_programs
 import hostile_removal as removal
 import hostile_starts as starts
+import ways
 
 CASES = [
     folders.former_program,
@@ -86,6 +87,7 @@ def main():
     parser = argparse.ArgumentParser(description=__doc__, formatter_class=argparse.RawDescriptionHelpFormatter)
     parser.add_argument("program")
     cases.add_options(parser, CASES)
+    ways.add_made_trees(parser)
     cases.carry_out(CASES, parser.parse_args())
 
 

@@ -216,19 +216,21 @@ def helper_lines(stage):
     with subprocess.Popen(words, text=True, **pipes, **stage.as_user()) as copy, contextlib.ExitStack() as stack:
         plain, named = (stack.enter_context(begin(path)) for path in ["/bin/sleep", odd])
 
-        def lives_after(line, process):
+        def lives_after(line, process, seconds=0.05):
             copy.stdin.write(line + "\n")
             copy.stdin.flush()
             expect(copy.stdout.readline(), "\n", "the answer")
-            time.sleep(0.05)
+            with contextlib.suppress(subprocess.TimeoutExpired):
+                process.wait(seconds)
             return process.poll() is None
 
         try:
             session, other = plain.pid, named.pid
             for line in [f"KILL {session} {other} -", f"KILL -{session} - {session}", f"KILL {session} {session} {other}"]:
                 expect(lives_after(line, plain), True, f"{line!r}: the process is there")
-            expect(lives_after(f"KILL {other} {other} -", named), False, "a process with an odd name is there")
-            expect(lives_after(f"KILL {session} {session} {2**22 + 1}", plain), False, "the process is there")
+            soon = 5 * stage.slow
+            expect(lives_after(f"KILL {other} {other} -", named, soon), False, "a process with an odd name is there")
+            expect(lives_after(f"KILL {session} {session} {2**22 + 1}", plain, soon), False, "the process is there")
             expect(lives_after(f"KILL -{session} - {2**22 + 1}", copy), True, "what ends sessions is there")
         finally:
             plain.kill()
@@ -290,7 +292,7 @@ def bomb(stage, script, seconds):
     """A fork bomb as the first action of a server that may have some processes alone."""
     if stage.user is None:
         raise Skipped("a limit of processes does not bind root; it is tried with a server of a plain user")
-    limit, words, helper = {}, python(script, seconds), None
+    limit, words, helper = {}, python(script, seconds * stage.slow), None
     if stage.way.launcher:
         # What a launcher gives a program is more than this host has room for, and Slurm needs processes itself.
         words = ["/bin/sh", "-c", f'ulimit -u {MOST_PROCESSES} || ulimit -p {MOST_PROCESSES}; exec "$@"', "sh", *words]
@@ -301,7 +303,7 @@ def bomb(stage, script, seconds):
             stage.runs(red, "true")
             helper = stage.helper(server, programs.ENDS_SESSIONS)
         begun = time.monotonic()
-        number = red.start(stage.action(words, seconds=3))
+        number = red.start(stage.action(words, seconds=int(3 * stage.slow)))
         running = lambda: programs.running(stage.folder, server.process.pid)
         stage.waits(lambda: len(running()) > MOST_PROCESSES / 2, 20, "the bomb goes off")
         done = red.operations(number)[-1]
@@ -322,13 +324,13 @@ def fork_bomb(stage):
     """A fork bomb is the first action of a server under a limit of processes."""
     over, took = bomb(stage, BOMB, 60)
     expect(over < 20 * stage.slow, True, f"the bomb was there for {over:.1f} s")
-    return f"its run is timed out after 3 s, and it is gone after {over:.1f} s; blue's action then took {took:.1f} s"
+    return f"its run is timed out, and it is gone after {over:.1f} s; blue's action then took {took:.1f} s"
 
 
 def fork_bomb_alone(stage):
     """A fork bomb kills what ends sessions first, so that no other one can be started beside it."""
     over, took = bomb(stage, KILLING + BOMB, 30)
-    return f"its run is timed out after 3 s; it was there for {over:.1f} s, and blue's action then took {took:.1f} s"
+    return f"its run is timed out; it was there for {over:.1f} s, and blue's action then took {took:.1f} s"
 
 
 # Looking programs up.

@@ -28,23 +28,23 @@ import time
 
 import launchers_sandbox
 from executing import Action, Peer, Stored, directory
-from made_tree_stages import is_tree
 from programs import settled
-from server import Server
+from server import Server, is_tree
 
 SLOTS = 8
 OPTION = ["--made-trees", "4G"]
 
 
 class Toolchain:
-    """So many files of so many megabytes in directories of a hundred, by their digest and all texts."""
+    """So many files of so many megabytes in directories of a hundred: as a mapping, by their digest, and all texts."""
 
     def __init__(self, files, megabytes):
         self.blobs, size = [], megabytes * 1_000_000 // files
         common = os.urandom(size)
         of = lambda number: (b"%d of %d " % (number, files) + common)[:size]
         alike = lambda at: {f"f{number}": of(number) for number in range(at, min(at + 100, files))}
-        self.digest = Stored(directory({f"d{at}": alike(at) for at in range(0, files, 100)}, self.blobs))
+        self.tree = {f"d{at}": alike(at) for at in range(0, files, 100)}
+        self.digest = Stored(directory(self.tree, self.blobs))
 
 
 class Setting:

@@ -3,6 +3,7 @@
 import os
 import shutil
 import signal
+import subprocess
 import tempfile
 
 import programs
@@ -177,9 +178,16 @@ HELD = f"{(150 << 20) // 4096 * ord('x')}\n"
 FILLING = """for n in 1 2 3; do for d in /tmp /dev/shm; do head -c 200000000 /dev/zero >$d/x; done; sleep 1; rm /tmp/x /dev/shm/x; done; true"""
 
 
+def on_a_disk():
+    """A folder in which files take no memory: that of temporary files, or another one where it does not lie on a disk."""
+    usual = tempfile.gettempdir()
+    kind = subprocess.run(["stat", "-f", "-c", "%T", usual], stdout=subprocess.PIPE, text=True, check=True).stdout
+    return "/var/tmp" if kind.strip() in ("tmpfs", "ramfs") else usual
+
+
 def memory(report, program, who, **more):
     """Without a control group of its own a sandbox takes no memory that is no process's: 450 MB for all."""
-    folder = tempfile.mkdtemp(prefix="launchers-")
+    folder = tempfile.mkdtemp(prefix="launchers-", dir=on_a_disk())
     os.chmod(folder, 0o777)
     launcher, work = sandbox(folder), os.path.join(folder, "work")
     instances = [("red", 10**8, 3), ("blue", 10**8, 1)]

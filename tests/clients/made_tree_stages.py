@@ -10,6 +10,7 @@ import programs
 from execution_context import Fault, expect
 from execution_inputs import LOOK, shown
 from executing import Executable, Link, Peer
+from server import is_tree
 from teams import Skipped, Stage
 
 SIZE = "100M"
@@ -99,12 +100,6 @@ def difference(found, wanted):
     """Some lines that are in one of two texts alone."""
     found, wanted = (set(text.split("\n")) for text in (found, wanted.decode()))
     return f"too many {sorted(found - wanted)[:3]}, missing {sorted(wanted - found)[:3]}"
-
-
-def is_tree(name):
-    """Whether a name in the folder of a start is that of a tree's folder, or of what belongs to it."""
-    _, _, job = name.partition(".")[0].partition("-")
-    return job.isdecimal() and int(job) >= 2**63
 
 
 class TreeStage(Stage):

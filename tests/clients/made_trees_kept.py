@@ -9,7 +9,8 @@ import time
 
 from ending_jobs import put
 from execution_context import Fault, expect
-from made_tree_stages import NODE, Asked, counted, flat, is_tree, toolchain
+from made_tree_stages import NODE, Asked, counted, flat, toolchain
+from server import is_tree
 from teams import Skipped
 
 

@@ -10,7 +10,8 @@ import time
 import killing
 import programs
 from execution_context import expect
-from made_tree_stages import counted, flat, is_tree, toolchain
+from made_tree_stages import counted, flat, toolchain
+from server import is_tree
 
 # What a server is killed in: the runs that are asked for, of which the last ones go on, and what is waited for before.
 STEPS = ["noted", "making", "made", "bound", "removed"]

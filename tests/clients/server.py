@@ -29,6 +29,12 @@ def has_leases():
         return int(file.read()) != 0
 
 
+def is_tree(name):
+    """Whether a name in the folder of a start is that of a made tree's folder, or of what belongs to it."""
+    _, _, job = name.partition(".")[0].partition("-")
+    return job.isdecimal() and int(job) >= 2**63
+
+
 def opens_by_shell(launcher):
     """Whether a shell opens outputs for the server: a program may have a lease on one when its launcher has ended."""
     if not launcher:

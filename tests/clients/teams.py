@@ -16,7 +16,7 @@ import messages as m
 import programs
 from execution_context import Fault, expect
 from executing import PATH, Action, Peer
-from server import Server
+from server import Server, is_tree
 from ways import Way
 
 # How long a call of blue's may wait on a quiet machine.
@@ -122,6 +122,7 @@ class Stage:
         instances = [("red", 2 * 10**8, slots[0]), ("blue", 2 * 10**8, slots[1])]
         more.setdefault("environment", {"SECRET": "of the server"})
         more |= {"folder": self.work, "heard": heard, "launcher": self.way.launcher, **self.as_user()}
+        more["extra"] = [*self.way.extra, *more.get("extra", ())]
         with Server(self.program, instances, 2**62, **more) as server:
             neighbour = server.neighbour = self.neighbour = Neighbour(server.ports[1], self.slow)
             try:
@@ -199,7 +200,8 @@ class Stage:
 
     def nothing_left(self, server, seconds=20, is_kept=lambda name: False):
         """No folder of a run is left once some seconds have passed; some names are no run's."""
-        stray = lambda: [name for name in server.entries() if not is_kept(name)]
+        is_stray = lambda name: not is_kept(name) and not (self.way.extra and is_tree(name))
+        stray = lambda: list(filter(is_stray, server.entries()))
         left = programs.settled(stray, seconds * self.slow)
         expect(left[:10], [], f"{len(left)} folders that are left")
 
@@ -249,7 +251,7 @@ class Stage:
 
 def started(stage, *words, turns=2**62, seconds=20, **more):
     """What becomes of `remoted serve` with these words where it has to end by itself: status and standard error."""
-    launched = ["--launcher", stage.way.launcher] if stage.way.launcher else []
+    launched = ["--launcher", stage.way.launcher, *stage.way.extra] if stage.way.launcher else []
     whole = [stage.program, "serve", *launched, "--turns", str(turns), *words]
     process = subprocess.Popen(
         whole, stdout=subprocess.PIPE, stderr=subprocess.PIPE, text=True, **{**stage.as_user(), **more}

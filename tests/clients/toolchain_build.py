@@ -1,6 +1,6 @@
 #!/usr/bin/env python3
-"""toolchain_build.py PROGRAM [--launcher L] [--off] [--jobs N] [--files N] [--megabytes N] [--place FOLDER] [--most MS]: a
-build whose actions all have a toolchain among their inputs, as Bazel's hermetic ones do.
+"""toolchain_build.py PROGRAM [--launcher L] [--off] [--jobs N] [--files N] [--megabytes N] [--place FOLDER] [--most MS]
+[--bazel BAZEL] [--rounds N]: a build whose actions all have a toolchain among their inputs, as Bazel's hermetic ones do.
 
 PROGRAM is the built `remoted`. A client of its own builds 100 libraries and 14 tests by 456 actions, as many as --jobs (4)
 at once, each as soon as what it needs is there: it asks which texts are missing, stores these, has the action executed,
@@ -12,6 +12,11 @@ Programs are started by `launchers/sandbox`, or by L, which binds trees.
 A line for each says how long it took, and how much of the server's processor an action took. The outputs have to be equal
 with --made-trees and without. It ends with status 1 where they are not, or where an action with --made-trees takes more
 than --most (5) ms more of the server's processor than one without a toolchain. With --off there is no --made-trees.
+
+With --bazel the same steps are rules of a workspace, too, which BAZEL (Debian: bazel-bootstrap, 4.2.3) builds: by its own
+sandbox, and by a server with --made-trees, with the same --jobs. Each builds all --rounds (3) times in turn, behind a
+first time that is not counted, and takes nothing from a cache. The files have to be the same, and the median by the
+server may be 1.1 of the other.
 """
 
 import argparse
@@ -25,6 +30,7 @@ import time
 
 import launchers_sandbox
 import messages as m
+import toolchain_bazel
 from executing import Action, Executable, Peer
 from large_inputs import OPTION, Toolchain
 from server import Server
@@ -159,20 +165,30 @@ def main():
     parser.add_argument("--megabytes", type=int, default=60, metavar="N")
     parser.add_argument("--place", metavar="FOLDER")
     parser.add_argument("--most", type=float, default=5, metavar="MS")
+    parser.add_argument("--bazel", metavar="BAZEL")
+    parser.add_argument("--rounds", type=int, default=3, metavar="N")
     options = parser.parse_args()
     toolchain = Toolchain(options.files, options.megabytes)
     with tempfile.TemporaryDirectory(prefix="toolchain-build-") as folder:
         os.chmod(folder, 0o755)
         options.started_by = options.launcher or launchers_sandbox.sandbox(os.path.join(folder, "made"))
-        _, bare = built(options, None, [], "without a toolchain")
-        wanted, _ = built(options, toolchain, [], f"with {options.files} files and {options.megabytes} MB")
-        if options.off:
-            return
-        found, each = built(options, toolchain, OPTION, "the same with --made-trees")
+        is_well = by_a_client(options, toolchain)
+        if options.bazel:
+            is_well = toolchain_bazel.compared(options, steps(), TOOL, toolchain) and is_well
+    sys.exit(not is_well)
+
+
+def by_a_client(options, toolchain):
+    """Whether the builds by the client of its own are as they have to be."""
+    _, bare = built(options, None, [], "without a toolchain")
+    wanted, _ = built(options, toolchain, [], f"with {options.files} files and {options.megabytes} MB")
+    if options.off:
+        return True
+    found, each = built(options, toolchain, OPTION, "the same with --made-trees")
     is_equal, is_cheap = found == wanted, each <= bare + options.most
     print(f"{'ok' if is_equal else 'FAILED'} outputs are equal with --made-trees and without")
     print(f"{'ok' if is_cheap else 'FAILED'} {each - bare:.1f} ms more than without a toolchain, of at most {options.most:g}")
-    sys.exit(not (is_equal and is_cheap))
+    return is_equal and is_cheap
 
 
 if __name__ == "__main__":

@@ -10,9 +10,9 @@ from executing import Action, Peer
 from server import Server
 from slurm_cluster import Cluster, launcher
 
-# What starts programs, the cluster that was made for it, and whether programs see nothing of the host but their folder.
-# The first two may be none.
-Way = namedtuple("Way", "launcher cluster is_apart")
+# What starts programs, the cluster that was made for it, whether programs see nothing of the host but their folder, and
+# more words of a server's command line. The first two may be none.
+Way = namedtuple("Way", "launcher cluster is_apart extra", defaults=[()])
 
 KINDS = ["--sandbox", "--slurm", "--slurm-sandbox"]
 
@@ -25,13 +25,26 @@ def add_ways(parser):
         way.add_argument(name, action="store_true")
 
 
+def add_made_trees(parser):
+    """The word by which servers have made trees, too."""
+    parser.add_argument("--made-trees", metavar="SIZE")
+
+
+def made_trees(options):
+    """The words of a server's command line that say so."""
+    size = getattr(options, "made_trees", None)
+    if size and not (options.launcher or options.sandbox or options.slurm_sandbox):
+        raise SystemExit("--made-trees needs a launcher that binds them, as --sandbox")
+    return ["--made-trees", size] if size else []
+
+
 @contextlib.contextmanager
 def made(options, folder):
     """The launcher, which any user may start, in a cluster that is there meanwhile where it is asked for.
 
     Whether programs are apart is what one says that looks for this folder.
     """
-    cluster, sandbox = None, None
+    cluster, sandbox, extra = None, None, made_trees(options)
     with contextlib.ExitStack() as stack:
         if options.sandbox or options.slurm_sandbox:
             sandbox = launchers_sandbox.sandbox(open_folder(folder))
@@ -39,7 +52,8 @@ def made(options, folder):
             cluster = stack.enter_context(Cluster(open_folder(folder)))
             sandbox = launcher(cluster, cluster.folder, sandbox or "")
         started_by = options.launcher or sandbox
-        yield Way(started_by, cluster, started_by is not None and not sees(options.program, started_by, folder))
+        is_apart = started_by is not None and not sees(options.program, started_by, folder)
+        yield Way(started_by, cluster, is_apart, extra)
 
 
 def sees(program, started_by, path):

@@ -7,9 +7,9 @@
 
 use crate::runs::{outcome, shown_at};
 use crate::scripts::{configs, events, expanded};
-use program_status::{Output, Status};
 use server_core::Outputs;
 use server_events::{Configs, Event, What};
+use tool_programs::{Output, Status};
 
 /// What is done at a byte.
 #[derive(Clone, Copy)]

@@ -2,8 +2,8 @@
 
 use crate::runs::outcome_of;
 use crate::scripts::expanded;
-use program_status::{Output, Status};
 use server_core::{InstanceOutput, SentBytes};
+use tool_programs::{Output, Status};
 
 /// How many bytes the last of what was sent are: those of a GOAWAY without debug data.
 const LAST: usize = 17;

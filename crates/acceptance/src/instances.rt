@@ -1,9 +1,9 @@
 //! The servers of cases, and the instances that cases configure themselves.
 
 use keyed_maps::MapKey;
-use program_status::{Fault, Output};
 use server_core::Server;
 use server_events::{Configs, InstanceConfig, Limits};
+use tool_programs::{Fault, Output};
 
 /// Instances of these names, each with a quota of so many bytes.
 pub fn configs(names: &[&str], quota: u64, output: &mut Output) -> Option<Configs> {

@@ -23,10 +23,10 @@ use crate::limits::answers::Answers;
 use crate::limits::client::Client;
 use crate::limits::directories::{Blob, add_child, filled, leaf};
 use crate::numbers::number;
-use program_status::{Fault, Output, Status};
 use script::{Parts, lines, words};
 use server_core::Server;
 use std::slice;
+use tool_programs::{Fault, Output, Status};
 
 const QUOTA: u64 = 1_000_000_000;
 

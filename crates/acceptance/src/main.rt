@@ -29,11 +29,9 @@ mod scripts;
 mod sockets;
 mod stored;
 
-use program_status::{Fault, Output, Status, read_all};
-use replay::replay;
 use script::{Limits, lines};
 use std::process::ExitCode;
-use unary::unary;
+use tool_programs::{Fault, Output, Status, read_all, replay, unary};
 
 /// What carries a script out.
 #[derive(Clone, Copy)]

@@ -12,10 +12,10 @@ use crate::instances::server;
 use crate::memory::found::{Texts, found};
 use crate::runs::{outcome, outcome_of, shown, shown_at};
 use crate::scripts::{configs, events, expanded};
-use program_status::{Fault, Output, Status};
 use script::lines;
 use server_core::{InstanceOutput, Outputs, Server, run_on};
 use server_events::{Configs, Event, What};
+use tool_programs::{Fault, Output, Status};
 
 /// How many connections a script may open: those with numbers below this.
 const CONNECTIONS: u32 = 10;

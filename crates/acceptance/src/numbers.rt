@@ -1,7 +1,7 @@
 //! Numbers in the lines of cases.
 
 use decimals::decimal;
-use program_status::{Fault, Output};
+use tool_programs::{Fault, Output};
 
 /// The number that a word is; where it is none, that is remembered.
 pub fn number(word: &[u8], output: &mut Output) -> u64 {

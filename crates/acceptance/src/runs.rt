@@ -1,10 +1,10 @@
 //! What runs of scripts give.
 
 use crate::scripts::{configs, events};
-use program_status::{Fault, Output};
 use script::replay_lines::{write_kill, write_refusal, write_sent, write_start};
 use server_core::{InstanceOutput, OrderedAt, Outputs, RunOrder, run};
 use server_events::{Configs, Event};
+use tool_programs::{Fault, Output};
 
 /// What a run of these events gives; where memory is refused, that is remembered.
 pub fn outcome(configs: &Configs, events: Vec<Event>, output: &mut Output) -> Option<Outputs> {

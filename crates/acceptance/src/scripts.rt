@@ -5,10 +5,10 @@
 //! eight digits: FIRST at the first time, and two more each time.
 
 use crate::numbers::number;
-use program_status::{Fault, Output};
 use script::replay::{EventReader, parse};
 use script::{Parts, ScriptFault, lines, words, write_hex};
 use server_events::{Configs, Event, InstanceConfig, Limits};
+use tool_programs::{Fault, Output};
 
 /// Appends bytes in hexadecimal, with the number of this stream for each `@`.
 fn write_bytes(hex: &[u8], stream: u64, text: &mut Vec<u8>, output: &mut Output) {

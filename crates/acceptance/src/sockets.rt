@@ -23,10 +23,10 @@ use crate::sockets::peers::serve_peers;
 use crate::sockets::silent::serve_silent;
 use decimals::decimal;
 use hex::FromHexError;
-use program_status::{Fault, Output, Status};
 use script::lines;
 use serve::{LoggedSockets, Sockets};
 use server_events::Configs;
+use tool_programs::{Fault, Output, Status};
 
 /// How many turns a case takes.
 const TURNS: u64 = 2_000;

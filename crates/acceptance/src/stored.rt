@@ -1,10 +1,10 @@
 //! How much a server holds.
 
 use crate::instances::server;
-use program_status::{Fault, Output, Status};
 use script::replay::{EventReader, parse};
 use server_core::Server;
 use server_events::{Configs, InstanceConfig, Limits};
+use tool_programs::{Fault, Output, Status};
 
 /// Gives a server the next event, and tells what it has stored then; answers whether there was one.
 fn tell_next(

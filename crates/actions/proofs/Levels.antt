@@ -16,7 +16,7 @@ use Rattle.actions.specs.Nodes.{PlanKindValue, PlanNode, PlanNodeValue, director
 use Rattle.actions.specs.Shown.{nodes_shown}
 use Rattle.actions.specs.Walk.{directory_nodes, nodes_of_text, nodes_or_fault}
 use Rattle.actions.specs.ReadOnce.{AreRead, at_level}
-use Rattle.tree_nodes.specs.Nodes.{node_at_level}
+use Rattle.run_calls.specs.Nodes.{node_at_level}
 
 each_at : {V : Type 0} (l m : ℕ) (at : ℕ → V → Option PlanNodeValue) → ((v : V) → at m v ≡ option_map (node_at_level m) (at l v)) →
     (vs : List V) → filter_map (at m) vs ≡ at_level m (filter_map (at l) vs)

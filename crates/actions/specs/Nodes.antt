@@ -4,9 +4,9 @@ use Rattle.std.specs.List.{filter_map}
 use Rattle.digest.specs.declared.Digest.{Digest}
 use Rattle.tree_messages.specs.Directories.{DirectoryValue, DirectoryNodeValue, FileNodeValue, SymlinkNodeValue}
 use Rattle.input_tree.specs.Directories.{written_digest, directory_in}
-use Rattle.tree_nodes.specs.declared.node.Node.{Node}
-use Rattle.tree_nodes.specs.Nodes.{NodeKindValue, NodeValue}
-pub use Rattle.tree_nodes.specs.Nodes.{file, symlink, directory}
+use Rattle.run_calls.specs.declared.tree_node.Node.{Node}
+use Rattle.run_calls.specs.Nodes.{NodeKindValue, NodeValue}
+pub use Rattle.run_calls.specs.Nodes.{file, symlink, directory}
 
 abbrev pub PlanNode : Type 0
 PlanNode = Node Digest

@@ -9,7 +9,7 @@ use Rattle.input_tree.specs.Listing.{Lookup}
 use Rattle.actions.specs.Nodes.{PlanNode, PlanNodeValue}
 use Rattle.actions.specs.Shown.{nodes_shown}
 use Rattle.actions.specs.Walk.{directory_nodes}
-use Rattle.tree_nodes.specs.Nodes.{node_at_level}
+use Rattle.run_calls.specs.Nodes.{node_at_level}
 
 -- the same nodes in a directory of a level
 abbrev pub at_level : ℕ → List PlanNodeValue → List PlanNodeValue

@@ -3,7 +3,7 @@ use Rattle.actions.specs.declared.action.ActionTaken as Code
 use Rattle.actions.specs.declared.outputs.AskedOutput as Outputs
 use Rattle.actions.specs.Actions.{ActionTaken}
 use Rattle.actions.specs.Commands.{AskedOutput}
-pub use Rattle.tree_nodes.specs.Nodes.{node_shown, nodes_shown}
+pub use Rattle.run_calls.specs.Nodes.{node_shown, nodes_shown}
 
 abbrev pub action_taken_shown : Code.ActionTaken → ActionTaken
 action_taken_shown a =

@@ -6,10 +6,10 @@ ghost use Rattle.actions.specs.Shown.{node_shown};
 
 use digest::Digest;
 use input_tree::digest_written;
+use run_calls::{Node, NodeKind};
 use std::alloc::{AllocError, Global};
 use std::rc::RcStr;
 use tree_messages::{DirectoryNode, FileNode, SymlinkNode};
-use tree_nodes::{Node, NodeKind};
 
 /// A node of a plan, which names texts by their digests.
 pub type PlanNode = Node<Digest>;

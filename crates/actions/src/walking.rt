@@ -14,8 +14,8 @@ use crate::reading::directory_nodes;
 use blob_pool::Pool;
 use digest::Digest;
 use keyed_maps::KeyedMap;
+use run_calls::NodeKind;
 use std::alloc::{AllocError, Global};
-use tree_nodes::NodeKind;
 
 /// The most nodes that a tree has below its root.
 pub const MOST_NODES: usize = 10_000;

@@ -1,3 +1,5 @@
 mod Adding
 mod Matched
 mod Faults
+mod SizeLemmas
+mod Words

@@ -3,7 +3,7 @@ use Rattle.std.specs.Prelude.{ℕ, pos, Bool, true, false, ◌&&◌, ◌||◌, �
 use Rattle.std.specs.Str.{bytes_eq}
 use Rattle.std.specs.Str.Parse.{without_leading_plus}
 use Rattle.decimals.specs.Number.{decimal_value, is_decimal}
-use Rattle.sizes.specs.Size.{size_of}
+use Rattle.command_line.specs.Size.{size_of}
 use Rattle.instance_limits.specs.Limits.{LimitsValue, usual_limits}
 use Rattle.clap.specs.Words.{App, Row, Rule, Shape, Text, all_of, first_of, new_app, new_rule, one_of, with_rule, with_subcommand}
 use Rattle.clap.specs.declared.builder.action.ArgAction.TheVariants.{Append, Set}

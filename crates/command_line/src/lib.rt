@@ -1,10 +1,12 @@
-//! The command line of `remoted`.
+//! The command line of `remoted`, and numbers of bytes, as it writes them.
 #![tactic(auto)]
 
 mod arguments;
 mod bad_values;
 mod commands;
 mod help_texts;
+mod size_laws;
+mod sizes;
 
 ghost use Rattle.std.specs.Prelude.{◌≡◌, ◌≢◌, ◌⊎◌, ℕ, List, Some, None, true, map, string_bytes, IfOk, IfErr, option_map};
 ghost use Rattle.clap.specs.Words.{all_of, app_of, first_of, found_of, kind_of, rows_of, subcommand_rows_of};
@@ -20,7 +22,8 @@ pub use clap::Error;
 use clap::error::ErrorKind;
 use clap::{ArgMatches, Command};
 use instance_limits::Limits;
-use sizes::size;
+pub use size_laws::{read_is_written, written_is_read};
+pub use sizes::size;
 use std::alloc::{AllocError, Global};
 
 /// The version of the program.

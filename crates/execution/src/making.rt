@@ -26,8 +26,8 @@ use digest::Digest;
 use execution_messages::distinct;
 use instance_view::Sight;
 use job_queue::Queue;
+use run_calls::NodeKind;
 use std::alloc::{AllocError, Global};
-use tree_nodes::NodeKind;
 
 /// The digest of a file or directory.
 fn digest_of(node: &PlanNode) -> Option<Digest>

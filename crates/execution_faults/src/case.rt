@@ -9,13 +9,13 @@ use crate::fake_programs::FakePrograms;
 use crate::fake_sockets::{Client, FakeSockets, Habits};
 use job_runs::JobRunner;
 use keyed_maps::MapKey;
-use program_status::Output;
 use run_calls::RunKey;
 use run_logs::{LoggedFolder, LoggedPrograms};
 use serve::{ErrorLines, LoggedRuns, LoggedSockets, Nobody, Sockets, serve};
 use server_events::Configs;
 use std::alloc::{AllocError, Global};
 use std::io::ErrorKind;
+use tool_programs::Output;
 
 /// How many turns a run of the case takes.
 pub const TURNS: u64 = 250;

@@ -3,8 +3,8 @@
 use crate::case::{BYSTANDERS, NAMES, TURNS, Told};
 use crate::counting::Deed;
 use crate::fake_sockets::Client;
-use program_status::Output;
 use run_calls::RunKey;
+use tool_programs::Output;
 
 /// Why a run fails whose launcher is lost, as it is written to the errors.
 pub const LAUNCHER: &str = "launcher";

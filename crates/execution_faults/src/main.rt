@@ -24,11 +24,11 @@ use crate::counting::{CallFault, Deed, Failing};
 use crate::judging::{Judge, LAUNCHER, START};
 use crate::slow_errors::write_lines;
 use hex::FromHexError;
-use program_status::{Fault, Output, Status, read_all};
 use script::lines;
 use server_events::{Configs, InstanceConfig, Limits};
 use std::io::ErrorKind;
 use std::process::ExitCode;
+use tool_programs::{Fault, Output, Status, read_all};
 
 const OTHER: ErrorKind = ErrorKind::Other;
 

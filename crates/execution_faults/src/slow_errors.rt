@@ -1,9 +1,9 @@
 //! Lines to an output that takes some of them in part, or not at once.
 
-use program_status::Output;
 use serve::ErrorLines;
 use std::alloc::AllocError;
 use std::io::{self, ErrorKind, Write};
+use tool_programs::Output;
 
 /// How many bytes each write of some takes at most; none where it would have to wait. Any further
 /// one takes all.

@@ -2,8 +2,7 @@
 //! at the instance after the turn.
 
 use crate::instance_figures::RESOURCE_EXHAUSTED;
-use call_counts::{CallCounts, MethodCounts};
-use instance_core::{Instance, InstanceSizes};
+use instance_core::{CallCounts, Instance, InstanceSizes, MethodCounts};
 use rpc::Method;
 
 /// How many causes are told apart.

@@ -6,7 +6,7 @@ use crate::instance_figures::{METHOD_COUNT, METHODS};
 use crate::job_times::JobTimes;
 use crate::prometheus::{Kind, Label, Metrics, Value};
 use crate::refusals::{CAUSES, Refusals, ended_of};
-use call_counts::CallCounts;
+use instance_core::CallCounts;
 use serve::Sight;
 use std::alloc::{AllocError, Global};
 use std::time::Instant;

@@ -10,7 +10,7 @@ use Rattle.instance_view.specs.Visible.{Blob}
 use Rattle.tree_calls.specs.Complete.{LimitsValue, AreResultsWithin}
 use Rattle.cas_service.specs.Changes as Texts
 use Rattle.job_queue.specs.Jobs.{running_job}
-use Rattle.run_outcomes.specs.Outcomes.{OutcomeValue}
+use Rattle.run_calls.specs.Outcomes.{OutcomeValue}
 use Rattle.execution_messages.specs.Progress.{EndValue}
 use Rattle.execution.specs.Job.{JobValue}
 use Rattle.execution.specs.Ordered.{order_meant, orders_by}

@@ -23,7 +23,7 @@ use Rattle.execution.specs.Execute as Executor
 use Rattle.execution.specs.Execute.{ExecuteChange, Uses, Does, Pushes}
 use Rattle.execution.specs.Orders.{told}
 use Rattle.execution.specs.Steps.{StepValue, start_steps, tick_steps, end_steps}
-use Rattle.run_outcomes.specs.Outcomes.{OutcomeValue}
+use Rattle.run_calls.specs.Outcomes.{OutcomeValue}
 use Rattle.execution.specs.Asking.{ExecuteAskedValue, execute_asked}
 use Rattle.outcomes.specs.Ending.{admissions, results_with}
 use Rattle.instance_core.specs.declared.event.CallId.{CallId}

@@ -7,7 +7,7 @@ use Rattle.rpc.specs.declared.refusal.Refusal.{Refusal}
 use Rattle.rpc.specs.declared.method.Method.TheVariants.{Execute, WaitExecution}
 use Rattle.bytestream.specs.Reading.{SourceValue}
 use Rattle.job_queue.specs.Jobs.{running_job}
-use Rattle.run_outcomes.specs.Outcomes.{OutcomeValue}
+use Rattle.run_calls.specs.Outcomes.{OutcomeValue}
 use Rattle.execution.specs.Job.{JobValue}
 use Rattle.execution.specs.Orders.{ToldValue, told}
 use Rattle.execution.specs.Steps.{StepValue, start_steps, tick_steps, end_steps}

@@ -11,7 +11,7 @@ use Rattle.execution.specs.Job.{JobValue}
 use Rattle.execution.specs.Execute as Executor
 use Rattle.execution.specs.Execute.{ExecuteChange}
 use Rattle.execution.specs.Steps.{StepValue}
-use Rattle.run_outcomes.specs.Outcomes.{OutcomeValue}
+use Rattle.run_calls.specs.Outcomes.{OutcomeValue}
 use Rattle.execution.specs.Asking.{ExecuteAskedValue, execute_asked}
 use Rattle.outcomes.specs.Ending.{admissions, results_with}
 use Rattle.instance_core.specs.declared.event.CallId.{CallId}

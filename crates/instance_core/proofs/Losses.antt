@@ -26,7 +26,7 @@ use Rattle.execution.specs.Job.{JobValue}
 use Rattle.execution.specs.Preparing.{FaultValue, PreparedValue, prepared, met, job_of}
 use Rattle.execution.specs.Execute as Executor
 use Rattle.execution.specs.Execute.{ExecuteChange, ExecuteDone, queued, by_fault, by_job, by_looking, by_preparing, execute, look_in, looked_up, refused as refused_with}
-use Rattle.run_outcomes.specs.Outcomes.{OutcomeValue}
+use Rattle.run_calls.specs.Outcomes.{OutcomeValue}
 use Rattle.execution.specs.Asking.{ExecuteAskedValue, execute_asked}
 use Rattle.outcomes.specs.Ending.{admissions, results_with}
 use Rattle.tree_calls.specs.Asking.{ResultSentValue, action_asked, result_sent}

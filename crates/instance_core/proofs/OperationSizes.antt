@@ -20,7 +20,7 @@ use Rattle.execution_messages.specs.Requests.{execute_request_of}
 use Rattle.execution_messages.specs.Actions.{CommandValue}
 use Rattle.execution_messages.specs.declared.fault.Fault.{Fault}
 use Rattle.execution_messages.specs.Progress.{EndValue, gives, fails, completed_text}
-use Rattle.run_outcomes.specs.Outcomes.{ExitedValue, OutputValue}
+use Rattle.run_calls.specs.Outcomes.{ExitedValue, OutputValue}
 use Rattle.outcomes.specs.Asked.{are_asked}
 use Rattle.outcomes.specs.Results.{blobs_given, result_text}
 use Rattle.execution.specs.Job.{JobValue}
@@ -29,17 +29,17 @@ use Rattle.execution.specs.Steps.{StepValue, tick_steps, end_steps, start_steps}
 use Rattle.execution.specs.Waiting.{wait}
 use Rattle.execution.specs.Asking.{ExecuteAskedValue, execute_asked}
 use Rattle.outcomes.specs.Ending.{outputs_asked}
-use Rattle.operation_sizes.specs.Told as Sizes
-use Rattle.operation_sizes.specs.Told.{IsShortExecuteAnswer, IsShortWaitAnswer}
-use Rattle.operation_sizes.proofs.Executing as Lemmas
-use Rattle.operation_sizes.proofs.Forms.{request_form}
-use Rattle.operation_sizes.proofs.Results as Written
-use Rattle.operation_sizes.proofs.Stages as Waits
-use Rattle.operation_sizes.proofs.Steps.{tick_told, end_told, start_told}
-use Rattle.operation_sizes.proofs.Written as Texts
+use Rattle.outcomes.specs.Told as Sizes
+use Rattle.outcomes.specs.Told.{IsShortExecuteAnswer, IsShortWaitAnswer}
+use Rattle.outcomes.proofs.Executing as Lemmas
+use Rattle.outcomes.proofs.Forms.{request_form}
+use Rattle.outcomes.proofs.Results as Written
+use Rattle.outcomes.proofs.Stages as Waits
+use Rattle.outcomes.proofs.Steps.{tick_told, end_told, start_told}
+use Rattle.outcomes.proofs.Written as Texts
 use Rattle.instance_core.specs.Jobs.{IsWholeJob, AreWhole, AreToldShortly}
-pub use Rattle.operation_sizes.specs.Short.{HasForm, IsShort}
-pub use Rattle.operation_sizes.specs.Told.{IsShortExecuteAnswer, IsShortWaitAnswer}
+pub use Rattle.outcomes.specs.Short.{HasForm, IsShort}
+pub use Rattle.outcomes.specs.Told.{IsShortExecuteAnswer, IsShortWaitAnswer}
 
 -- what those are told who watch
 abbrev pub AreShortSteps : List StepValue → Type 0

@@ -2,7 +2,7 @@
 use Rattle.std.proofs.Common.{◌≡◌, ℕ, List, [], ◌∷◌, map, Option, Some, None, refl, ap, ◌∙◌}
 use Rattle.std.specs.List.{cons_option, filter_map}
 use Rattle.job_queue.specs.Jobs.{Jobs, running_job}
-use Rattle.run_outcomes.specs.Outcomes.{OutcomeValue}
+use Rattle.run_calls.specs.Outcomes.{OutcomeValue}
 use Rattle.execution.specs.declared.orders.Order.{Order}
 use Rattle.execution.specs.Job.{JobValue}
 use Rattle.execution.specs.Ordered.{order_meant, orders_by}

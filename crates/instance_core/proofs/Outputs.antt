@@ -20,7 +20,7 @@ use Rattle.execution_messages.specs.declared.fault.Fault.TheVariants.{QuotaExcee
 use Rattle.execution_messages.proofs.EachOnce.{among, same-ones}
 use Rattle.outcomes.specs.Asked.{are_asked}
 use Rattle.outcomes.specs.Naming.{blob_like}
-use Rattle.run_outcomes.specs.Outcomes.{ExitedValue, NodeKindValue, OutputNodeValue, OutputValue, OutcomeValue, as_directory, as_file, output_file, output_tree, failed, exited}
+use Rattle.run_calls.specs.Outcomes.{ExitedValue, NodeKindValue, OutputNodeValue, OutputValue, OutcomeValue, as_directory, as_file, output_file, output_tree, failed, exited}
 use Rattle.outcomes.specs.Results.{CompletionValue, blobs_given, file_blobs, node_blob, node_blobs, tree_blobs, stream_blobs, are_outputs, is_output, fresh_bytes, result_text, sizes_of}
 use Rattle.outcomes.specs.Trees.{tree_text}
 use Rattle.execution.specs.Job.{JobValue}

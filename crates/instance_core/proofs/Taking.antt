@@ -22,7 +22,7 @@ use Rattle.execution.specs.Job.{JobValue}
 use Rattle.execution.specs.InPool.{job_holders, jobs_holders, jobs_in}
 use Rattle.execution.specs.Keeping.{kept_entry, kept_entries}
 use Rattle.execution.proofs.Calling.{jobs_same}
-use Rattle.run_outcomes.specs.Outcomes.{OutcomeValue}
+use Rattle.run_calls.specs.Outcomes.{OutcomeValue}
 use Rattle.instance_core.specs.declared.contents.Contents.{Contents}
 use Rattle.instance_core.specs.declared.contents.Settings.{Settings}
 use Rattle.instance_core.specs.declared.turns.Turn.{Turn}

@@ -13,7 +13,7 @@ use Rattle.execution.specs.Job.{JobValue}
 use Rattle.execution.specs.Orders.{ToldValue, told}
 use Rattle.execution.specs.Steps.{StepValue, times_out, ends, starts, change_of, jobs_after_steps, start_of, starts_of, timings_out, ending_of, then_starts}
 use Rattle.execution.proofs.Turns.{turn-fills}
-use Rattle.run_outcomes.specs.Outcomes.{OutcomeValue}
+use Rattle.run_calls.specs.Outcomes.{OutcomeValue}
 use Rattle.outcomes.specs.Ending.{admissions, results_with}
 use Rattle.instance_core.specs.declared.event.CallId.{CallId}
 use Rattle.instance_core.specs.Calls.{Calls, CallValue, ProgressValue, waits, has, writes, watches, cancel, tick, start_jobs, end_late_jobs, end_job}

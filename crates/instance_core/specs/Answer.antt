@@ -22,7 +22,7 @@ use Rattle.job_queue.specs.Jobs.{running_job}
 use Rattle.execution.specs.Job.{JobValue}
 use Rattle.execution.specs.Orders.{OrderValue, orders_of}
 use Rattle.execution.specs.Steps.{StepValue, start_steps, tick_steps, end_steps}
-use Rattle.run_outcomes.specs.Outcomes.{OutcomeValue}
+use Rattle.run_calls.specs.Outcomes.{OutcomeValue}
 use Rattle.outcomes.specs.Ending.{EndingValue, admissions, ending, results_with}
 use Rattle.bytestream.specs.Writing as Writing
 use Rattle.bytestream.specs.Writing.{WrittenValue, unfinished_reply}

@@ -8,7 +8,7 @@ use Rattle.rpc.specs.declared.method.Method.TheVariants.{Write}
 use Rattle.rpc.specs.declared.refusal.Refusal.{Refusal}
 use Rattle.bytestream.specs.Size.{size_limit}
 use Rattle.bytestream.specs.Writing.{OpenWriteValue}
-use Rattle.run_outcomes.specs.Outcomes.{OutcomeValue, failed, exited}
+use Rattle.run_calls.specs.Outcomes.{OutcomeValue, failed, exited}
 pub use Rattle.tree_calls.specs.Asking.{IsShortRequest}
 use Rattle.instance_core.specs.declared.event.CallId.{CallId}
 

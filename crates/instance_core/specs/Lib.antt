@@ -29,3 +29,4 @@ pub use Rattle.rpc.specs.declared.method.Method
 pub use Rattle.rpc.specs.declared.refusal.Refusal
 pub use Rattle.digest.specs.declared.Digest
 pub use Rattle.digest.specs.Naming
+pub mod Counts

@@ -17,7 +17,7 @@ use Rattle.uploads.specs.Uploads.{UploadList, without_upload, text_so_far}
 use Rattle.uploads.specs.Writing.{after_piece}
 use Rattle.action_cache.specs.Results.{results_after_store}
 use Rattle.bytestream.specs.Writing.{OpenWriteValue, PartValue, WriteState, first_asked, next_asked}
-use Rattle.run_outcomes.specs.Outcomes.{OutcomeValue}
+use Rattle.run_calls.specs.Outcomes.{OutcomeValue}
 use Rattle.job_queue.specs.Jobs.{running_job}
 use Rattle.execution.specs.Asking.{ExecuteAskedValue, execute_asked}
 use Rattle.execution.specs.Job.{JobValue}

@@ -12,9 +12,9 @@ ghost use Rattle.instance_core.specs.Apart.{calls_apart};
 ghost use Rattle.instance_core.specs.Shown.{progress_shown};
 ghost use Rattle.instance_core.specs.declared.event.CallId.{CallId};
 
+use crate::counts::CallCounts;
 use crate::event::{CallId, Reply, ReplyItem};
 use bytestream::OpenWrite;
-use call_counts::CallCounts;
 use execution::{Step, Told};
 use keyed_maps::{KeyedMap, MapKey};
 use rpc::Method;

@@ -10,7 +10,7 @@ ghost use Rattle.instance_view.specs.Shown.{holders};
 ghost use Rattle.job_queue.specs.Jobs.{running_job};
 ghost use Rattle.job_queue.specs.Order.{AreJobs};
 ghost use Rattle.execution_messages.specs.Shown.{end_shown};
-ghost use Rattle.run_outcomes.specs.Shown.{outcome_shown};
+ghost use Rattle.run_calls.specs.Shown.{outcome_shown};
 ghost use Rattle.outcomes.specs.Completing.{blob_shown};
 ghost use Rattle.execution.specs.InPool.{jobs_in};
 ghost use Rattle.execution.specs.Ordered.{orders_by};
@@ -40,7 +40,7 @@ use execution_messages::End;
 use instance_limits::Limits;
 use keyed_maps::MapKey;
 use outcomes::{Ending, OutputBlob, admit_blobs, end_of_run};
-use run_outcomes::Outcome;
+use run_calls::Outcome;
 use std::alloc::{AllocError, Global};
 
 /// Makes ready that the job that runs under a number ends so.

@@ -16,7 +16,7 @@ ghost use Rattle.instance_core.specs.Answer.{answer, ending_changes, state_after
 ghost use Rattle.instance_core.specs.Replies.{IsShortReply};
 ghost use Rattle.instance_core.specs.Shown.{Gives, GivesShort, event_shown, reply_shown};
 ghost use Rattle.instance_core.specs.ReplyHolders.{replies_holders, result_holders};
-ghost use Rattle.run_outcomes.specs.Shown.{outcome_shown};
+ghost use Rattle.run_calls.specs.Shown.{outcome_shown};
 ghost use Rattle.job_queue.specs.Jobs.{jobs_without, running_job};
 ghost use Rattle.job_queue.specs.declared.queue.TheConstants.{MOST_RUNNING};
 ghost use Rattle.execution.specs.InPool.{task_in};
@@ -29,12 +29,12 @@ ghost use Rattle.quota_evict.specs.Within.{most_stored_bytes};
 use crate::answers::{on_end, on_fault, on_head, on_message};
 use crate::calls::Calls;
 use crate::contents::{Contents, InstanceSizes, Settings};
+use crate::counts::CallCounts;
 use crate::ending::on_outcome;
 use crate::event::{CallEvent, CallId, Reply};
 use crate::turns::{Turn, make_ready};
 use action_cache::Results;
 use blob_pool::Pool;
-use call_counts::CallCounts;
 use execution::{
     Executions, Job, Step, Task, forget_job, start_steps, take_steps, task_of, tick_steps,
 };
@@ -42,7 +42,7 @@ use instance_limits::Limits;
 use instance_view::View;
 use job_queue::Queue;
 use keyed_maps::MapKey;
-use run_outcomes::Outcome;
+use run_calls::Outcome;
 use std::alloc::{AllocError, Global};
 use std::marker::Model;
 use uploads::Uploads;

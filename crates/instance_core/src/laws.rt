@@ -3,7 +3,7 @@
 ghost use Rattle.std.specs.Prelude.{◌≡◌, ◌++◌, ℕ, List, []};
 ghost use Rattle.std.specs.List.{AllByRecursion};
 ghost use Rattle.job_queue.specs.Changes.{IsRunning};
-ghost use Rattle.run_outcomes.specs.Outcomes.{OutcomeValue};
+ghost use Rattle.run_calls.specs.Outcomes.{OutcomeValue};
 ghost use Rattle.instance_core.specs.Answer.{answer, orders_at, state_after};
 ghost use Rattle.instance_core.specs.Apart.{IsCallOn, replies_on};
 ghost use Rattle.instance_core.specs.declared.event.CallId.{CallId};

@@ -1,7 +1,8 @@
 //! One instance of the server: from what happens to calls to their replies.
 //!
 //! An instance has its own name, quota, texts and results. A reply, and what an event does to the
-//! instance, are functions of the instance's own state and the event alone.
+//! instance, are functions of the instance's own state and the event alone. Beside its state it
+//! counts how many calls of each method ended how, and how many bytes their messages had.
 #![tactic(auto)]
 
 mod answer;
@@ -9,6 +10,7 @@ mod answers;
 mod calls;
 mod capabilities;
 mod contents;
+mod counts;
 mod ending;
 mod event;
 mod executions;
@@ -24,6 +26,7 @@ mod turns;
 mod writing;
 
 pub use contents::InstanceSizes;
+pub use counts::{CallCounts, MethodCounts, STATUSES};
 pub use event::{CallEvent, CallId, GivenRange, Reply, ReplyItem};
 pub use execution::{Order, Step, Task};
 pub use instance::Instance;

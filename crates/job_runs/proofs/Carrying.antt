@@ -8,8 +8,8 @@ use Rattle.run_calls.specs.declared.task.RunKey.{RunKey}
 use Rattle.run_calls.specs.declared.folder.Place.{Place}
 use Rattle.std.specs.declared.io.ErrorKind.{ErrorKind}
 use Rattle.run_calls.specs.Calls.{FolderCall, FolderAnswer, gone, ProgramCall, RunCall, folder_call, program_call, folder_calls, program_calls, Adds, after}
-use Rattle.run_outcomes.specs.declared.outcome.Outcome.{Outcome}
-use Rattle.run_outcomes.specs.declared.outcome.Outcome.TheVariants as outcomes
+use Rattle.run_calls.specs.declared.outcome.Outcome.{Outcome}
+use Rattle.run_calls.specs.declared.outcome.Outcome.TheVariants as outcomes
 use Rattle.runner.specs.declared.fault.RunFault.{RunFault}
 use Rattle.runner.specs.declared.stage.Ending.{Ending}
 use Rattle.runner.specs.declared.stage.Ending.TheVariants.{Killing, Removing}

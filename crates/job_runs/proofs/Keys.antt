@@ -6,7 +6,7 @@ use Rattle.std.proofs.lemmas.Bool.{eqb-true, eq-eqb, true≢false}
 use Rattle.run_calls.specs.declared.task.RunKey.{RunKey}
 use Rattle.run_calls.specs.declared.folder.Place.{Place}
 use Rattle.runner.specs.declared.fault.RunFault.{RunFault}
-use Rattle.run_outcomes.specs.declared.outcome.Outcome.{Outcome}
+use Rattle.run_calls.specs.declared.outcome.Outcome.{Outcome}
 use Rattle.runner.specs.declared.stage.State.{State}
 use Rattle.runner.specs.declared.stage.State.TheVariants.{Live, Over}
 use Rattle.runner.specs.declared.stage.Run.{Run}

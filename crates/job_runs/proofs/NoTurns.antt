@@ -4,7 +4,7 @@ use Rattle.std.specs.List.{AllByRecursion}
 use Rattle.execution.specs.Job.{JobValue}
 use Rattle.execution.specs.Execute as Executor
 use Rattle.execution.specs.Execute.{ExecuteChange}
-use Rattle.run_outcomes.specs.Outcomes.{OutcomeValue}
+use Rattle.run_calls.specs.Outcomes.{OutcomeValue}
 use Rattle.instance_core.specs.Method.{Method}
 use Rattle.instance_core.specs.Method.TheVariants as Called
 use Rattle.instance_core.specs.Refusal.{Refusal}

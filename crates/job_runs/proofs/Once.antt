@@ -3,7 +3,7 @@ use Rattle.std.proofs.Common.{inl, inr, ◌≡◌, ℕ, List, [], ◌∷◌, ◌
 use Rattle.std.specs.Prelude.{⊤, false, Option, Some, None, Result}
 use Rattle.std.specs.declared.alloc.Global.{Global}
 use Rattle.std.specs.declared.vec.Vec.{Vec}
-use Rattle.run_outcomes.specs.declared.outcome.Outcome.{Outcome}
+use Rattle.run_calls.specs.declared.outcome.Outcome.{Outcome}
 use Rattle.execution.specs.Job.{TaskValue}
 use Rattle.runner.specs.declared.fault.RunFault.{RunFault}
 use Rattle.run_calls.specs.declared.task.RunKey.{RunKey}

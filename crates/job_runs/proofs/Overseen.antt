@@ -8,8 +8,8 @@ use Rattle.run_calls.specs.declared.folder.Place.{Place}
 use Rattle.run_calls.specs.declared.task.RunKey.{RunKey}
 use Rattle.run_calls.specs.Values.{PlaceValue, place_shown}
 use Rattle.run_calls.specs.Calls.{FolderCall, ProgramCall, RunCall, folder_call, program_call, folder_calls, program_calls}
-use Rattle.run_outcomes.specs.declared.outcome.Outcome.{Outcome}
-use Rattle.run_outcomes.specs.declared.outcome.Outcome.TheVariants.{Failed}
+use Rattle.run_calls.specs.declared.outcome.Outcome.{Outcome}
+use Rattle.run_calls.specs.declared.outcome.Outcome.TheVariants.{Failed}
 use Rattle.runner.specs.declared.fault.RunFault.{RunFault}
 use Rattle.runner.specs.declared.stage.Run.{Run}
 use Rattle.runner.specs.declared.stage.State.{State}

@@ -7,10 +7,10 @@ use Rattle.std.proofs.lemmas.Option.{none-some, same_Some}
 use Rattle.execution.specs.Job.{TaskValue}
 use Rattle.run_calls.specs.declared.task.RunKey.{RunKey}
 use Rattle.run_calls.specs.Calls.{FolderCall, ProgramCall}
-use Rattle.run_outcomes.specs.declared.outcome.Outcome.{Outcome}
-use Rattle.run_outcomes.specs.declared.outcome.Outcome.TheVariants as outcomes
-use Rattle.run_outcomes.specs.Outcomes.{OutcomeValue, failed}
-use Rattle.run_outcomes.specs.Shown.{exited_shown, outcome_shown}
+use Rattle.run_calls.specs.declared.outcome.Outcome.{Outcome}
+use Rattle.run_calls.specs.declared.outcome.Outcome.TheVariants as outcomes
+use Rattle.run_calls.specs.Outcomes.{OutcomeValue, failed}
+use Rattle.run_calls.specs.Shown.{exited_shown, outcome_shown}
 use Rattle.runner.specs.declared.fault.RunFault.{RunFault}
 use Rattle.runner.specs.declared.fault.RunFault.TheVariants.{Folder, NoMemory}
 use Rattle.runner.specs.declared.stage.Run.{Run}

@@ -9,7 +9,7 @@ use Rattle.execution.specs.Job.{JobValue}
 use Rattle.execution.specs.Orders.{OrderValue, orders_of, task_of}
 use Rattle.execution.specs.Steps.{StepValue, ends, jobs_after_steps, then_starts, ending_of}
 use Rattle.execution_messages.specs.Progress.{completed_text}
-use Rattle.run_outcomes.specs.Outcomes.{OutcomeValue}
+use Rattle.run_calls.specs.Outcomes.{OutcomeValue}
 use Rattle.instance_core.specs.Calls.{CallEventValue, tick as time_passes, start_jobs, end_late_jobs, end_job}
 use Rattle.instance_core.specs.State.{InstanceState}
 use Rattle.instance_core.specs.Visible.{Blob}

@@ -9,9 +9,9 @@ use Rattle.run_calls.specs.declared.task.RunKey.{RunKey}
 use Rattle.run_calls.specs.declared.task.Task.{Task}
 use Rattle.run_calls.specs.Values.{PlaceValue, place_shown}
 use Rattle.run_calls.specs.Calls.{FolderCall, ProgramCall, RunCall, of_programs, folder_calls, program_calls, forget_asked, program_done, Adds}
-use Rattle.run_outcomes.specs.declared.outcome.Outcome.{Outcome}
-use Rattle.run_outcomes.specs.declared.outcome.Outcome.TheVariants as outcomes
-use Rattle.run_outcomes.specs.Outcomes.{failed}
+use Rattle.run_calls.specs.declared.outcome.Outcome.{Outcome}
+use Rattle.run_calls.specs.declared.outcome.Outcome.TheVariants as outcomes
+use Rattle.run_calls.specs.Outcomes.{failed}
 use Rattle.runner.specs.declared.fault.RunFault.{RunFault}
 use Rattle.runner.specs.declared.fault.RunFault.TheVariants.{Left}
 use Rattle.runner.specs.declared.stage.Ending.{Ending}

@@ -1,7 +1,7 @@
 -- Jobs that an operator ends, and runs whose outputs break a rule.
 use Rattle.std.specs.Prelude.{◌≡◌, ◌⊎◌, true, List, Option, Some, None, IsSome, Result, Ok, Err}
-use Rattle.run_outcomes.specs.declared.outcome.Outcome.{Outcome}
-use Rattle.run_outcomes.specs.declared.outcome.Outcome.TheVariants.{Failed}
+use Rattle.run_calls.specs.declared.outcome.Outcome.{Outcome}
+use Rattle.run_calls.specs.declared.outcome.Outcome.TheVariants.{Failed}
 use Rattle.execution.specs.Job.{TaskValue}
 use Rattle.runner.specs.declared.fault.RunFault.{RunFault}
 use Rattle.run_calls.specs.declared.task.RunKey.{RunKey}

@@ -6,10 +6,10 @@ use Rattle.actions.specs.declared.walking.TheConstants.{MOST_NODES}
 use Rattle.execution.specs.Job.{TaskValue}
 use Rattle.outcomes.specs.Asked.{are_asked, is_asked}
 use Rattle.outcomes.specs.Trees.{is_shallow}
-use Rattle.run_outcomes.specs.Outcomes.{ExitedValue, OutputNodeValue, OutputValue, output_file, output_tree}
-use Rattle.run_outcomes.specs.Shown.{exited_shown}
-use Rattle.run_outcomes.specs.declared.outcome.Outcome.{Outcome}
-use Rattle.run_outcomes.specs.declared.outcome.Outcome.TheVariants as outcomes
+use Rattle.run_calls.specs.Outcomes.{ExitedValue, OutputNodeValue, OutputValue, output_file, output_tree}
+use Rattle.run_calls.specs.Shown.{exited_shown}
+use Rattle.run_calls.specs.declared.outcome.Outcome.{Outcome}
+use Rattle.run_calls.specs.declared.outcome.Outcome.TheVariants as outcomes
 use Rattle.runner.specs.declared.fault.RunFault.{RunFault}
 use Rattle.runner.specs.declared.fault.RunFault.TheVariants.{Folder, NoMemory}
 use Rattle.job_runs.specs.declared.output_rules.OutputRule.{OutputRule}

@@ -1,10 +1,10 @@
 -- What ran for the jobs of a server's instances: what the runs were told and told themselves, and
 -- what was asked of folders and programs for them, in one order. To be read from `HasRun` up.
 use Rattle.std.specs.Prelude.{◌≡◌, ◌⊎◌, ℕ, List, [], ◌∷◌, ◌++◌, fold, if◌then◌else◌, Some, None, Ok}
-use Rattle.run_outcomes.specs.declared.outcome.Exited.{Exited}
-use Rattle.run_outcomes.specs.declared.outcome.Outcome.TheVariants as outcomes
-use Rattle.run_outcomes.specs.Outcomes.{OutcomeValue, failed}
-use Rattle.run_outcomes.specs.Shown.{outcome_shown}
+use Rattle.run_calls.specs.declared.outcome.Exited.{Exited}
+use Rattle.run_calls.specs.declared.outcome.Outcome.TheVariants as outcomes
+use Rattle.run_calls.specs.Outcomes.{OutcomeValue, failed}
+use Rattle.run_calls.specs.Shown.{outcome_shown}
 use Rattle.execution.specs.Job.{TaskValue}
 use Rattle.execution.specs.Orders.{start, kill}
 use Rattle.run_calls.specs.declared.task.RunKey.{RunKey}

@@ -19,8 +19,7 @@ ghost use Rattle.job_runs.specs.Runs.{AreKilled, IsAnsweredFor, IsBegunIf, IsEnd
 use crate::beginning::begin;
 use crate::lent::LentTexts;
 use crate::span::{Span, span_with};
-use run_calls::{Folder, Programs, RunKey};
-use run_outcomes::Outcome;
+use run_calls::{Folder, Outcome, Programs, RunKey};
 use runner::{RunFault, Runner};
 use serve::{Doing, ErrorLines, Runs};
 use server_core::LentTask;

@@ -2,7 +2,7 @@
 
 ghost use Rattle.std.specs.Prelude.{◌≡◌, false, get_or, IfOk};
 ghost use Rattle.actions.specs.Shown.{node_shown, nodes_shown};
-ghost use Rattle.tree_nodes.specs.Nodes.{kind_shown};
+ghost use Rattle.run_calls.specs.Nodes.{kind_shown};
 ghost use Rattle.run_calls.specs.Values.{task_kind_shown, task_node_shown, task_nodes_shown};
 ghost use Rattle.job_runs.specs.Tasks.{kind_of, made_level, node_of, nodes_with, stands_in};
 ghost use Rattle.execution.specs.Numbers.{AreNumbers, kept_digests};
@@ -11,10 +11,9 @@ use actions::PlanNode;
 use digest::Digest;
 use execution::{KeptText, number_of};
 use keyed_maps::KeyedMap;
-use run_calls::{TaskNode, TaskNodeKind};
+use run_calls::{NodeKind, TaskNode, TaskNodeKind};
 use std::alloc::{AllocError, Global};
 use std::collections::VecDeque;
-use tree_nodes::NodeKind;
 
 /// What is to be made at a node, where a directory is one that was made before. It shares the
 /// target of a link.

@@ -6,7 +6,7 @@ ghost use Rattle.actions.specs.Commands.{asked_outputs};
 ghost use Rattle.actions.specs.Shown.{asked_shown};
 ghost use Rattle.outcomes.specs.Asked.{are_asked, is_asked};
 ghost use Rattle.outcomes.specs.Trees.{is_shallow, level_behind};
-ghost use Rattle.run_outcomes.specs.Shown.{node_shown, nodes_shown, output_shown};
+ghost use Rattle.run_calls.specs.Shown.{node_shown, nodes_shown, output_shown};
 ghost use Rattle.server_core.specs.Lent.{lent_shown};
 ghost use Rattle.job_runs.specs.OutputRules.{breaking_path, broken_by, broken_by_nodes, broken_of, first_breaking, first_broken, first_unasked, path_of};
 ghost use Rattle.job_runs.specs.Tasks.{command_for};
@@ -14,7 +14,7 @@ ghost use Rattle.job_runs.specs.Tasks.{command_for};
 use crate::commands::command_for;
 use actions::{AskedOutput, MOST_LEVELS, MOST_NODES, asked_outputs};
 use execution::read_task_command;
-use run_outcomes::{NodeKind, Output, OutputKind, OutputNode};
+use run_calls::{Output, OutputKind, OutputNode, OutputNodeKind};
 use server_core::LentTask;
 use std::alloc::{AllocError, Global};
 use std::io::{self, ErrorKind};
@@ -51,8 +51,8 @@ fn level_behind(node: &OutputNode) -> u64
 {
     let level = u64::from(node.level);
     match &node.kind {
-        NodeKind::File { .. } => level,
-        NodeKind::Directory => level + 1,
+        OutputNodeKind::File { .. } => level,
+        OutputNodeKind::Directory => level + 1,
     }
 }
 

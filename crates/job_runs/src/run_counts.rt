@@ -1,7 +1,6 @@
 //! What befell runs, for an operator alone: nothing else depends on it.
 
-use run_calls::RunKey;
-use run_outcomes::{Exited, NodeKind, Output, OutputKind, OutputNode};
+use run_calls::{Exited, Output, OutputKind, OutputNode, OutputNodeKind, RunKey};
 use runner::RunFault;
 use server_events::Configs;
 use std::alloc::{AllocError, Global};
@@ -36,7 +35,7 @@ fn place_of(fault: RunFault) -> usize {
 fn bytes_of_nodes(nodes: &[OutputNode]) -> u64 {
     let mut bytes: u64 = 0;
     for node in nodes.iter() {
-        if let NodeKind::File { content, .. } = &node.kind {
+        if let OutputNodeKind::File { content, .. } = &node.kind {
             bytes = bytes.saturating_add(content.length());
         }
     }

@@ -12,9 +12,8 @@ ghost use Rattle.job_runs.specs.Made.{are_apart, file_count, is_file, is_free_of
 use actions::{AskedOutput, PlanNode, asked_outputs};
 use digest::Digest;
 use execution_messages::Command as CommandMessage;
-use run_calls::InputTree;
+use run_calls::{InputTree, NodeKind};
 use std::alloc::{AllocError, Global};
-use tree_nodes::NodeKind;
 
 /// How many files a directory has that may be made, at any depth.
 const FEWEST_FILES: usize = 64;

@@ -1,3 +1,4 @@
 pub mod Trees
 pub mod Stages
 pub mod Claims
+pub mod RunTrees

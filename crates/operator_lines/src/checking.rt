@@ -6,9 +6,9 @@ ghost use Rattle.std.specs.Net.Socket.{socket_port};
 use crate::lines::ToldAddress;
 use crate::options::ip_of;
 use command_line::Question;
-use port_check::Answer;
 use std::io::{self, Write};
 use std::net::SocketAddr;
+use tool_programs::Answer;
 
 /// The most bytes of an instance's name.
 const NAME_LIMIT: usize = 64;

@@ -6,7 +6,7 @@ use Rattle.digest.specs.declared.Digest.{Digest}
 use Rattle.instance_view.specs.Visible.{Blob}
 use Rattle.tree_messages.specs.Results.{OutputDirectoryValue, OutputFileValue}
 use Rattle.outcomes.specs.Completing.{CollectionValue, no_outputs, with_output, with_outputs}
-use Rattle.run_outcomes.specs.Outcomes.{OutputValue}
+use Rattle.run_calls.specs.Outcomes.{OutputValue}
 use Rattle.outcomes.specs.Results.{file_blobs, file_results, tree_blobs, tree_results}
 
 -- lists that grow by what each item gives

@@ -10,7 +10,7 @@ use Rattle.tree_messages.specs.Results.{OutputDirectoryValue, OutputFileValue, a
 use Rattle.actions.specs.Commands.{AskedOutput}
 use Rattle.outcomes.specs.Asked.{are_asked}
 use Rattle.outcomes.specs.Completing.{CollectionValue, no_outputs, with_outputs}
-use Rattle.run_outcomes.specs.Outcomes.{ExitedValue, OutputNodeValue}
+use Rattle.run_calls.specs.Outcomes.{ExitedValue, OutputNodeValue}
 use Rattle.outcomes.specs.Results.{completion_of, file_blobs, file_results, is_output, result_with, stream_blobs, stream_digest, tree_blobs, tree_results}
 use Rattle.std.proofs.lemmas.Bool.{and_parts}
 use Rattle.actions.specs.declared.walking.TheConstants.{MOST_NODES}

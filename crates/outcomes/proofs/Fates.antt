@@ -5,7 +5,7 @@ use Rattle.digest.specs.declared.Digest.{Digest}
 use Rattle.instance_view.specs.Visible.{Blob}
 use Rattle.execution_messages.specs.declared.fault.Fault.{Fault}
 use Rattle.execution_messages.specs.Progress.{fails, gives}
-use Rattle.run_outcomes.specs.Outcomes.{ExitedValue, OutcomeValue, exited, failed}
+use Rattle.run_calls.specs.Outcomes.{ExitedValue, OutcomeValue, exited, failed}
 use Rattle.outcomes.specs.Results.{CompletionValue, are_outputs, blobs_given, fresh_bytes, result_text}
 use Rattle.execution.specs.Job.{JobValue}
 use Rattle.outcomes.specs.Ending.{completed, ending, is_success, outputs_asked, stored_of}

@@ -8,7 +8,7 @@ use Rattle.tree_messages.specs.Directories.{DirectoryNodeValue, DirectoryValue, 
 use Rattle.outcomes.specs.Naming.{written_like}
 use Rattle.outcomes.specs.declared.gathering.Gathering.{Gathering}
 use Rattle.outcomes.specs.Gathering.{IsClosed, IsGathered, above_deepest, below_nothing, deepest, directory_added, down_to, file_added, first_level, folder_shown, going_on, nothing, on_first, open_shown, with_closed}
-use Rattle.run_outcomes.specs.Outcomes.{OutputNodeValue, as_directory, as_file}
+use Rattle.run_calls.specs.Outcomes.{OutputNodeValue, as_directory, as_file}
 use Rattle.outcomes.specs.Trees.{below_root, directories_at, directory_at, directory_node, directory_with, file_node, files_at}
 use Rattle.outcomes.proofs.Opening.{down_end}
 

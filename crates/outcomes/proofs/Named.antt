@@ -8,7 +8,7 @@ use Rattle.digest.proofs.Same.{function_again}
 use Rattle.instance_view.specs.Visible.{Blob}
 use Rattle.outcomes.specs.Completing.{blob_shown}
 use Rattle.outcomes.specs.Naming.{digest_like}
-use Rattle.run_outcomes.specs.Outcomes.{ExitedValue, NodeKindValue, OutcomeValue, OutputNodeValue, OutputValue, as_directory, as_file, exited, failed, output_file, output_tree}
+use Rattle.run_calls.specs.Outcomes.{ExitedValue, NodeKindValue, OutcomeValue, OutputNodeValue, OutputValue, as_directory, as_file, exited, failed, output_file, output_tree}
 use Rattle.outcomes.specs.Results.{CompletionValue, are_outputs, blobs_given, file_blobs, fresh_bytes, node_blob, node_blobs, result_text, stream_blobs, tree_blobs}
 use Rattle.outcomes.specs.Trees.{tree_text}
 use Rattle.execution.specs.Job.{JobValue}

@@ -4,7 +4,7 @@ use Rattle.std.specs.List.{flat_map}
 use Rattle.std.proofs.lemmas.Bool.{and_parts}
 use Rattle.digest.specs.declared.Digest.{Digest}
 use Rattle.tree_messages.specs.Directories.{DirectoryNodeValue, FileNodeValue}
-use Rattle.run_outcomes.specs.Outcomes.{NodeKindValue, OutputNodeValue, as_directory, as_file}
+use Rattle.run_calls.specs.Outcomes.{NodeKindValue, OutputNodeValue, as_directory, as_file}
 use Rattle.outcomes.specs.Trees.{are_walked, directories_at, directory_node, directory_with, file_node, files_at, has_place, is_directory_node, level_behind, nodes_first}
 use Rattle.outcomes.proofs.Gathered.{lt_false}
 use Rattle.outcomes.proofs.Walked.{placed}

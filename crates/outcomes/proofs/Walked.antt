@@ -3,10 +3,10 @@ use Rattle.std.proofs.Common.{◌≡◌, ◌≤◌, ℕ, ◌+◌, Bool, true, �
 use Rattle.std.proofs.lemmas.Bool.{and_parts}
 use Rattle.std.proofs.lemmas.Bool.Decides.{nat_tests}
 use Rattle.std.proofs.lemmas.List.{map-append}
-use Rattle.run_outcomes.specs.declared.outcome.OutputNode.{OutputNode}
+use Rattle.run_calls.specs.declared.outcome.OutputNode.{OutputNode}
 use Rattle.outcomes.specs.Gathering.{first_level}
-use Rattle.run_outcomes.specs.Outcomes.{NodeKindValue, OutputNodeValue, as_directory, as_file}
-use Rattle.run_outcomes.specs.Shown.{node_shown, nodes_shown}
+use Rattle.run_calls.specs.Outcomes.{NodeKindValue, OutputNodeValue, as_directory, as_file}
+use Rattle.run_calls.specs.Shown.{node_shown, nodes_shown}
 use Rattle.outcomes.specs.Trees.{are_walked, has_place, level_behind}
 
 le_from : (a b : ℕ) → nat_le a b ≡ true → a ≤ b

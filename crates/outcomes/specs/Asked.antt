@@ -2,7 +2,7 @@
 use Rattle.std.specs.Prelude.{ℕ, Bool, true, false, List, [], ◌∷◌, ◌&&◌, if◌then◌else◌}
 use Rattle.std.specs.Str.{bytes_eq}
 use Rattle.actions.specs.Commands.{AskedOutput}
-use Rattle.run_outcomes.specs.Outcomes.{OutputValue, output_file, output_tree}
+use Rattle.run_calls.specs.Outcomes.{OutputValue, output_file, output_tree}
 
 abbrev pub is_asked : AskedOutput → OutputValue → Bool
 is_asked a (output_file path text is_executable) = a.as_file && bytes_eq a.path path

@@ -12,7 +12,7 @@ use Rattle.outcomes.specs.declared.completion.Completion.{Completion}
 use Rattle.outcomes.specs.declared.completion.Collection.{Collection}
 use Rattle.outcomes.specs.declared.completion.NamedOutput.{NamedOutput}
 use Rattle.outcomes.specs.declared.completion.NamedTree.{NamedTree}
-use Rattle.run_outcomes.specs.Outcomes.{OutputValue}
+use Rattle.run_calls.specs.Outcomes.{OutputValue}
 use Rattle.outcomes.specs.Results.{CompletionValue, file_blobs, file_results, is_output, tree_blobs, tree_results}
 
 abbrev pub blob_text : BlobText → List ℕ

@@ -8,7 +8,7 @@ use Rattle.cas_service.specs.Changes.{TextChange, Store}
 use Rattle.actions.specs.Commands.{AskedOutput, asked_outputs, command_in}
 use Rattle.execution_messages.specs.declared.fault.Fault.TheVariants.{QuotaExceeded, RunFailed}
 use Rattle.execution_messages.specs.Progress.{EndValue, gives, fails}
-use Rattle.run_outcomes.specs.Outcomes.{OutcomeValue, failed, exited}
+use Rattle.run_calls.specs.Outcomes.{OutcomeValue, failed, exited}
 use Rattle.outcomes.specs.Results.{CompletionValue, completion_of, fresh_bytes}
 use Rattle.execution.specs.Job.{JobValue}
 

@@ -1,7 +1,7 @@
 -- What is known of how a job ends, said of it by itself.
 use Rattle.std.specs.Prelude.{◌≡◌, ℕ, pos, true, List, [], None}
 use Rattle.execution_messages.specs.Progress.{gives}
-use Rattle.run_outcomes.specs.Outcomes.{ExitedValue, OutcomeValue, exited}
+use Rattle.run_calls.specs.Outcomes.{ExitedValue, OutcomeValue, exited}
 use Rattle.execution.specs.Job.{JobValue}
 use Rattle.outcomes.specs.Ending.{EndingValue}
 

@@ -11,7 +11,7 @@ use Rattle.outcomes.specs.declared.folder.NamedDirectory.{NamedDirectory}
 use Rattle.outcomes.specs.declared.folder.NamedFile.{NamedFile}
 use Rattle.outcomes.specs.declared.folder.OpenFolder.{OpenFolder}
 use Rattle.outcomes.specs.declared.gathering.Gathering.{Gathering}
-use Rattle.run_outcomes.specs.Outcomes.{OutputNodeValue}
+use Rattle.run_calls.specs.Outcomes.{OutputNodeValue}
 use Rattle.outcomes.specs.Trees.{below_root, directory_at, directory_node, directory_text, directory_with}
 
 abbrev pub named_file_shown : NamedFile → FileNodeValue

@@ -9,3 +9,5 @@ pub mod Fresh
 pub mod Ending
 pub mod Endings
 pub mod Fates
+pub mod Short
+pub mod Told

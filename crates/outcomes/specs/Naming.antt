@@ -4,7 +4,7 @@ use Rattle.digest.specs.declared.Digest.{Digest}
 use Rattle.instance_view.specs.Visible.{Blob}
 use Rattle.reapi_messages.specs.Digests.{DigestValue}
 use Rattle.execution_messages.specs.Written.{digest_value}
-pub use Rattle.run_outcomes.specs.Naming.{digest_like}
+pub use Rattle.run_calls.specs.Naming.{digest_like}
 
 -- the digest of a text, by the function of another digest, as messages write it
 abbrev pub written_like : Digest → List ℕ → DigestValue

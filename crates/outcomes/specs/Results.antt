@@ -11,7 +11,7 @@ use Rattle.execution_messages.specs.Statuses.{distinct}
 use Rattle.actions.specs.Commands.{AskedOutput}
 use Rattle.outcomes.specs.Asked.{are_asked}
 use Rattle.outcomes.specs.Naming.{blob_like, written_like}
-use Rattle.run_outcomes.specs.Outcomes.{ExitedValue, NodeKindValue, OutputNodeValue, OutputValue, as_directory, as_file, output_file, output_tree}
+use Rattle.run_calls.specs.Outcomes.{ExitedValue, NodeKindValue, OutputNodeValue, OutputValue, as_directory, as_file, output_file, output_tree}
 use Rattle.outcomes.specs.Trees.{is_tree, tree_text}
 
 -- ---- outputs that are taken

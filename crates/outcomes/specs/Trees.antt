@@ -8,7 +8,7 @@ use Rattle.tree_messages.specs.Directories.{DirectoryNodeValue, DirectoryValue, 
 use Rattle.input_tree.specs.Directories.{is_directory}
 use Rattle.actions.specs.declared.walking.TheConstants.{MOST_LEVELS, MOST_NODES}
 use Rattle.outcomes.specs.Naming.{written_like}
-use Rattle.run_outcomes.specs.Outcomes.{NodeKindValue, OutputNodeValue, as_directory, as_file}
+use Rattle.run_calls.specs.Outcomes.{NodeKindValue, OutputNodeValue, as_directory, as_file}
 
 abbrev pub directory_text : DirectoryValue → List ℕ
 directory_text v = text_for directory_records v

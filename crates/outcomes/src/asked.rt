@@ -3,10 +3,10 @@
 ghost use Rattle.std.specs.Prelude.{◌≡◌, map};
 ghost use Rattle.outcomes.specs.Asked.{are_asked, is_asked};
 ghost use Rattle.actions.specs.Shown.{asked_shown};
-ghost use Rattle.run_outcomes.specs.Shown.{output_shown};
+ghost use Rattle.run_calls.specs.Shown.{output_shown};
 
 use actions::AskedOutput;
-use run_outcomes::{Output, OutputKind};
+use run_calls::{Output, OutputKind};
 
 /// Whether an output is the one that is asked for.
 fn is_asked(asked: &AskedOutput<'_>, output: &Output) -> bool

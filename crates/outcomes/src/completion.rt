@@ -9,9 +9,9 @@ ghost use Rattle.execution_messages.specs.Written.{written_shown};
 ghost use Rattle.outcomes.specs.Completing.{Collects, blob_shown, IsCollected, completion_shown, named_output_shown, named_tree_shown};
 ghost use Rattle.outcomes.specs.Naming.{blob_like};
 ghost use Rattle.outcomes.specs.Results.{completion_of, is_output, node_blob, node_blobs, result_with, stream_blobs, stream_digest};
-ghost use Rattle.run_outcomes.specs.Shown.{exited_shown, node_shown, nodes_shown, output_shown};
+ghost use Rattle.run_calls.specs.Shown.{exited_shown, node_shown, nodes_shown, output_shown};
 ghost use Rattle.outcomes.specs.Trees.{tree_text};
-ghost use Rattle.run_outcomes.specs.Outcomes.{output_file, output_tree};
+ghost use Rattle.run_calls.specs.Outcomes.{output_file, output_tree};
 
 use crate::asked::are_asked;
 use crate::naming::{digest_like, write_content, write_text};
@@ -23,7 +23,7 @@ use execution_messages::WrittenDigest;
 use keyed_maps::MapKey;
 use message_fields::Message;
 use reapi_messages as messages;
-use run_outcomes::{Content, Exited, NodeKind, Output, OutputKind, OutputNode, Streams};
+use run_calls::{Content, Exited, Output, OutputKind, OutputNode, OutputNodeKind, Streams};
 use std::alloc::{AllocError, Global};
 use std::collections::VecDeque;
 use tree_messages::{ActionResult, OutputDirectory, OutputFile};
@@ -157,7 +157,7 @@ fn push_node(like: &Digest, blobs: &mut Vec<OutputBlob>, node: OutputNode) -> Re
     ensures { OnOk result (map blob_shown blobs.new.items
         ≡ map blob_shown blobs.old.items ++ node_blob like.now (node_shown node).kind) }
 {
-    if let NodeKind::File { content, .. } = node.into_kind() {
+    if let OutputNodeKind::File { content, .. } = node.into_kind() {
         blobs.push(content_blob(like, content))?;
     }
     Ok(())

@@ -7,15 +7,15 @@ ghost use Rattle.input_tree.specs.Directories.{is_directory};
 ghost use Rattle.execution_messages.specs.Written.{written_shown};
 ghost use Rattle.outcomes.specs.Gathering.{IsClosed, IsGathered, directory_added, down_to, file_added, first_level, folder_shown, named_directory_shown, named_file_shown, on_first, open_shown};
 ghost use Rattle.outcomes.specs.Naming.{written_like};
-ghost use Rattle.run_outcomes.specs.Outcomes.{OutputNodeValue};
-ghost use Rattle.run_outcomes.specs.Shown.{node_shown, nodes_shown};
+ghost use Rattle.run_calls.specs.Outcomes.{OutputNodeValue};
+ghost use Rattle.run_calls.specs.Shown.{node_shown, nodes_shown};
 ghost use Rattle.outcomes.specs.Trees.{are_walked, directory_text, level_behind};
 
 use crate::folder::{Folder, NamedDirectory, NamedFile, OpenFolder, folder_text, is_taken};
 use crate::naming::{write_content, write_text};
 use digest::Digest;
 use execution_messages::WrittenDigest;
-use run_outcomes::{Content, NodeKind, OutputNode};
+use run_calls::{Content, OutputNode, OutputNodeKind};
 use std::alloc::{AllocError, Global};
 use std::collections::VecDeque;
 
@@ -215,7 +215,7 @@ fn gather_node<'a>(
 {
     let level = node.level as usize;
     match &node.kind {
-        NodeKind::File {
+        OutputNodeKind::File {
             content,
             is_executable,
         } => gather_file(
@@ -227,7 +227,7 @@ fn gather_node<'a>(
             content,
             *is_executable,
         ),
-        NodeKind::Directory => close_directory(alloc, like, gathering, &node.name, level),
+        OutputNodeKind::Directory => close_directory(alloc, like, gathering, &node.name, level),
     }
 }
 

@@ -4,12 +4,12 @@ ghost use Rattle.std.specs.Prelude.{◌≡◌, ◌≢◌, ◌==◌, ◌&&◌, Li
 ghost use Rattle.std.specs.List.{AllPairs, Contains, flat_map};
 ghost use Rattle.digest.specs.declared.Digest.{Digest};
 ghost use Rattle.tree_messages.specs.Directories.{DirectoryValue};
-ghost use Rattle.run_outcomes.specs.Outcomes.{OutputNodeValue};
+ghost use Rattle.run_calls.specs.Outcomes.{OutputNodeValue};
 ghost use Rattle.outcomes.specs.Trees.{are_walked, below_root, children_of, directory_text, file_node, is_directory_node, root_of};
 ghost use Rattle.instance_view.specs.Visible.{Blob};
 ghost use Rattle.execution_messages.specs.declared.fault.Fault.{Fault};
 ghost use Rattle.execution_messages.specs.Progress.{fails};
-ghost use Rattle.run_outcomes.specs.Outcomes.{OutcomeValue};
+ghost use Rattle.run_calls.specs.Outcomes.{OutcomeValue};
 ghost use Rattle.execution.specs.Job.{JobValue};
 ghost use Rattle.outcomes.specs.Ending.{ending};
 ghost use Rattle.outcomes.specs.Fates.{IsOfSuccess, LeavesNothing};

@@ -1,5 +1,6 @@
 //! What the run of an action comes to: the blobs that it leaves, and its result
-//! (remote_execution.proto, `ActionResult` and `Tree`).
+//! (remote_execution.proto, `ActionResult` and `Tree`). The messages by which executions are told
+//! of are short: laws about the definitions alone.
 #![tactic(auto)]
 
 mod asked;
@@ -10,6 +11,7 @@ mod gathering;
 mod laws;
 mod naming;
 mod quota;
+mod sizes;
 mod tree;
 
 pub use completion::{BlobText, Completion, OutputBlob, complete};
@@ -19,3 +21,9 @@ pub use laws::{
     what_fails_leaves_nothing,
 };
 pub use quota::is_over_quota;
+pub use sizes::{
+    actions_asked_for_have_their_form, answers_to_execute_are_short, answers_to_wait_are_short,
+    blobs_within_a_quota_have_sizes, completed_operations_are_short, jobs_stay_told,
+    results_of_runs_are_short, runs_are_told_shortly, steps_are_told_shortly,
+    unfinished_operations_are_short,
+};

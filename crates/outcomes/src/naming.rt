@@ -6,7 +6,7 @@ ghost use Rattle.outcomes.specs.Naming.{digest_like, written_like};
 
 use digest::Digest;
 use execution_messages::{WrittenDigest, write_digest};
-use run_outcomes::Content;
+use run_calls::Content;
 use std::alloc::{AllocError, Global};
 
 /// The digest of a text, by the function of another digest.

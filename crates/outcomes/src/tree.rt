@@ -5,7 +5,7 @@ ghost use Rattle.std.specs.List.{list_all};
 ghost use Rattle.message_fields.specs.Parts.{text_for};
 ghost use Rattle.tree_messages.specs.Directories.{directory_shown, tree_records};
 ghost use Rattle.outcomes.specs.Gathering.{HaveTexts, folder_shown};
-ghost use Rattle.run_outcomes.specs.Shown.{node_shown, nodes_shown};
+ghost use Rattle.run_calls.specs.Shown.{node_shown, nodes_shown};
 ghost use Rattle.outcomes.specs.Trees.{are_walked, has_place, is_shallow, keeps_walk, level_behind, with_child, with_children};
 ghost use Rattle.outcomes.specs.TreeOf.{tree_of};
 
@@ -15,7 +15,7 @@ use actions::{MOST_LEVELS, MOST_NODES};
 use digest::Digest;
 use keyed_maps::{KeyedSet, MapKey};
 use message_fields::Message;
-use run_outcomes::{NodeKind, OutputNode};
+use run_calls::{OutputNode, OutputNodeKind};
 use std::alloc::{AllocError, Global};
 use std::collections::VecDeque;
 use tree_messages::{Directory, Tree};
@@ -26,8 +26,8 @@ fn level_behind(node: &OutputNode) -> u64
 {
     let level = u64::from(node.level);
     match &node.kind {
-        NodeKind::File { .. } => level,
-        NodeKind::Directory => level + 1,
+        OutputNodeKind::File { .. } => level,
+        OutputNodeKind::Directory => level + 1,
     }
 }
 
@@ -51,8 +51,8 @@ fn has_place(last: u64, node: &OutputNode) -> bool
 {
     let level = u64::from(node.level);
     match &node.kind {
-        NodeKind::File { .. } => 1 <= level && level == last,
-        NodeKind::Directory => 1 <= level && level <= last,
+        OutputNodeKind::File { .. } => 1 <= level && level == last,
+        OutputNodeKind::Directory => 1 <= level && level <= last,
     }
 }
 

@@ -3,10 +3,10 @@
 use crate::exit::Exit;
 use command_line::Question;
 use operator_lines::{Outcome, address_of, is_memory, tell_outcome};
-use port_check::{ask, question_bytes};
 use std::io::{self, Write};
 use std::net::{SocketAddr, TcpStream};
 use std::time::Duration;
+use tool_programs::{ask, question_bytes};
 
 /// Connects to a server, and asks it.
 fn ask_server(rt: &HostRuntime, address: SocketAddr, asked: Question<'_>) -> io::Result<Outcome> {

@@ -1,6 +1,6 @@
 //! How the program ends.
 
-use program_status::Status;
+use tool_programs::Status;
 
 /// How the program ends, which its exit status tells.
 #[derive(Clone, Copy, PartialEq, Eq)]

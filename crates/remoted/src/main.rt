@@ -24,15 +24,12 @@ use crate::serve_ports::serve_ports;
 use crate::telling::tell_file;
 use command_line::{CommandLineError, Invocation, parse};
 use operator_lines::tell_usage;
-use probe::{Request, probe};
-use program_status::{Fault, Status, read_all, told};
-use replay::replay;
 use script::{ScriptKind, fault_of_line};
 use server_events::Limits;
 use std::io::{self, BufWriter, ErrorKind, Write};
 use std::net::{Ipv4Addr, SocketAddr, TcpStream};
 use std::process::ExitCode;
-use unary::unary;
+use tool_programs::{Fault, Request, Status, probe, read_all, replay, told, unary};
 
 /// Carries out the script of a text by instances with these numbers, and says how the program ends.
 /// Of a bad line it is told what is wrong with it, on a line behind the one that names it.

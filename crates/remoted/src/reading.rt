@@ -1,8 +1,8 @@
 //! Files that a command reads whole.
 
-use program_status::read_file;
 use std::fs::{self, File};
 use std::io::{self, ErrorKind, Write};
+use tool_programs::read_file;
 
 /// Why a file cannot be read now, if it cannot.
 fn reason_of(rt: &HostRuntime, path: &str) -> Option<io::Error> {

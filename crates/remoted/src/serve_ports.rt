@@ -25,13 +25,13 @@ use host_system::{HostShells, HostSpawner, HostSystem};
 use host_wires::{ThisHost, TurnClock};
 use job_runs::{JobRunner, OperatedRuns};
 use keyed_maps::MapKey;
+use made_trees::InstanceTrees;
 use operator_lines::{
     Instances, Options, binds_trees, can_bind, instances_of, is_memory, leaves_no_process,
     options_of, slots_of, tell_end, tell_lacking, tell_no_launcher, tell_refused_words, tell_taken,
     told,
 };
 use run_programs::{Launcher, RunPrograms, launcher_path};
-use run_trees::InstanceTrees;
 use serve::{ErrorLines, Sockets, serve};
 use server_events::Configs;
 use std::alloc::AllocError;

@@ -202,12 +202,27 @@ fn open_aside<D: Directory>(directory: &D, name: &[u8], aside: &D) -> io::Result
     file_in(directory, name, file)
 }
 
+/// How many bytes are read at a time at the beginning of a file: most files have no more.
+const FIRST_BYTES: u32 = 4_096;
+
+/// How many bytes are read at once from a place on. Room for them is cleared first, which for a
+/// small file would take longer than to read it.
+fn room_from(from: u64, most: u32) -> u32
+    ensures { result ≤ most }
+{
+    if from < FIRST_BYTES as u64 {
+        most.min(FIRST_BYTES)
+    } else {
+        most
+    }
+}
+
 /// Bytes of a file from a place on, at most so many; none at its end alone.
 pub fn read_part<F: OpenFile>(alloc: Global, file: &F, from: u64, most: u32) -> io::Result<Vec<u8>>
     ensures within { IfOk result (λ bytes. length bytes.items ≤ most) }
     ensures gave { IfOk result (λ bytes. F.gave file.now from bytes.items) }
 {
-    let mut bytes = vec![in alloc; 0; most as usize]?;
+    let mut bytes = vec![in alloc; 0; room_from(from, most) as usize]?;
     let count = file.read_at(&mut bytes, from)?;
     bytes.truncate(count);
     Ok(bytes)

@@ -20,7 +20,7 @@ use Rattle.outcomes.specs.Ending.{admissions, results_with}
 use Rattle.execution.specs.Job.{JobValue}
 use Rattle.execution.specs.Steps.{StepValue}
 use Rattle.job_queue.specs.Jobs.{running_job}
-use Rattle.run_outcomes.specs.Outcomes.{OutcomeValue}
+use Rattle.run_calls.specs.Outcomes.{OutcomeValue}
 use Rattle.instance_core.specs.declared.event.CallId.{CallId}
 use Rattle.instance_core.specs.Calls.{CallValue, CallEventValue, has, start_jobs, end_late_jobs, end_job}
 use Rattle.instance_core.specs.Changes.{Text, Keeps as KeepsResults, Settles, state_after_change, state_after_changes}

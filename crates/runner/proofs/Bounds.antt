@@ -13,7 +13,7 @@ use Rattle.runner.specs.declared.fault.RunFault.{RunFault}
 use Rattle.runner.specs.declared.stage.Ending.{Ending}
 use Rattle.runner.specs.declared.stage.Ending.TheVariants.{Killing, Removing}
 use Rattle.runner.specs.declared.stage.Stopped.{Stopped}
-use Rattle.run_outcomes.specs.declared.outcome.Exited.{Exited}
+use Rattle.run_calls.specs.declared.outcome.Exited.{Exited}
 use Rattle.runner.specs.Runs.{EndsBy, forgotten, left_of_kill}
 use Rattle.runner.proofs.Calls.{adds_more, adds_none, adds_same}
 use Rattle.runner.proofs.Collect.{collect_append}

@@ -7,8 +7,8 @@ use Rattle.run_calls.specs.declared.node.TaskNode.{TaskNode}
 use Rattle.run_calls.specs.declared.node.TaskNodeKind.{TaskNodeKind}
 use Rattle.run_calls.specs.declared.node.TaskNodeKind.TheVariants as node_kinds
 use Rattle.run_calls.specs.declared.programs.Stream.{Stream}
-use Rattle.run_outcomes.specs.declared.outcome.OutputNode.{OutputNode}
-use Rattle.run_outcomes.specs.declared.outcome.Output.{Output}
+use Rattle.run_calls.specs.declared.outcome.OutputNode.{OutputNode}
+use Rattle.run_calls.specs.declared.outcome.Output.{Output}
 use Rattle.run_calls.specs.Values.{PlaceValue}
 use Rattle.runner.specs.Made.{names_at, above_then}
 use Rattle.runner.specs.Gathered.{ItemValue, byte_at, numbered, node_items, nodes_items, above_after, above_all, kind_items, output_items}

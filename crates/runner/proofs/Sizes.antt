@@ -3,13 +3,13 @@ use Rattle.std.proofs.Common.{◌≡◌, ◌≤◌, ℕ, ◌+◌, true, false, L
 use Rattle.std.specs.Prelude.{Some, None, Result, Ok, Err, zero, suc, string_bytes}
 use Rattle.run_calls.specs.declared.task.RunKey.{RunKey}
 use Rattle.run_calls.specs.declared.folder.Found.TheVariants as founds
-use Rattle.run_outcomes.specs.declared.outcome.Exited.{Exited}
-use Rattle.run_outcomes.specs.declared.outcome.Output.{Output}
-use Rattle.run_outcomes.specs.declared.outcome.OutputKind.{OutputKind}
-use Rattle.run_outcomes.specs.declared.outcome.OutputKind.TheVariants as kinds
-use Rattle.run_outcomes.specs.declared.outcome.OutputNode.{OutputNode}
-use Rattle.run_outcomes.specs.declared.outcome.NodeKind.{NodeKind}
-use Rattle.run_outcomes.specs.declared.outcome.NodeKind.TheVariants as node_kinds
+use Rattle.run_calls.specs.declared.outcome.Exited.{Exited}
+use Rattle.run_calls.specs.declared.outcome.Output.{Output}
+use Rattle.run_calls.specs.declared.outcome.OutputKind.{OutputKind}
+use Rattle.run_calls.specs.declared.outcome.OutputKind.TheVariants as kinds
+use Rattle.run_calls.specs.declared.outcome.OutputNode.{OutputNode}
+use Rattle.run_calls.specs.declared.outcome.OutputNodeKind.{OutputNodeKind}
+use Rattle.run_calls.specs.declared.outcome.OutputNodeKind.TheVariants as node_kinds
 use Rattle.run_calls.specs.declared.programs.Stream.{Stream}
 use Rattle.run_calls.specs.declared.programs.Stream.TheVariants as streams
 use Rattle.runner.specs.declared.stage.Stage.{Stage}
@@ -78,7 +78,7 @@ whole_stream_count run s bs =
     let one = stream_count run s 0 bs in
     omega (arith, split, one)
 
-node_count : (place : PlaceValue) (path : List ℕ) (names : List (List ℕ)) (k : NodeKind) →
+node_count : (place : PlaceValue) (path : List ℕ) (names : List (List ℕ)) (k : OutputNodeKind) →
     items_count (node_items place path names k) ≡ node_length k
 node_count place path names (node_kinds.File content is_executable) = let e = whole_count place path names content in omega (arith, e)
 node_count place path names node_kinds.Directory = omega arith

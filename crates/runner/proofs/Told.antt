@@ -6,8 +6,8 @@ use Rattle.std.specs.declared.io.Error.{Error}
 use Rattle.run_calls.specs.declared.folder.Found.{Found}
 use Rattle.run_calls.specs.declared.folder.Found.TheVariants.{File}
 use Rattle.run_calls.specs.declared.folder.FileFacts.{FileFacts}
-use Rattle.run_outcomes.specs.declared.outcome.Output.{Output}
-use Rattle.run_outcomes.specs.declared.outcome.OutputNode.{OutputNode}
+use Rattle.run_calls.specs.declared.outcome.Output.{Output}
+use Rattle.run_calls.specs.declared.outcome.OutputNode.{OutputNode}
 use Rattle.run_calls.specs.declared.programs.Stream.{Stream}
 use Rattle.run_calls.specs.declared.task.RunKey.{RunKey}
 use Rattle.run_calls.specs.Calls.{look_asked, file_asked, bytes_asked, found_of, facts_of, folder_bytes_of, length_asked, read_asked, length_of, bytes_of}

@@ -1,8 +1,8 @@
 -- Nodes that are added to those of an output directory.
 use Rattle.std.proofs.Common.{◌≡◌, ℕ, ◌+◌, ◌-◌, Bool, List, [], ◌∷◌, ◌++◌, subst, take, length, refl, ap, sym, ◌∙◌}
 use Rattle.std.specs.Prelude.{string_bytes, Option, Result, Ok, Err, IfOk}
-use Rattle.run_outcomes.specs.declared.outcome.OutputNode.{OutputNode}
-use Rattle.run_outcomes.specs.declared.outcome.NodeKind.TheVariants.{File, Directory}
+use Rattle.run_calls.specs.declared.outcome.OutputNode.{OutputNode}
+use Rattle.run_calls.specs.declared.outcome.OutputNodeKind.TheVariants.{File, Directory}
 use Rattle.runner.specs.declared.tree.Tree.{Tree}
 use Rattle.runner.specs.declared.stage.Gathering.{Gathering}
 use Rattle.runner.specs.declared.stage.Stage.TheVariants as stages

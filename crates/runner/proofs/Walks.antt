@@ -8,9 +8,9 @@ use Rattle.std.proofs.Math.Seq.{take-length}
 use Rattle.std.proofs.lemmas.List.{map-append, reverse-append, reverse-reverse, take-append-le}
 use Rattle.runner.specs.declared.gathering.Next.{Next}
 use Rattle.runner.specs.declared.gathering.Next.TheVariants as nexts
-use Rattle.run_outcomes.specs.declared.outcome.OutputNode.{OutputNode}
-use Rattle.run_outcomes.specs.declared.outcome.NodeKind.{NodeKind}
-use Rattle.run_outcomes.specs.declared.outcome.NodeKind.TheVariants as node_kinds
+use Rattle.run_calls.specs.declared.outcome.OutputNode.{OutputNode}
+use Rattle.run_calls.specs.declared.outcome.OutputNodeKind.{OutputNodeKind}
+use Rattle.run_calls.specs.declared.outcome.OutputNodeKind.TheVariants as node_kinds
 use Rattle.runner.specs.declared.tree.Inner.{Inner}
 use Rattle.runner.specs.declared.tree.Tree.{Tree}
 use Rattle.run_calls.specs.Values.{PlaceValue, EntryValue, entry_shown}
@@ -328,7 +328,7 @@ stack_left n left inner stack = stack_more inner.level n (stack_of left) stack.1
 
 -- ---- of nodes
 
-after_short : (above : List (List ℕ)) (n : OutputNode) (k : NodeKind) → length (above_after above n k) ≤ length above + 1
+after_short : (above : List (List ℕ)) (n : OutputNode) (k : OutputNodeKind) → length (above_after above n k) ≤ length above + 1
 after_short above n (node_kinds.File content is_executable) = let front = length-take (n.level - 1) above in omega (arith, front)
 after_short above n node_kinds.Directory =
     let front = length-take (n.level - 1) above in

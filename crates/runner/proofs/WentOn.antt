@@ -6,7 +6,7 @@ use Rattle.std.specs.Global.{Vec}
 use Rattle.std.specs.Result.{result_and}
 use Rattle.run_calls.specs.declared.task.RunKey.{RunKey}
 use Rattle.runner.specs.declared.fault.RunFault.{RunFault}
-use Rattle.run_outcomes.specs.declared.outcome.Outcome.{Outcome}
+use Rattle.run_calls.specs.declared.outcome.Outcome.{Outcome}
 use Rattle.runner.specs.declared.stage.Stage.{Stage}
 use Rattle.runner.specs.declared.stage.Ending.{Ending}
 use Rattle.runner.specs.declared.stage.State.{State}

@@ -3,7 +3,7 @@ use Rattle.std.proofs.Common.{◌≡◌, ℕ, List, [], ◌∷◌, ◌++◌, map
 use Rattle.std.specs.Prelude.{Option, Some, string_bytes}
 use Rattle.std.specs.Rc.{rc_str_bytes}
 use Rattle.run_calls.specs.declared.folder.Place.{Place}
-use Rattle.run_outcomes.specs.declared.outcome.Exited.{Exited}
+use Rattle.run_calls.specs.declared.outcome.Exited.{Exited}
 use Rattle.run_calls.specs.declared.task.Task.{Task}
 use Rattle.runner.specs.declared.stage.Making.TheVariants as makings
 use Rattle.runner.specs.declared.stage.Stage.{Stage}

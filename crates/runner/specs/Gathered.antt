@@ -3,12 +3,12 @@ use Rattle.std.specs.Prelude.{ℕ, zero, suc, ◌+◌, ◌-◌, Bool, List, [], 
 use Rattle.run_calls.specs.declared.folder.Found.{Found}
 use Rattle.run_calls.specs.declared.folder.Found.TheVariants as founds
 use Rattle.run_calls.specs.declared.folder.FileFacts.{FileFacts}
-use Rattle.run_outcomes.specs.declared.outcome.NodeKind.{NodeKind}
-use Rattle.run_outcomes.specs.declared.outcome.NodeKind.TheVariants as node_kinds
-use Rattle.run_outcomes.specs.declared.outcome.OutputNode.{OutputNode}
-use Rattle.run_outcomes.specs.declared.outcome.OutputKind.{OutputKind}
-use Rattle.run_outcomes.specs.declared.outcome.OutputKind.TheVariants as kinds
-use Rattle.run_outcomes.specs.declared.outcome.Output.{Output}
+use Rattle.run_calls.specs.declared.outcome.OutputNodeKind.{OutputNodeKind}
+use Rattle.run_calls.specs.declared.outcome.OutputNodeKind.TheVariants as node_kinds
+use Rattle.run_calls.specs.declared.outcome.OutputNode.{OutputNode}
+use Rattle.run_calls.specs.declared.outcome.OutputKind.{OutputKind}
+use Rattle.run_calls.specs.declared.outcome.OutputKind.TheVariants as kinds
+use Rattle.run_calls.specs.declared.outcome.Output.{Output}
 use Rattle.run_calls.specs.Values.{PlaceValue}
 use Rattle.runner.specs.Made.{names_at}
 use Rattle.std.specs.declared.io.ErrorKind.{ErrorKind}
@@ -95,13 +95,13 @@ items_answered calls = collect (λ c. call_items c.question c.answer) calls
 
 -- ---- of outputs
 
-abbrev pub node_items : PlaceValue → List ℕ → List (List ℕ) → NodeKind → List ItemValue
+abbrev pub node_items : PlaceValue → List ℕ → List (List ℕ) → OutputNodeKind → List ItemValue
 node_items place path names (node_kinds.File content is_executable) =
     file_item place path names is_executable ∷ whole_file place path names content
 node_items place path names node_kinds.Directory = directory_item place path names ∷ []
 
 -- the directory that is reached with a node
-abbrev pub above_after : List (List ℕ) → OutputNode → NodeKind → List (List ℕ)
+abbrev pub above_after : List (List ℕ) → OutputNode → OutputNodeKind → List (List ℕ)
 above_after above n (node_kinds.File content is_executable) = take (n.level - 1) above
 above_after above n node_kinds.Directory = names_at above n.level (string_bytes n.name)
 

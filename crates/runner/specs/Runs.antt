@@ -7,8 +7,8 @@ use Rattle.run_calls.specs.declared.task.Task.{Task}
 use Rattle.run_calls.specs.declared.folder.Place.{Place}
 use Rattle.runner.specs.declared.fault.RunFault.{RunFault}
 use Rattle.runner.specs.declared.fault.RunFault.TheVariants.{Left}
-use Rattle.run_outcomes.specs.declared.outcome.Outcome.{Outcome}
-use Rattle.run_outcomes.specs.declared.outcome.Outcome.TheVariants as outcomes
+use Rattle.run_calls.specs.declared.outcome.Outcome.{Outcome}
+use Rattle.run_calls.specs.declared.outcome.Outcome.TheVariants as outcomes
 use Rattle.runner.specs.declared.stage.Making.{Making}
 use Rattle.runner.specs.declared.stage.Making.TheVariants as makings
 use Rattle.runner.specs.declared.stage.Stage.{Stage}

@@ -1,13 +1,13 @@
 -- How many bytes a run holds, how many more an answer tells of, and the most that are taken.
 use Rattle.std.specs.Prelude.{◌≡◌, ◌≤◌, ◌<◌, ◌+◌, ℕ, List, [], ◌∷◌, length, Some, Result, Ok}
 use Rattle.run_calls.specs.declared.folder.Found.TheVariants as founds
-use Rattle.run_outcomes.specs.declared.outcome.Exited.{Exited}
-use Rattle.run_outcomes.specs.declared.outcome.Output.{Output}
-use Rattle.run_outcomes.specs.declared.outcome.OutputKind.{OutputKind}
-use Rattle.run_outcomes.specs.declared.outcome.OutputKind.TheVariants as kinds
-use Rattle.run_outcomes.specs.declared.outcome.OutputNode.{OutputNode}
-use Rattle.run_outcomes.specs.declared.outcome.NodeKind.{NodeKind}
-use Rattle.run_outcomes.specs.declared.outcome.NodeKind.TheVariants as node_kinds
+use Rattle.run_calls.specs.declared.outcome.Exited.{Exited}
+use Rattle.run_calls.specs.declared.outcome.Output.{Output}
+use Rattle.run_calls.specs.declared.outcome.OutputKind.{OutputKind}
+use Rattle.run_calls.specs.declared.outcome.OutputKind.TheVariants as kinds
+use Rattle.run_calls.specs.declared.outcome.OutputNode.{OutputNode}
+use Rattle.run_calls.specs.declared.outcome.OutputNodeKind.{OutputNodeKind}
+use Rattle.run_calls.specs.declared.outcome.OutputNodeKind.TheVariants as node_kinds
 use Rattle.runner.specs.declared.stage.Stage.{Stage}
 use Rattle.runner.specs.declared.stage.Stage.TheVariants as stages
 use Rattle.runner.specs.declared.stage.Step.{Step}
@@ -22,7 +22,7 @@ most_bytes = 1073741824
 
 -- ---- what a run holds
 
-abbrev pub node_length : NodeKind → ℕ
+abbrev pub node_length : OutputNodeKind → ℕ
 node_length (node_kinds.File content is_executable) = length content
 node_length node_kinds.Directory = 0
 

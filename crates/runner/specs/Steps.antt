@@ -2,7 +2,7 @@
 -- adds.
 use Rattle.std.specs.Prelude.{◌≡◌, ℕ, ◌-◌, List, [], ◌∷◌, ◌++◌, map, take, drop, length, string_bytes, Option}
 use Rattle.std.specs.Rc.{rc_str_bytes}
-use Rattle.run_outcomes.specs.declared.outcome.Exited.{Exited}
+use Rattle.run_calls.specs.declared.outcome.Exited.{Exited}
 use Rattle.run_calls.specs.declared.programs.Stream.TheVariants as streams
 use Rattle.runner.specs.declared.stage.Prepared.{Prepared}
 use Rattle.runner.specs.declared.stage.Nodes.{Nodes}

@@ -1,6 +1,6 @@
 -- A whole run of a task, from its start to its exit, call after call.
 use Rattle.std.specs.Prelude.{◌≡◌, ℕ, List, [], ◌∷◌, ◌++◌, map, string_bytes, Option, Some}
-use Rattle.run_outcomes.specs.declared.outcome.Exited.{Exited}
+use Rattle.run_calls.specs.declared.outcome.Exited.{Exited}
 use Rattle.run_calls.specs.declared.task.Task.{Task}
 use Rattle.runner.specs.declared.stage.Stage.{Stage}
 use Rattle.runner.specs.declared.stage.Step.{Step}

@@ -7,7 +7,7 @@ ghost use Rattle.runner.specs.Runs.{IsStageOf};
 ghost use Rattle.runner.specs.Steps.{Goes};
 ghost use Rattle.run_calls.specs.Values.{PlaceValue, place_shown};
 ghost use Rattle.runner.specs.Whole.{ExitsBy, GoesBy, IsPart, IsWhole, all_calls};
-ghost use Rattle.run_outcomes.specs.declared.outcome.Exited.{Exited};
+ghost use Rattle.run_calls.specs.declared.outcome.Exited.{Exited};
 ghost use Rattle.run_calls.specs.declared.folder.Place.{Place};
 ghost use Rattle.runner.specs.declared.stage.Stage.{Stage};
 ghost use Rattle.runner.specs.declared.stage.Step.{Step};

@@ -5,7 +5,7 @@ ghost use Rattle.runner.specs.Sizes.{most_bytes};
 
 use blob_pool::Draft;
 use digest::HashFunction;
-use run_outcomes::Content;
+use run_calls::Content;
 use std::alloc::{AllocError, Global};
 use std::marker::Model;
 

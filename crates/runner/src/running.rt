@@ -17,8 +17,7 @@ use crate::making::{PIECE, cost_of};
 use crate::reading::{MOST_BYTES, Reading, is_too_large};
 use crate::stage::{Ended, Gathering, Stage, Step};
 use crate::wanted::Wanted;
-use run_calls::{Place, Programs, Stream};
-use run_outcomes::{Content, Exited, Streams};
+use run_calls::{Content, Exited, Place, Programs, Stream, Streams};
 use std::alloc::Global;
 
 /// Asks whether the program has ended.

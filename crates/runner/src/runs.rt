@@ -16,8 +16,7 @@ use crate::going::Going;
 use crate::stage::{Ending, Making, Nodes, Prepared, Run, Stage, State, Step};
 use crate::turn::turn;
 use crate::wanted::Wanted;
-use run_calls::{Folder, InputTree, Place, Programs, RunKey, Task, Texts};
-use run_outcomes::{Outcome, Streams};
+use run_calls::{Folder, InputTree, Outcome, Place, Programs, RunKey, Streams, Task, Texts};
 use std::alloc::{AllocError, Global};
 use std::mem;
 

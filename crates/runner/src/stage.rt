@@ -12,8 +12,7 @@ use crate::going::Going;
 use crate::reading::Reading;
 use crate::tree::Tree;
 use crate::wanted::Wanted;
-use run_calls::{Command, Place, TaskNode};
-use run_outcomes::{Content, Exited, Output, OutputKind};
+use run_calls::{Command, Content, Exited, Output, OutputKind, Place, TaskNode};
 use std::collections::VecDeque;
 use std::rc::RcStr;
 

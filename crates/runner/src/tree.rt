@@ -9,7 +9,7 @@ ghost use Rattle.runner.specs.Sizes.{nodes_length, output_length};
 ghost use Rattle.runner.specs.Steps.{tree_file_items, tree_items};
 
 use crate::stage::TreeFile;
-use run_outcomes::{Content, NodeKind, Output, OutputKind, OutputNode};
+use run_calls::{Content, Output, OutputKind, OutputNode, OutputNodeKind};
 use std::alloc::{AllocError, Global};
 use std::collections::VecDeque;
 use std::marker::Model;
@@ -111,7 +111,7 @@ impl TreeNodes {
     {
         let TreeNodes { above, mut nodes } = self;
         let level = above.len() as u32 + 1;
-        let kind = NodeKind::File {
+        let kind = OutputNodeKind::File {
             content,
             is_executable,
         };
@@ -136,7 +136,7 @@ impl TreeNodes {
         let alloc = *nodes.allocator();
         above.truncate((level as usize).saturating_sub(1));
         above.push(String::from_str(alloc, name.as_str())?)?;
-        let kind = NodeKind::Directory;
+        let kind = OutputNodeKind::Directory;
         nodes.push(OutputNode { name, level, kind })?;
         Ok(TreeNodes { above, nodes })
     }

@@ -2,7 +2,7 @@
 
 ghost use Rattle.std.specs.Prelude.{◌≡◌, [], ◌∷◌, ◌++◌, OnOk};
 
-use run_outcomes::Streams;
+use run_calls::Streams;
 use std::alloc::AllocError;
 use std::collections::VecDeque;
 use std::marker::Model;

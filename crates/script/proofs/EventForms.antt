@@ -6,7 +6,7 @@ use Rattle.std.specs.Str.{bytes_eq}
 use Rattle.script.specs.Hexadecimal.{bytes_of_hex, hex_word}
 use Rattle.decimals.specs.Number.{decimal_of}
 use Rattle.script.proofs.HexadecimalLemmas.{IsBytes-bytes_of_hex, bytes_of_hex-hex_word, hex_word-bytes_of_hex}
-use Rattle.run_outcomes.specs.Outcomes.{exited, failed}
+use Rattle.run_calls.specs.Outcomes.{exited, failed}
 use Rattle.server_events.specs.Events.{WhatValue, opened, received, took, closed, tick, ended}
 use Rattle.script.specs.Arguments.{exit_code_of, number_of, only_number_of}
 use Rattle.script.specs.ReplayEvents.{content_of, exit, exit_of, fail_of, outputs_of, received_of, tick_of, took_of, what_of}

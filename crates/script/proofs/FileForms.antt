@@ -9,7 +9,7 @@ use Rattle.std.specs.Prelude.{nat_le, option_map, option_and_then}
 use Rattle.script.specs.Hexadecimal.{IsBytes, bytes_of_hex, hex_word, is_lower_hex_digit}
 use Rattle.script.proofs.HexadecimalLemmas.{IsBytes-bytes_of_hex, bytes_of_hex-hex_word, hex_word-bytes_of_hex, list_all-encode_lower}
 use Rattle.script.proofs.SplitLemmas.{Lacks, Lacks-passing}
-use Rattle.run_outcomes.specs.Outcomes.{OutputValue}
+use Rattle.run_calls.specs.Outcomes.{OutputValue}
 use Rattle.script.specs.ReplayEvents.{at_last, content_if_short, content_limit, content_of, output_of, outputs_of, path_and_content_of, plain_file}
 use Rattle.script.specs.ReplayLines.{AreFiles, IsContent, IsFile}
 use Rattle.script.proofs.OutputLemmas.{at_last-some}

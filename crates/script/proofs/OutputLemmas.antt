@@ -16,7 +16,7 @@ use Rattle.std.proofs.lemmas.List.Elements.{All-head, All-tail}
 use Rattle.std.proofs.lemmas.Str.Pattern.{NoCharPasses-char}
 use Rattle.std.proofs.lemmas.Grind.{get_or_default_zero}
 use Rattle.script.proofs.SplitLemmas.{Lacks, other_byte, same_byte}
-use Rattle.run_outcomes.specs.Outcomes.{OutputValue}
+use Rattle.run_calls.specs.Outcomes.{OutputValue}
 use Rattle.script.specs.ReplayEvents.{at_last, output_of, outputs_of}
 
 ascii_byte : (byte : ℕ) → is_ascii byte ≡ true → byte < 128

@@ -16,7 +16,7 @@ use Rattle.script.specs.Parts.{words_of}
 use Rattle.script.proofs.SplitLemmas.{Lacks-parts_of, parts_of-join}
 use Rattle.server_events.specs.Configs.{ConfigValue, instance_limit, own_fault}
 use Rattle.server_events.specs.Limits.{LimitsValue}
-use Rattle.run_outcomes.specs.Outcomes.{exited, failed}
+use Rattle.run_calls.specs.Outcomes.{exited, failed}
 use Rattle.server_events.specs.Events.{WhatValue, opened, received, took, closed, tick, ended}
 use Rattle.server_events.proofs.OwnLemmas.{None-from_good, own_fault-None}
 use Rattle.script.specs.Arguments.{ascii_of, number_of}

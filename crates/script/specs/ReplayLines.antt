@@ -8,7 +8,7 @@ use Rattle.decimals.specs.Number.{decimal_of}
 use Rattle.script.specs.Arguments.{number_limit, exit_code_limit}
 use Rattle.script.specs.Parts.{spaced_line}
 use Rattle.server_events.specs.Configs.{ConfigValue, instance_limit}
-use Rattle.run_outcomes.specs.Outcomes.{ExitedValue, OutputValue, exited, failed}
+use Rattle.run_calls.specs.Outcomes.{ExitedValue, OutputValue, exited, failed}
 use Rattle.server_events.specs.Events.{WhatValue, opened, received, took, closed, tick, ended}
 use Rattle.server_events.specs.Faults.{IsConfig}
 use Rattle.server_events.specs.Limits.{LimitsValue}

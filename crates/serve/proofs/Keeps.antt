@@ -14,7 +14,7 @@ use Rattle.std.proofs.lemmas.List.Elements.{filter_map-append}
 use Rattle.std.proofs.lemmas.List.Sums.{fold_push}
 use Rattle.std.proofs.lemmas.Option.{none-some, same_Some, slice_get_cases, slice_get_within}
 use Rattle.runner.proofs.Lists.{first_and_rest, no_rest}
-use Rattle.run_outcomes.specs.Outcomes.{OutcomeValue}
+use Rattle.run_calls.specs.Outcomes.{OutcomeValue}
 use Rattle.execution.specs.declared.orders.Order.{Order}
 use Rattle.execution.specs.Orders.{OrderValue}
 use Rattle.execution.specs.Ordered.{order_meant}

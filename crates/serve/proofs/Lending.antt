@@ -11,7 +11,7 @@ use Rattle.std.proofs.lemmas.Option.{slice_get_within}
 use Rattle.execution.specs.Job.{TaskValue}
 use Rattle.execution.specs.Orders.{OrderValue, start, task_of}
 use Rattle.instance_core.specs.State.{InstanceState}
-use Rattle.run_outcomes.specs.Outcomes.{OutcomeValue}
+use Rattle.run_calls.specs.Outcomes.{OutcomeValue}
 use Rattle.server_events.specs.Configs.{ConfigValue, parents_of}
 use Rattle.server_events.specs.Events.{EventValue, ended}
 use Rattle.served_instance.specs.Lone.{LoneInstance}

@@ -7,7 +7,7 @@ use Rattle.instance_view.specs.Visible.{Blob}
 use Rattle.execution.specs.Job.{TaskValue}
 use Rattle.execution.specs.Orders.{start, kill}
 use Rattle.execution.specs.Preparing.{task_read}
-use Rattle.run_outcomes.specs.Shown.{outcome_shown}
+use Rattle.run_calls.specs.Shown.{outcome_shown}
 use Rattle.serve.specs.RunEvents.{FaultValue, RunEvent, ordered, lent, gave}
 use Rattle.serve.specs.declared.copies.TextCopy.{TextCopy}
 use Rattle.serve.specs.declared.copies.TaskCopy.{TaskCopy}

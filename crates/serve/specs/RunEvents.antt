@@ -1,9 +1,9 @@
 -- What happens at the runs of jobs.
 use Rattle.std.specs.Prelude.{◌≡◌, ◌⊎◌, ℕ, List, [], ◌∷◌, ◌++◌, Option, Some, None, IfSome, Result, Ok, Err}
 use Rattle.std.specs.Option.{option_map}
-use Rattle.run_outcomes.specs.declared.outcome.Outcome.{Outcome}
-use Rattle.run_outcomes.specs.Outcomes.{OutcomeValue, failed}
-use Rattle.run_outcomes.specs.Shown.{outcome_shown}
+use Rattle.run_calls.specs.declared.outcome.Outcome.{Outcome}
+use Rattle.run_calls.specs.Outcomes.{OutcomeValue, failed}
+use Rattle.run_calls.specs.Shown.{outcome_shown}
 use Rattle.runner.specs.declared.fault.RunFault.{RunFault}
 use Rattle.runner.specs.declared.fault.RunFault.TheVariants.{Left}
 use Rattle.run_calls.specs.declared.task.RunKey.{RunKey}

@@ -6,13 +6,15 @@ ghost use Rattle.instance_view.specs.Shown.{blob_in, blobs_in};
 ghost use Rattle.execution.specs.Keeping.{kept_entry, kept_entries};
 ghost use Rattle.server_core.specs.Lent.{lent_shown};
 ghost use Rattle.serve.specs.LoggedRuns.{blob_copied, task_copied};
-ghost use Rattle.run_outcomes.specs.Shown.{exited_shown, kind_shown, node_shown, nodes_shown, outcome_shown, output_of, output_shown};
+ghost use Rattle.run_calls.specs.Shown.{exited_shown, kind_shown, node_shown, nodes_shown, outcome_shown, output_of, output_shown};
 
 use blob_pool::{Draft, Pool, keep};
 use digest::{Digest, HashFunction};
 use execution::KeptText;
 use keyed_maps::MapKey;
-use run_outcomes::{Content, Exited, NodeKind, Outcome, Output, OutputKind, OutputNode, Streams};
+use run_calls::{
+    Content, Exited, Outcome, Output, OutputKind, OutputNode, OutputNodeKind, Streams,
+};
 use server_core::LentTask;
 use std::alloc::{AllocError, Global};
 use std::collections::VecDeque;
@@ -106,27 +108,30 @@ fn two_contents(alloc: Global, content: Content) -> Result<(Content, Content), A
     Ok((one, other))
 }
 
-fn two_kinds(alloc: Global, kind: NodeKind) -> Result<(NodeKind, NodeKind), AllocError>
+fn two_kinds(
+    alloc: Global,
+    kind: OutputNodeKind,
+) -> Result<(OutputNodeKind, OutputNodeKind), AllocError>
     ensures { IfOk result (λ two. (kind_shown two.0 ≡ kind_shown kind)
         × (kind_shown two.1 ≡ kind_shown kind)) }
 {
     match kind {
-        NodeKind::File {
+        OutputNodeKind::File {
             content,
             is_executable,
         } => {
             let (one, other) = two_contents(alloc, content)?;
-            let one = NodeKind::File {
+            let one = OutputNodeKind::File {
                 content: one,
                 is_executable,
             };
-            let other = NodeKind::File {
+            let other = OutputNodeKind::File {
                 content: other,
                 is_executable,
             };
             Ok((one, other))
         }
-        NodeKind::Directory => Ok((NodeKind::Directory, NodeKind::Directory)),
+        OutputNodeKind::Directory => Ok((OutputNodeKind::Directory, OutputNodeKind::Directory)),
     }
 }
 

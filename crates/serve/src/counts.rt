@@ -1,7 +1,7 @@
 //! What happened to connections and runs, for an operator alone: nothing else depends on it.
 
 use http2_frames::ErrorCode;
-use run_outcomes::Outcome;
+use run_calls::Outcome;
 use served_instance::EventRefusal;
 use std::alloc::{AllocError, Global};
 

@@ -13,8 +13,7 @@ ghost use Rattle.serve.specs.RunEvents.{AddsRuns, IsBegun, WasBegun, RunEvent, a
 
 use crate::copies::{TaskCopy, copied_task, two_outcomes};
 use crate::runs::{Doing, Runs};
-use run_calls::RunKey;
-use run_outcomes::Outcome;
+use run_calls::{Outcome, RunKey};
 use runner::RunFault;
 use server_core::LentTask;
 use std::alloc::{AllocError, Global};

@@ -2,8 +2,7 @@
 
 ghost use Rattle.std.specs.Prelude.{List, Option, None, IfOk, IfSome, ◌≡◌, ◌≤◌, ◌∷◌, [], length, ⊤};
 
-use run_calls::RunKey;
-use run_outcomes::Outcome;
+use run_calls::{Outcome, RunKey};
 use runner::RunFault;
 use server_core::LentTask;
 use std::io;

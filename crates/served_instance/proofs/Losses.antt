@@ -1,7 +1,7 @@
 -- What want of memory leaves of an instance lost what it lost by rule.
 use Rattle.std.proofs.Common.{ℕ, List, [], ◌∷◌, ◌++◌, refl, ap, ◌∙◌, inl, inr, append_assoc}
 use Rattle.job_queue.specs.Jobs.{running_job}
-use Rattle.run_outcomes.specs.Outcomes.{OutcomeValue}
+use Rattle.run_calls.specs.Outcomes.{OutcomeValue}
 use Rattle.instance_core.specs.Answer.{answer, state_after, ending_changes, steps_at}
 use Rattle.instance_core.specs.Calls.{CallEventValue, tick as time_passes, end_job}
 use Rattle.instance_core.specs.Changes.{InstanceChange, Settles, MadeInPart}

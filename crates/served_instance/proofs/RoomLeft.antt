@@ -3,7 +3,7 @@ use Rattle.std.proofs.Common.{◌≡◌, ℕ, List, [], ◌∷◌, ◌++◌, ref
 use Rattle.std.specs.List.{AllByRecursion}
 use Rattle.std.proofs.lemmas.List.{append-nil}
 use Rattle.job_queue.specs.Jobs.{running_job}
-use Rattle.run_outcomes.specs.Outcomes.{OutcomeValue}
+use Rattle.run_calls.specs.Outcomes.{OutcomeValue}
 use Rattle.instance_core.specs.Digest.{Digest}
 use Rattle.instance_core.specs.Visible.{Blob}
 use Rattle.instance_core.specs.Calls.{CallEventValue, end_job}

@@ -13,7 +13,7 @@ use Rattle.execution.specs.Steps.{StepValue, ending_of, jobs_after_steps, timing
 use Rattle.execution.specs.Taking.{CanTake}
 use Rattle.execution.proofs.Timings.{nothing-ends, outcome-ends, tick-ends}
 use Rattle.execution.proofs.Turns.{turn-can}
-use Rattle.run_outcomes.specs.Outcomes.{OutcomeValue}
+use Rattle.run_calls.specs.Outcomes.{OutcomeValue}
 use Rattle.grpc_sending.proofs.Histories.{append-nil}
 use Rattle.instance_core.specs.declared.event.Reply.{Reply}
 use Rattle.instance_core.specs.Answer.{Answer, answer, ending_at, ending_changes, ending_steps, orders_at, state_after, steps_at, turn_answer}

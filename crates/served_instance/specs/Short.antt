@@ -3,7 +3,7 @@
 -- (`IsCutEffect`).
 use Rattle.std.specs.Prelude.{◌≡◌, ◌⊎◌, ℕ, List, [], ◌∷◌}
 use Rattle.job_queue.specs.Jobs.{jobs_without, running_job}
-use Rattle.run_outcomes.specs.Outcomes.{OutcomeValue}
+use Rattle.run_calls.specs.Outcomes.{OutcomeValue}
 use Rattle.instance_core.specs.Calls.{CallEventValue, tick as time_passes}
 use Rattle.instance_core.specs.Apart.{calls_apart}
 use Rattle.instance_core.specs.State.{InstanceState}

@@ -5,7 +5,7 @@ ghost use Rattle.std.specs.List.{AllByRecursion};
 ghost use Rattle.blob_pool.specs.Slots.{Slots};
 ghost use Rattle.blob_pool.specs.Moves.{Moves};
 ghost use Rattle.grpc_sending.specs.StoredSending.{SourceTexts};
-ghost use Rattle.run_outcomes.specs.Shown.{outcome_shown};
+ghost use Rattle.run_calls.specs.Shown.{outcome_shown};
 ghost use Rattle.execution.specs.Taking.{CanTake, steps_shown};
 ghost use Rattle.instance_core.specs.Apart.{AreRepliesTo};
 ghost use Rattle.instance_core.specs.Changes.{Settles, state_after_change};

@@ -2,7 +2,7 @@
 
 ghost use Rattle.std.specs.Prelude.{◌≡◌, ℕ, List};
 ghost use Rattle.job_queue.specs.Jobs.{jobs_without};
-ghost use Rattle.run_outcomes.specs.Outcomes.{OutcomeValue};
+ghost use Rattle.run_calls.specs.Outcomes.{OutcomeValue};
 ghost use Rattle.instance_core.specs.Room.{LosesForRoom};
 ghost use Rattle.instance_core.specs.State.{IsInstanceWithin};
 ghost use Rattle.instance_core.specs.Visible.{Blob};

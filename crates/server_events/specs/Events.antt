@@ -1,6 +1,6 @@
 -- What happens to a server, and what of it happens to one instance.
 use Rattle.std.specs.Prelude.{ℕ, ◌==◌, List, filter, map}
-use Rattle.run_outcomes.specs.Outcomes.{OutcomeValue}
+use Rattle.run_calls.specs.Outcomes.{OutcomeValue}
 
 -- a connection was opened, got bytes, had some taken or was closed; time went on; or a job's run
 -- ended

@@ -6,7 +6,7 @@ use Rattle.server_events.specs.declared.event.Event.{Event}
 use Rattle.server_events.specs.declared.event.What.{What}
 use Rattle.server_events.specs.declared.event.What.TheVariants.{Open, Bytes, Took, Closed, Tick, Outcome}
 use Rattle.instance_limits.specs.Shown.{limits_value}
-use Rattle.run_outcomes.specs.Shown.{outcome_shown}
+use Rattle.run_calls.specs.Shown.{outcome_shown}
 use Rattle.server_events.specs.Configs.{ConfigValue}
 use Rattle.server_events.specs.Events.{WhatValue, opened, received, took, closed, tick, ended, EventValue}
 

@@ -1,6 +1,6 @@
 //! What happens to a server.
 
-use run_outcomes::Outcome;
+use run_calls::Outcome;
 
 /// What happens to one instance, and when.
 #[derive(Drop)]

@@ -14,4 +14,4 @@ pub use crate::event::{Event, What};
 pub use crate::fault::ConfigFault;
 pub use crate::instance::{QUOTA_LIMIT, SLOTS_LIMIT, is_instance_name, is_quota, is_slot_count};
 pub use instance_limits::Limits;
-pub use run_outcomes::{Content, Exited, NodeKind, Outcome, Output, OutputKind, OutputNode};
+pub use run_calls::{Content, Exited, Outcome, Output, OutputKind, OutputNode, OutputNodeKind};

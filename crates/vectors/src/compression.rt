@@ -5,7 +5,7 @@ use grpc_calls::{HeadFault, head};
 use hpack::{Decoder, HeaderField, Headers};
 use hpack_huffman::{HuffmanError, decode_into};
 use http2_headers::is_well_formed_request;
-use program_status::Output;
+use tool_programs::Output;
 
 /// The word for how decoding ended.
 fn word_of(answer: Result<(), HuffmanError>) -> &'static [u8] {

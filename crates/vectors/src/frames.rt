@@ -7,7 +7,7 @@ use crate::octets::octets;
 use http2_frames::{
     Frame, FrameError, FrameReader, MAX_FRAME_SIZE, RawFrame, interpret, write_frame,
 };
-use program_status::Output;
+use tool_programs::Output;
 
 fn length_of(bytes: &[u8]) -> usize
     ensures { result ≡ length bytes.now }

@@ -15,9 +15,9 @@ mod responses;
 mod windows;
 
 use crate::octets::{BAD_LINE, named};
-use program_status::{Fault, Output, Status, read_all};
 use script::{lines, words};
 use std::process::ExitCode;
+use tool_programs::{Fault, Output, Status, read_all};
 
 /// What a case is about.
 #[derive(Clone, Copy)]

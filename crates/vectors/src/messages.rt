@@ -4,9 +4,9 @@ use crate::octets::{BAD_LINE, named, octets};
 use crate::records::word_of;
 use execution_messages::*;
 use grpc_messages::{Messages, MessagesError};
-use program_status::{Fault, Output};
 use reapi_messages::*;
 use std::alloc::Global;
+use tool_programs::{Fault, Output};
 use tree_messages::*;
 
 /// How the bytes are encoded again that a message is read from.

@@ -1,9 +1,9 @@
 //! How bytes and words stand in the vectors.
 
 use decimals::decimal;
-use program_status::{Fault, Output};
 use script::{hex_bytes, words};
 use std::alloc::AllocError;
+use tool_programs::{Fault, Output};
 
 /// What a line of another form fails with.
 pub const BAD_LINE: Fault = Fault::InputOrOutput;

@@ -1,8 +1,8 @@
 //! Records of protobuf, and packed numbers.
 
 use crate::octets::octets;
-use program_status::Output;
 use protobuf_wire::{Content, Field, PackedReader, Reader, WireError};
+use tool_programs::Output;
 
 /// The word for a fault.
 pub fn word_of(fault: WireError) -> &'static [u8] {

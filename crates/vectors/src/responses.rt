@@ -2,8 +2,8 @@
 
 use grpc_calls::{ResponseBlock, Status};
 use hpack::Position;
-use program_status::Output;
 use rpc::Refusal;
+use tool_programs::Output;
 
 static REFUSALS: [Refusal; 21] = [
     Refusal::UnknownMethod,

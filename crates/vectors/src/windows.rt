@@ -5,8 +5,8 @@ ghost use Rattle.std.specs.Prelude.{◌≤◌, IfSome};
 use crate::octets::{BAD_LINE, named};
 use decimals::decimal;
 use http2_flow::{FlowError, MAX_SIZE, Window};
-use program_status::Output;
 use script::words;
+use tool_programs::Output;
 
 /// The number of a word, where it is at most 2^32 - 1.
 fn number(word: &[u8]) -> Option<u32> {

@@ -1,7 +1,7 @@
 -- What may be done where the node of a run that has trees stands.
 use Rattle.std.proofs.Common.{◌≡◌, ℕ, List, Option, Some}
 use Rattle.std.specs.Prelude.{IfSome}
-use Rattle.run_trees.specs.RunTrees.{IfTree, SiteValue, bound, in_tree, own, place_of, there}
+use Rattle.made_trees.specs.RunTrees.{IfTree, SiteValue, bound, in_tree, own, place_of, there}
 use Rattle.work_folders.specs.Rights.{MayRun}
 
 module _ (look change settled : Option (List (List ℕ)) → Type 0) where

@@ -1,13 +1,13 @@
 //! Nodes of runs that have trees.
 
 ghost use Rattle.std.specs.Prelude.{◌≡◌, ◌↔◌, IfOk, IsTrue};
-ghost use Rattle.run_trees.specs.RunTrees.{IfTree, IsBoundAs, site_shown};
+ghost use Rattle.made_trees.specs.RunTrees.{IfTree, IsBoundAs, site_shown};
 ghost use Rattle.work_folders.specs.Rights.{Below, MayRun, root_place};
 
 use crate::places::Places;
 use crate::start_folder::StartFolder;
+use made_trees::Site;
 use run_calls::{RunKey, TaskNodeKind};
-use run_trees::Site;
 use std::alloc::Global;
 use std::io;
 use std::rc::RcStr;

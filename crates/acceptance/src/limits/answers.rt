@@ -2,9 +2,9 @@
 
 use crate::limits::client::Answer;
 use digest::Digest;
-use program_status::Output;
 use script::write_hex;
 use std::alloc::{AllocError, Global};
+use tool_programs::Output;
 
 /// A message's length and hash.
 fn line_of(alloc: Global, message: &[u8]) -> Result<String, AllocError> {

@@ -2,10 +2,10 @@
 
 use grpc_messages::{Message as Reply, Messages, MessagesError};
 use http2_frames::{FrameError, FrameReader, MAX_FRAME_SIZE, RawFrame};
-use program_status::{Fault, Output};
 use server_core::Server;
 use server_events::{Event, What};
 use std::alloc::{AllocError, Global};
+use tool_programs::{Fault, Output};
 
 /// What the client sends first: the preface of RFC 9113, section 3.4, SETTINGS with an
 /// INITIAL_WINDOW_SIZE of 2^31 - 1, and a WINDOW_UPDATE that brings the connection's there.

@@ -2,8 +2,8 @@
 
 use digest::Digest;
 use message_fields::Message;
-use program_status::Output;
 use reapi_messages::Digest as WrittenDigest;
+use tool_programs::Output;
 use tree_messages::{Directory, DirectoryNode, SymlinkNode};
 
 /// A blob, and its digest as messages write it.

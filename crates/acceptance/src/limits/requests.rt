@@ -2,8 +2,8 @@
 
 use crate::limits::directories::Blob;
 use message_fields::Message;
-use program_status::Output;
 use reapi_messages::{BatchUpdateBlobsRequest, UpdateBlobRequest};
+use tool_programs::Output;
 use tree_messages::{
     ActionResult, GetActionResultRequest, GetTreeRequest, UpdateActionResultRequest,
 };

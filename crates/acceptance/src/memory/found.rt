@@ -3,10 +3,10 @@
 use crate::limits::client::Client;
 use crate::numbers::number;
 use message_fields::Message;
-use program_status::Output;
 use reapi_messages::{Digest, FindMissingBlobsRequest};
 use script::{lines, words};
 use server_core::Server;
+use tool_programs::Output;
 
 const FIND_MISSING: &str =
     "/build.bazel.remote.execution.v2.ContentAddressableStorage/FindMissingBlobs";

@@ -2,12 +2,12 @@
 
 use crate::sockets::fake::{Client, Fake};
 use crate::sockets::log::{has_written, records};
-use program_status::{Fault, Output};
 use serve::{LoggedSockets, Socket, SocketRecord};
 use server_core::{Outputs, SentBytes, run};
 use server_events::{Configs, Event};
 use std::alloc::Global;
 use std::mem::replace;
+use tool_programs::{Fault, Output};
 
 /// What came of a case.
 #[derive(Clone, Copy, Default)]

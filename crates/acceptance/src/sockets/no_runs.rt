@@ -5,15 +5,14 @@ ghost use Rattle.serve.specs.Logged.{logged};
 ghost use Rattle.serve.specs.Served.{WasServed};
 
 use keyed_maps::MapKey;
-use program_status::{Fault, Output};
-use run_calls::RunKey;
-use run_outcomes::Outcome;
+use run_calls::{Outcome, RunKey};
 use runner::RunFault;
 use serve::{Doing, ErrorLines, LoggedSockets, Nobody, Runs, Sockets, Tally, serve};
 use server_core::LentTask;
 use server_events::Configs;
 use std::alloc::{AllocError, Global};
 use std::io::{self, ErrorKind};
+use tool_programs::{Fault, Output};
 
 /// No runs. Where one is ordered or asked, that is noted.
 #[derive(Drop)]

@@ -6,12 +6,12 @@ use crate::sockets::no_runs::serve_alone;
 use host_sockets::{HostSockets, ListenError};
 use host_wires::ThisHost;
 use mio::net::TcpStream;
-use program_status::{Fault, Output};
 use serve::{LoggedSockets, ProcessorTime, Socket, SocketRecord, Sockets};
 use server_core::{Outputs, run};
 use server_events::{Configs, Event, What};
 use std::io::{self, Read, Write};
 use std::net::{IpAddr, Ipv4Addr, SocketAddr};
+use tool_programs::{Fault, Output};
 
 /// How many turns are taken over ports: three seconds or so of rests.
 const TURNS: u64 = 3_000;

@@ -3,9 +3,9 @@
 use crate::sockets::alone::{Outcome, judge};
 use crate::sockets::fake::{Client, Fake, Habits};
 use crate::sockets::no_runs::serve_alone;
-use program_status::{Fault, Output};
 use serve::LoggedSockets;
 use server_events::{Configs, Event, What};
+use tool_programs::{Fault, Output};
 
 /// How many connections an instance may have open.
 const CONNECTION_LIMIT: u64 = 64;

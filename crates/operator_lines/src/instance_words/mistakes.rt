@@ -4,7 +4,7 @@ ghost use Rattle.std.specs.Prelude.{◌≡◌, ◌++◌, IfSome, codes, option_m
 ghost use Rattle.operator_lines.specs.Mistakes.{IsMistakeOf, part_among};
 
 use crate::instance_words::{MOST_QUOTA, Parts, WordFault, cut, parts_of};
-use sizes::size;
+use command_line::size;
 use std::fmt;
 
 /// A part of a word for an instance.

@@ -1,11 +1,11 @@
 //! The question of `check`, and what is made of what a server sends.
 
 use crate::tests::cases::{Case, all_hold};
-use port_check::*;
 use std::alloc::Global;
 use std::io::{self, ErrorKind, Read, Write};
 use std::test::*;
 use std::time::Duration;
+use tool_programs::*;
 
 // A server that at each read gives a few of its bytes or has nothing, in turn, and then ends, fails
 // or stays silent.

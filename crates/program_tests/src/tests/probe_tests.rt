@@ -1,10 +1,9 @@
 //! The probe beside a peer that gives a few bytes at a time, ends or fails.
 
 use crate::tests::cases::{Case, all_hold};
-use probe::*;
-use program_status::Status;
 use std::io::{self, ErrorKind, Read, Write};
 use std::test::*;
+use tool_programs::*;
 
 // A peer that at each read gives a few of its bytes or has nothing, in turn, and then ends or
 // fails.

@@ -1,11 +1,11 @@
 //! How a program ends: its number, and the line that says why.
 
 use crate::tests::cases::{Case, all_hold};
-use program_status::*;
 use std::alloc::Global;
 use std::fs;
 use std::io::{self, ErrorKind, Read};
 use std::test::*;
+use tool_programs::*;
 
 /// How a run ended, and the number with which the program ends.
 struct Ends(Status, u8);

@@ -1,12 +1,11 @@
 //! What no stored script can show: content of many megabytes, and streams that fail.
 
 use crate::tests::cases::{Case, all_hold};
-use program_status::Status;
 use server_events::Limits;
 use std::alloc::Global;
 use std::io;
 use std::test::*;
-use unary::*;
+use tool_programs::*;
 
 /// Whether a run of a script ends well, and prints this alone.
 fn prints(alloc: Global, script: &[u8], printed: &[u8]) -> bool {

@@ -8,7 +8,7 @@ use crate::fault::LineFault;
 use crate::replay::output::{read_content, read_outputs};
 use crate::{Parts, hex_bytes};
 use decimals::decimal;
-use run_outcomes::{Exited, Outcome, Streams};
+use run_calls::{Exited, Outcome, Streams};
 use server_events::{Event, What};
 use std::alloc::Global;
 

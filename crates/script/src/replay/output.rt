@@ -1,6 +1,6 @@
 //! The files that a program left.
 ghost use Rattle.std.specs.Prelude.{◌≡◌, map, Some, None, Ok, Err, IfOk, option_map, string_bytes};
-ghost use Rattle.run_outcomes.specs.Shown.{output_shown};
+ghost use Rattle.run_calls.specs.Shown.{output_shown};
 ghost use Rattle.script.specs.ReplayEvents.{content_of, output_of, outputs_of, path_and_content_of, plain_file};
 
 use crate::arguments::are_ascii;
@@ -8,7 +8,7 @@ use crate::fault::LineFault;
 use crate::{Parts, hex_bytes};
 use blob_pool::Draft;
 use digest::HashFunction;
-use run_outcomes::{Content, Output, OutputKind};
+use run_calls::{Content, Output, OutputKind};
 use std::alloc::Global;
 use std::str;
 

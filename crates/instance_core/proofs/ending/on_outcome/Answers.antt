@@ -5,7 +5,7 @@ use Rattle.execution.specs.Job.{JobValue}
 use Rattle.execution.specs.InPool.{job_in}
 use Rattle.execution.specs.Taking.{steps_shown}
 use Rattle.execution.proofs.Taken.{shown-running}
-use Rattle.run_outcomes.specs.Shown.{outcome_shown}
+use Rattle.run_calls.specs.Shown.{outcome_shown}
 use Rattle.outcomes.specs.Endings.{ending_shown}
 use Rattle.outcomes.specs.Ending.{EndingValue}
 use Rattle.instance_core.specs.Answer.{answer, ending_changes, steps_at}

@@ -1,7 +1,7 @@
 use Rattle.std.proofs.Common.{◌≡◌, length, map}
 use Rattle.outcomes.specs.Asked.{are_asked}
 use Rattle.actions.specs.Shown.{asked_shown}
-use Rattle.run_outcomes.specs.Shown.{output_shown}
+use Rattle.run_calls.specs.Shown.{output_shown}
 use Rattle.job_runs.proofs.output_rules.are_asked.Given as goal
 
 abbrev pub invariant-loop-left : goal.invariant-loop-left

@@ -1,6 +1,6 @@
 use Rattle.std.proofs.Common.{◌≡◌, length}
 use Rattle.std.specs.List.{list_all}
-use Rattle.run_outcomes.specs.Shown.{nodes_shown}
+use Rattle.run_calls.specs.Shown.{nodes_shown}
 use Rattle.outcomes.specs.Trees.{is_shallow}
 use Rattle.job_runs.proofs.output_rules.are_shallow.Given as goal
 

@@ -1,5 +1,5 @@
 use Rattle.std.proofs.Common.{◌≡◌, length, map}
-use Rattle.run_outcomes.specs.Shown.{output_shown}
+use Rattle.run_calls.specs.Shown.{output_shown}
 use Rattle.job_runs.specs.OutputRules.{first_broken}
 use Rattle.job_runs.proofs.output_rules.first_broken.Given as goal
 

@@ -1,6 +1,6 @@
 use Rattle.std.proofs.Common.{◌≡◌, length, map}
 use Rattle.actions.specs.Shown.{asked_shown}
-use Rattle.run_outcomes.specs.Shown.{output_shown}
+use Rattle.run_calls.specs.Shown.{output_shown}
 use Rattle.job_runs.specs.OutputRules.{first_unasked}
 use Rattle.job_runs.proofs.output_rules.first_unasked.Given as goal
 

@@ -1,9 +1,9 @@
 use Rattle.std.proofs.Common.{◌≡◌, Bool, true, ◌&&◌, ◌∷◌, List, map, sym, ap, ◌∙◌}
 use Rattle.std.specs.List.{list_all}
-use Rattle.run_outcomes.specs.declared.outcome.Output.{Output}
+use Rattle.run_calls.specs.declared.outcome.Output.{Output}
 use Rattle.outcomes.specs.Completing.{CollectionValue, collection_shown, with_outputs}
 use Rattle.outcomes.specs.Results.{is_output}
-use Rattle.run_outcomes.specs.Shown.{output_shown}
+use Rattle.run_calls.specs.Shown.{output_shown}
 use Rattle.outcomes.proofs.completion.collect.Goals as goal
 
 pub loop-output-preserved : goal.loop-output-preserved

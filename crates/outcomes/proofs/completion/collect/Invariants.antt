@@ -2,7 +2,7 @@ use Rattle.std.proofs.Common.{◌≡◌, length, map}
 use Rattle.std.specs.List.{list_all}
 use Rattle.outcomes.specs.Completing.{collection_shown, no_outputs, with_outputs}
 use Rattle.outcomes.specs.Results.{is_output}
-use Rattle.run_outcomes.specs.Shown.{output_shown}
+use Rattle.run_calls.specs.Shown.{output_shown}
 use Rattle.outcomes.proofs.completion.collect.Given as goal
 
 abbrev pub invariant-loop-output : goal.invariant-loop-output

@@ -2,13 +2,13 @@ use Rattle.std.proofs.Common.{rules, ◌≡◌, ◌++◌, true, map, subst, ap, 
 use Rattle.std.specs.Global.{Vec}
 use Rattle.message_fields.specs.Parts.{text_for}
 use Rattle.tree_messages.specs.Results.{action_result_records}
-use Rattle.run_outcomes.specs.declared.outcome.Output.{Output}
-use Rattle.run_outcomes.specs.declared.outcome.Streams.{Streams}
+use Rattle.run_calls.specs.declared.outcome.Output.{Output}
+use Rattle.run_calls.specs.declared.outcome.Streams.{Streams}
 use Rattle.outcomes.specs.Asked.{are_asked}
 use Rattle.outcomes.specs.Completing.{IsCollected, blob_shown, collection_shown}
 use Rattle.outcomes.specs.Results.{result_with, stream_blobs, stream_digest}
 use Rattle.actions.specs.Shown.{asked_shown}
-use Rattle.run_outcomes.specs.Shown.{exited_shown, output_shown}
+use Rattle.run_calls.specs.Shown.{exited_shown, output_shown}
 use Rattle.outcomes.proofs.Completed.{completed}
 use Rattle.outcomes.proofs.completion.complete.Goals as goal
 

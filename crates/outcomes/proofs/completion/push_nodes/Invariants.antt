@@ -1,7 +1,7 @@
 use Rattle.std.proofs.Common.{◌≡◌, ◌++◌, length, map}
 use Rattle.outcomes.specs.Completing.{blob_shown}
 use Rattle.outcomes.specs.Results.{node_blobs}
-use Rattle.run_outcomes.specs.Shown.{nodes_shown}
+use Rattle.run_calls.specs.Shown.{nodes_shown}
 use Rattle.outcomes.proofs.completion.push_nodes.Given as goal
 
 abbrev pub invariant-loop-node : goal.invariant-loop-node

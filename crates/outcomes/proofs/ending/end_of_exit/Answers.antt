@@ -4,7 +4,7 @@ use Rattle.actions.specs.Commands.{AskedOutput, asked_outputs, command_in}
 use Rattle.actions.specs.Shown.{asked_shown}
 use Rattle.outcomes.specs.Completing.{completion_shown}
 use Rattle.outcomes.specs.Results.{CompletionValue, completion_of}
-use Rattle.run_outcomes.specs.Shown.{exited_shown}
+use Rattle.run_calls.specs.Shown.{exited_shown}
 use Rattle.outcomes.specs.Endings.{ending_shown}
 use Rattle.execution.specs.Job.{JobValue}
 use Rattle.execution.specs.InPool.{job_in}

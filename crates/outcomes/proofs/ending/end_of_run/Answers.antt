@@ -1,8 +1,8 @@
 use Rattle.std.proofs.Common.{◌≡◌, IfOk, sym, subst}
 use Rattle.instance_view.specs.Shown.{visible_in}
-use Rattle.run_outcomes.specs.declared.outcome.Outcome.{Outcome}
-use Rattle.run_outcomes.specs.Outcomes.{exited}
-use Rattle.run_outcomes.specs.Shown.{exited_shown, outcome_shown}
+use Rattle.run_calls.specs.declared.outcome.Outcome.{Outcome}
+use Rattle.run_calls.specs.Outcomes.{exited}
+use Rattle.run_calls.specs.Shown.{exited_shown, outcome_shown}
 use Rattle.outcomes.specs.Endings.{ending_shown}
 use Rattle.execution.specs.InPool.{job_in}
 use Rattle.outcomes.specs.Ending.{ending}

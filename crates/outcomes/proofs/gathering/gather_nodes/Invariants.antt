@@ -1,7 +1,7 @@
 use Rattle.std.proofs.Common.{◌≡◌, ◌++◌, List, length}
 use Rattle.outcomes.specs.Gathering.{IsGathered}
-use Rattle.run_outcomes.specs.Outcomes.{OutputNodeValue}
-use Rattle.run_outcomes.specs.Shown.{nodes_shown}
+use Rattle.run_calls.specs.Outcomes.{OutputNodeValue}
+use Rattle.run_calls.specs.Shown.{nodes_shown}
 use Rattle.outcomes.proofs.gathering.gather_nodes.Given as goal
 
 abbrev pub invariant-loop-node : goal.invariant-loop-node

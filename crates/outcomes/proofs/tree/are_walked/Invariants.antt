@@ -1,5 +1,5 @@
 use Rattle.std.proofs.Common.{◌≡◌, length}
-use Rattle.run_outcomes.specs.Shown.{nodes_shown}
+use Rattle.run_calls.specs.Shown.{nodes_shown}
 use Rattle.outcomes.specs.Trees.{are_walked}
 use Rattle.outcomes.proofs.tree.are_walked.Given as goal
 

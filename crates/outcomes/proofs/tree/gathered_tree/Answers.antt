@@ -6,7 +6,7 @@ use Rattle.input_tree.specs.Directories.{is_directory}
 use Rattle.tree_messages.specs.Directories.{DirectoryValue}
 use Rattle.outcomes.specs.declared.folder.Folder.{Folder}
 use Rattle.outcomes.specs.Gathering.{folder_shown, open_shown}
-use Rattle.run_outcomes.specs.Shown.{nodes_shown}
+use Rattle.run_calls.specs.Shown.{nodes_shown}
 use Rattle.outcomes.specs.Trees.{below_root, children_of, root_of, with_children}
 use Rattle.outcomes.proofs.Completed.{no_below, no_root, root_is, tree_found}
 use Rattle.outcomes.proofs.tree.gathered_tree.Goals as goal

@@ -1,5 +1,5 @@
 use Rattle.std.proofs.Common.{◌≡◌, ◌++◌, length, map}
-use Rattle.run_outcomes.specs.Shown.{node_shown}
+use Rattle.run_calls.specs.Shown.{node_shown}
 use Rattle.serve.proofs.copies.two_node_lists.Given as goal
 
 abbrev pub invariant-loop-node : goal.invariant-loop-node

@@ -1,5 +1,5 @@
 use Rattle.std.proofs.Common.{◌≡◌, ◌++◌, length, map}
-use Rattle.run_outcomes.specs.Shown.{output_shown}
+use Rattle.run_calls.specs.Shown.{output_shown}
 use Rattle.serve.proofs.copies.two_output_lists.Given as goal
 
 abbrev pub invariant-loop-output : goal.invariant-loop-output

@@ -4,7 +4,7 @@ use Rattle.std.proofs.lemmas.Grind.{common_steps}
 use Rattle.std.proofs.lemmas.List.{length-map}
 use Rattle.std.specs.declared.alloc.AllocError.{AllocError}
 use Rattle.conn_core.specs.Past.{with_taken}
-use Rattle.run_outcomes.specs.Shown.{outcome_shown}
+use Rattle.run_calls.specs.Shown.{outcome_shown}
 use Rattle.server_events.specs.declared.event.What.{What}
 use Rattle.server_events.specs.Events.{WhatValue, opened, received, took, closed, tick, ended}
 use Rattle.server_events.specs.Shown.{what_value}

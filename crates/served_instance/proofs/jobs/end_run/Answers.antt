@@ -2,7 +2,7 @@ use Rattle.std.proofs.Common.{refl}
 use Rattle.blob_pool.specs.Moves.{Moves}
 use Rattle.blob_pool.proofs.Moves.{moves_trans}
 use Rattle.execution.specs.Taking.{steps_shown}
-use Rattle.run_outcomes.specs.Shown.{outcome_shown}
+use Rattle.run_calls.specs.Shown.{outcome_shown}
 use Rattle.instance_core.specs.Slots.{state_in}
 use Rattle.served_instance.specs.Acts.{slots_of}
 use Rattle.served_instance.specs.Slots.{holders_of}

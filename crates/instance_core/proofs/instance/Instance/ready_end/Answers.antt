@@ -1,6 +1,6 @@
 use Rattle.std.proofs.Common.{sym, subst, IfOk, Result, Ok, Err}
 use Rattle.job_queue.specs.Jobs.{running_job}
-use Rattle.run_outcomes.specs.Shown.{outcome_shown}
+use Rattle.run_calls.specs.Shown.{outcome_shown}
 use Rattle.instance_core.specs.Answer.{ending_changes}
 use Rattle.instance_core.specs.Shown.{slots_of, contents_state, ongoing_in}
 use Rattle.instance_core.specs.Slots.{InstanceSlots, IsInstanceInPool, state_in}

@@ -1,5 +1,5 @@
 use Rattle.std.proofs.Common.{◌≡◌, map}
-use Rattle.run_outcomes.specs.Shown.{output_shown}
+use Rattle.run_calls.specs.Shown.{output_shown}
 use Rattle.script.specs.ReplayEvents.{outputs_of}
 use Rattle.script.proofs.OutputLemmas.{outputs_after}
 use Rattle.script.proofs.replay.output.read_outputs.Given as goal

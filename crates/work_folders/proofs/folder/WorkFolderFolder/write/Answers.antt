@@ -1,5 +1,5 @@
 use Rattle.work_folders.proofs.OfRuns.{changes_of, looks_of}
-use Rattle.run_trees.proofs.AnySite.{if_tree}
+use Rattle.made_trees.proofs.AnySite.{if_tree}
 use Rattle.work_folders.proofs.folder.WorkFolderFolder.write.Goals as goal
 
 pub write-answer-requires-clause-look : goal.write-answer-requires-clause-look

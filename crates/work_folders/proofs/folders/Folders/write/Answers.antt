@@ -1,6 +1,6 @@
 use Rattle.std.proofs.Common.{map}
 use Rattle.std.specs.Rc.{rc_str_bytes}
-use Rattle.run_trees.specs.RunTrees.{site_in, site_shown}
+use Rattle.made_trees.specs.RunTrees.{site_in, site_shown}
 use Rattle.work_folders.proofs.AtSites.{at_start}
 use Rattle.work_folders.proofs.folders.Folders.write.Goals as goal
 

@@ -1,2 +1,0 @@
--- What calls came to.
-pub mod Counts

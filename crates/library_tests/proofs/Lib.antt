@@ -1,0 +1,3 @@
+pub mod Beside
+mod Rights
+pub mod Fitting

@@ -1,8 +1,0 @@
-use Rattle.operation_sizes.proofs.Written.{queued_short, executing_short}
-use Rattle.operation_sizes.proofs.laws.unfinished_operations_are_short.Goals as goal
-
-pub returns-clause-queued : goal.returns-clause-queued
-returns-clause-queued c = queued_short
-
-pub returns-clause-executing : goal.returns-clause-executing
-returns-clause-executing c = executing_short

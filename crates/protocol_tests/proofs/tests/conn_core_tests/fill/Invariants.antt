@@ -1,5 +1,0 @@
-use Rattle.grpc_sending.specs.StoredSending.{SourceTexts, QueuesEndWithin}
-use Rattle.protocol_tests.proofs.tests.conn_core_tests.fill.Given as goal
-
-abbrev pub invariant-loop : goal.invariant-loop
-invariant-loop l = (texts : SourceTexts) → QueuesEndWithin texts l.connection.sending.queues

@@ -1,2 +1,0 @@
-mod Alone
-mod Told

@@ -1,3 +1,0 @@
-pub mod Printed
-pub mod Outcome
-pub mod Outputs

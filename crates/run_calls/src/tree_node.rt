@@ -1,0 +1,68 @@
+//! Nodes of a tree, which share their names and the targets of their links.
+
+ghost use Rattle.std.specs.Prelude.{◌≡◌, IfOk};
+ghost use Rattle.run_calls.specs.Nodes.{kind_shown, node_at_level, node_shown};
+
+use std::alloc::AllocError;
+use std::rc::RcStr;
+
+/// What a node is, where its text is named by a `T`.
+#[derive(Drop)]
+pub enum NodeKind<T> {
+    /// A file, by its text.
+    File { text: T, is_executable: bool },
+    /// A symbolic link.
+    Symlink { target: RcStr },
+    /// A directory, by the text that lists what is in it.
+    Directory { text: T },
+}
+
+/// A node of a tree.
+#[derive(Drop)]
+pub struct Node<T> {
+    /// Its name in the directory that it stands in. The places at which a directory stands share the
+    /// names in it.
+    pub name: RcStr,
+    /// The number of directories from the root on in which it stands: 1 in the root itself.
+    pub level: usize,
+    pub kind: NodeKind<T>,
+}
+
+impl<T: Copy> NodeKind<T> {
+    /// The same kind, which shares the target of a link. It takes no memory.
+    ///
+    /// Err: the target is shared too often to be counted.
+    pub fn shared(&self) -> Result<NodeKind<T>, AllocError>
+        ensures { IfOk result (λ kind. kind_shown kind ≡ kind_shown self.now) }
+    {
+        match self {
+            NodeKind::File {
+                text,
+                is_executable,
+            } => Ok(NodeKind::File {
+                text: *text,
+                is_executable: *is_executable,
+            }),
+            NodeKind::Symlink { target } => {
+                let target = target.clone()?;
+                Ok(NodeKind::Symlink { target })
+            }
+            NodeKind::Directory { text } => Ok(NodeKind::Directory { text: *text }),
+        }
+    }
+}
+
+impl<T: Copy> Node<T> {
+    /// The same node in a directory of a level. It shares the name, and the target of a link, and
+    /// takes no memory.
+    ///
+    /// Err: one of these is shared too often to be counted.
+    pub fn at_level(&self, level: usize) -> Result<Node<T>, AllocError>
+        ensures { IfOk result (λ node.
+            node_shown node ≡ node_at_level level (node_shown self.now)) }
+    {
+        let name = self.name.clone()?;
+        let kind = self.kind.shared()?;
+        Ok(Node { name, level, kind })
+    }
+}

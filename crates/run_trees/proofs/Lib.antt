@@ -1,4 +1,0 @@
-pub mod AnySite
-mod Claimed
-mod OfInstances
-mod Others

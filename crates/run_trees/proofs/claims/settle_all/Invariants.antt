@@ -1,5 +1,0 @@
-use Rattle.run_trees.specs.RunTrees.{AllStayUsed}
-use Rattle.run_trees.proofs.claims.settle_all.Given as goal
-
-abbrev pub invariant-loop-tree : goal.invariant-loop-tree
-invariant-loop-tree l = AllStayUsed l.fn.store.trees l.store.trees

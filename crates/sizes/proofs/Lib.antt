@@ -1,2 +1,0 @@
-mod Sizes
-mod Words

@@ -1,0 +1,5 @@
+mod Calls
+mod CallLines
+mod Alone
+mod Told
+mod Steps

@@ -1,2 +1,0 @@
--- Nodes of a tree.
-pub mod Nodes

@@ -78,10 +78,15 @@ missing_alike look other (d ∷ ds) same =
     let later = missing_alike look other ds (λ e c. same e (later_in d ds e c)) in
     rw (first, later) refl
 
+-- the nodes that it meets are the same
+pub met_again : (look other : Lookup) (root : Digest) (nodes : List PlanNodeValue) → walk look root ≡ Ok nodes →
+    AreAlike look other (digests_met root nodes) → nodes_met other root ≡ Ok nodes
+met_again look other root nodes h same = met_alike look other root nodes (plan_is look root nodes h).0 same
+
 pub plan_again : (look other : Lookup) (root : Digest) (nodes : List PlanNodeValue) → walk look root ≡ Ok nodes →
     AreAlike look other (digests_met root nodes) → walk other root ≡ Ok nodes
 plan_again look other root nodes h same =
     let parts = plan_is look root nodes h in
     let none : missing_among other (digests_met root nodes) ≡ [] = missing_alike look other (digests_met root nodes) same ∙ parts.1 in
     let on : Nodes → Nodes = λ m. (m >>= (λ all. nodes_unless_missing all (missing_among other (digests_met root all)))) in
-    ap on (met_alike look other root nodes parts.0 same) ∙ ap (nodes_unless_missing nodes) none
+    ap on (met_again look other root nodes h same) ∙ ap (nodes_unless_missing nodes) none

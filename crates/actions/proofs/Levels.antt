@@ -15,7 +15,7 @@ use Rattle.input_tree.specs.Listing.{Lookup}
 use Rattle.actions.specs.Nodes.{PlanKindValue, PlanNode, PlanNodeValue, directory, directory_at, file, file_at, nodes_of, symlink_at}
 use Rattle.actions.specs.Shown.{nodes_shown}
 use Rattle.actions.specs.Walk.{directory_nodes, nodes_of_text, nodes_or_fault}
-use Rattle.actions.specs.ReadOnce.{AreRead, at_level}
+use Rattle.actions.specs.KeptNodes.{AreKept, IsKept, at_level}
 use Rattle.run_calls.specs.Nodes.{node_at_level}
 
 each_at : {V : Type 0} (l m : ℕ) (at : ℕ → V → Option PlanNodeValue) → ((v : V) → at m v ≡ option_map (node_at_level m) (at l v)) →
@@ -69,26 +69,28 @@ nodes_at look l m d ns h = text (look d) h where
   text None h = let is : [] ≡ ns = cc in rw (← is) refl
   text (Some t) h = read (directory_in t) h
 
--- one more directory is read
-pub read_more : (look : Lookup) (old new : List (Digest × Vec PlanNode Global)) (level : ℕ) (e : Digest) (ns : List PlanNodeValue)
-    (copies : Vec PlanNode Global) → AreRead look old → directory_nodes look level e ≡ Ok ns → nodes_shown copies.items ≡ at_level level ns
-    → ((d : Digest) → lookup (same_digest d) new ≡ (if same_digest e d then Some copies else lookup (same_digest d) old)) → AreRead look new
-read_more look old new level e ns copies read is copied put d m = rw (put d) (go (same_digest e d) refl) where
+-- one more directory is read, and its nodes may be kept
+pub keeps_more : (look : Lookup) (old new : List (Digest × Option (Vec PlanNode Global))) (level : ℕ) (e : Digest) (ns : List PlanNodeValue)
+    (kept : Option (Vec PlanNode Global)) → AreKept look old → directory_nodes look level e ≡ Ok ns →
+    IfSome kept (λ copies. nodes_shown copies.items ≡ at_level level ns)
+    → ((d : Digest) → lookup (same_digest d) new ≡ (if same_digest e d then Some kept else lookup (same_digest d) old)) → AreKept look new
+keeps_more look old new level e ns kept before is copied put d m = rw (put d) (go (same_digest e d) refl) where
   twice : (xs : List PlanNodeValue) → at_level m (at_level level xs) ≡ at_level m xs
   twice [] = refl
   twice (x ∷ xs) = ap (λ (ys : List PlanNodeValue). node_at_level m x ∷ ys) (twice xs)
 
-  go : (b : Bool) → same_digest e d ≡ b → IfSome (if b then Some copies else lookup (same_digest d) old)
-      (λ nodes. directory_nodes look m d ≡ Ok (at_level m (nodes_shown nodes.items)))
-  go true same =
-      let equal = same_equal e d same in
-      rw (← equal) (nodes_at look level m e ns is ∙ ap (λ (xs : List PlanNodeValue). Ok xs) (sym (ap (at_level m) copied ∙ twice ns)))
-  go false same = read d m
+  copies_are : (o : Option (Vec PlanNode Global)) → IfSome o (λ copies. nodes_shown copies.items ≡ at_level level ns) → IsKept look e m o
+  copies_are None h = tt
+  copies_are (Some copies) h =
+      nodes_at look level m e ns is ∙ ap (λ (xs : List PlanNodeValue). Ok xs) (sym (ap (at_level m) h ∙ twice ns))
 
--- what the table has of a directory that was read
-pub read_before : (look : Lookup) (table : List (Digest × Vec PlanNode Global)) (d : Digest) (level : ℕ) (nodes : Vec PlanNode Global) →
-    AreRead look table → lookup (same_digest d) table ≡ Some nodes →
+  go : (b : Bool) → same_digest e d ≡ b → IfSome (if b then Some kept else lookup (same_digest d) old) (IsKept look d m)
+  go true same = subst (λ (x : Digest). IsKept look x m kept) (same_equal e d same) (copies_are kept copied)
+  go false same = before d m
+
+-- what the table keeps of a directory
+pub kept_before : (look : Lookup) (table : List (Digest × Option (Vec PlanNode Global))) (d : Digest) (level : ℕ)
+    (nodes : Vec PlanNode Global) → AreKept look table → lookup (same_digest d) table ≡ Some (Some nodes) →
     directory_nodes look level d ≡ Ok (at_level level (nodes_shown nodes.items))
-read_before look table d level nodes read found =
-    subst (λ (o : Option (Vec PlanNode Global)). IfSome o (λ ns. directory_nodes look level d ≡ Ok (at_level level (nodes_shown ns.items))))
-    found (read d level)
+kept_before look table d level nodes kept found =
+    subst (λ (o : Option (Option (Vec PlanNode Global))). IfSome o (IsKept look d level)) found (kept d level)

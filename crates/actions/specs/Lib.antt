@@ -5,7 +5,7 @@ pub mod ActionTexts
 pub mod Shown
 pub mod Nodes
 pub mod Walk
-pub mod ReadOnce
+pub mod KeptNodes
 pub mod Answers
 pub mod Tree
 pub mod Paths

@@ -8,10 +8,10 @@ mod command;
 mod command_text;
 mod fault;
 mod finding;
+mod kept_nodes;
 mod laws;
 mod node;
 mod outputs;
-mod read_once;
 mod reading;
 mod walking;
 
@@ -27,4 +27,4 @@ pub use laws::{
 };
 pub use node::PlanNode;
 pub use outputs::{AskedOutput, asked_outputs};
-pub use walking::{MOST_LEVELS, MOST_NODES, Plan, walk};
+pub use walking::{MOST_LEVELS, MOST_NODES, Plan, nodes_met, walk};

@@ -3,13 +3,13 @@
 ghost use Rattle.std.specs.Prelude.{◌≡◌, ◌++◌, [], reverse, IfOk, OnOk};
 ghost use Rattle.actions.specs.Shown.{node_shown, nodes_shown};
 ghost use Rattle.actions.specs.Walk.{digests_met, missing_among, nodes_inside, nodes_met, walk, walk_along, digest_of_node};
-ghost use Rattle.actions.specs.ReadOnce.{AreRead};
+ghost use Rattle.actions.specs.KeptNodes.{AreKept};
 ghost use Rattle.actions.specs.Answers.{Answers};
 
 use crate::fault::TreeFault;
 use crate::finding::Finds;
+use crate::kept_nodes::{KeptNodes, nodes_or_kept};
 use crate::node::PlanNode;
-use crate::read_once::{ReadDirectories, nodes_once};
 use crate::reading::directory_nodes;
 use blob_pool::Pool;
 use digest::Digest;
@@ -36,13 +36,13 @@ fn nodes_inside<F: Finds>(
     alloc: Global,
     view: &F,
     pool: &Pool,
-    read: &mut ReadDirectories,
+    kept: &mut KeptNodes,
     node: &PlanNode,
 ) -> Result<Vec<PlanNode>, TreeFault>
-    requires read { AreRead (F.found_in pool.now view.now) read.old.entries }
+    requires kept { AreKept (F.found_in pool.now view.now) kept.old.entries }
     ensures nodes { Answers (λ nodes. nodes_shown nodes.items) result
         (nodes_inside (F.found_in pool.now view.now) (node_shown node.now)) }
-    ensures read { OnOk result (AreRead (F.found_in pool.now view.now) read.new.entries) }
+    ensures kept { OnOk result (AreKept (F.found_in pool.now view.now) kept.new.entries) }
 {
     let NodeKind::Directory { text } = &node.kind else {
         return Ok(Vec::new(alloc));
@@ -50,7 +50,7 @@ fn nodes_inside<F: Finds>(
     if node.level >= MOST_LEVELS {
         return Err(TreeFault::TooDeep);
     }
-    nodes_once(alloc, view, pool, read, node.level + 1, text)
+    nodes_or_kept(alloc, view, pool, kept, node.level + 1, text)
 }
 
 /// Puts nodes on a stack, the first of them on top.
@@ -70,10 +70,10 @@ fn walk_along<F: Finds>(
     alloc: Global,
     view: &F,
     pool: &Pool,
-    read: &mut ReadDirectories,
+    kept: &mut KeptNodes,
     todo: Vec<PlanNode>,
 ) -> Result<Vec<PlanNode>, TreeFault>
-    requires read { AreRead (F.found_in pool.now view.now) read.old.entries }
+    requires kept { AreKept (F.found_in pool.now view.now) kept.old.entries }
     ensures { Answers (λ nodes. nodes_shown nodes.items) result
         (walk_along MOST_NODES (F.found_in pool.now view.now) (reverse (nodes_shown todo.items)) []) }
 {
@@ -83,15 +83,16 @@ fn walk_along<F: Finds>(
         if met.len() == MOST_NODES {
             return Err(TreeFault::TooMany);
         }
-        let inside = nodes_inside(alloc, view, pool, read, &node)?;
+        let inside = nodes_inside(alloc, view, pool, kept, &node)?;
         stack(&mut todo, inside)?;
         met.push(node)?;
     }
     Ok(met)
 }
 
-/// The nodes of a root's tree, in the order met.
-fn nodes_met<F: Finds>(
+/// The nodes of a root's tree, in the order met, or the first fault that is met. A text that is not
+/// there is none: nothing is met in its directory.
+pub fn nodes_met<F: Finds>(
     alloc: Global,
     view: &F,
     pool: &Pool,
@@ -103,8 +104,8 @@ fn nodes_met<F: Finds>(
     let nodes = directory_nodes(alloc, view, pool, 1, root)?;
     let mut todo = Vec::new(alloc);
     stack(&mut todo, nodes)?;
-    let mut read = KeyedMap::with_hasher(alloc, pool.key());
-    walk_along(alloc, view, pool, &mut read, todo)
+    let mut kept = KeyedMap::with_hasher(alloc, pool.key());
+    walk_along(alloc, view, pool, &mut kept, todo)
 }
 
 /// The digest of a file or directory.
@@ -150,7 +151,7 @@ fn missing_among<F: Finds>(
 ///
 /// Each node is counted when it is met, then its level is tested, then its text is looked at; the
 /// first fault that is met is answered. What is missing is answered where the whole walk has no
-/// other fault. A directory that stands in many places is read once.
+/// other fault. A directory that stands in many places is read at most twice.
 pub fn walk<F: Finds>(
     alloc: Global,
     view: &F,

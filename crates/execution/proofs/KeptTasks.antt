@@ -8,8 +8,8 @@ use Rattle.digest.specs.Naming.{same_digest, is_empty_digest}
 use Rattle.digest.proofs.Same.{same_equal, same_refl}
 use Rattle.instance_view.specs.Visible.{Blob, visible_text}
 use Rattle.input_tree.specs.Listing.{Lookup}
-use Rattle.actions.specs.Walk.{Nodes, digest_of_node, digests_met, walk}
-use Rattle.actions.proofs.Again.{AreAlike, plan_again}
+use Rattle.actions.specs.Walk.{Nodes, digest_of_node, digests_met, nodes_met, walk}
+use Rattle.actions.proofs.Again.{AreAlike, met_again}
 use Rattle.actions.proofs.Kept.{in_none, first_in, later_in, in_cases}
 use Rattle.execution_messages.specs.Statuses.{distinct}
 use Rattle.execution_messages.proofs.EachOnce.{among, same-ones}
@@ -128,8 +128,8 @@ task_again seen d p h =
     let command : look_kept texts p.action.command ≡ Some p.command =
     same p.action.command (later_in d (p.action.command ∷ inner) p.action.command (first_in p.action.command inner))
     ∙ command_is p.command (look p.action.command) parts.spelled in
-    let tree : walk (look_kept texts) p.action.root ≡ Ok p.nodes =
-    plan_again look (look_kept texts) p.action.root p.nodes parts.walked
+    let tree : nodes_met (look_kept texts) p.action.root ≡ Ok p.nodes =
+    met_again look (look_kept texts) p.action.root p.nodes parts.walked
     (λ e there. same e (later_in d (p.action.command ∷ inner) e (later_in p.action.command inner e there))) in
     let task_with : List ℕ → List PlanNodeValue → TaskValue = λ text nodes. record { command = text; nodes = nodes; texts = texts } in
     let first : command_among texts (action_among texts d) ≡ p.command =

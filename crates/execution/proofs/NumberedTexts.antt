@@ -45,6 +45,23 @@ number_put table new key d number there put = put ∙ by (lookup (same_digest d)
         ap (λ (e : Digest). is_some (lookup (same_digest e) table)) (sym equal) ∙ ap is_some found in
         absurd (let no : true ≡ false = sym some ∙ there in cc)
 
+-- one that has a number gets it back
+pub number_back : (table between new : List (Digest × ℕ)) (key d : Digest) (number first : ℕ) → lookup (same_digest key) table ≡ Some first
+    → lookup (same_digest d) between ≡ (if same_digest key d then Some number else lookup (same_digest d) table)
+    → lookup (same_digest d) new ≡ (if same_digest key d then Some first else lookup (same_digest d) between)
+    → lookup (same_digest d) new ≡ option_or (lookup (same_digest d) table) (if same_digest d key then Some number else None)
+number_back table between new key d number first found put back =
+    by (same_digest key d) refl ∙ number_stays table key d number (ap is_some found)
+  where
+    by : (b : Bool) → same_digest key d ≡ b → lookup (same_digest d) new ≡ lookup (same_digest d) table
+    by true is =
+        let same : lookup (same_digest d) table ≡ Some first =
+        ap (λ (e : Digest). lookup (same_digest e) table) (sym (same_equal key d is)) ∙ found in
+        back ∙ ap (λ (b : Bool). if b then Some first else lookup (same_digest d) between) is ∙ sym same
+    by false is =
+        back ∙ ap (λ (b : Bool). if b then Some first else lookup (same_digest d) between) is
+        ∙ put ∙ ap (λ (b : Bool). if b then Some number else lookup (same_digest d) table) is
+
 -- the first of some digests is given a number
 pub number_next : (old new : Option ℕ) (n : ℕ) (x : Digest) (ds : List Digest) (d : Digest)
     → new ≡ option_or old (if same_digest d x then Some n else None)

@@ -8,7 +8,7 @@ use Rattle.instance_view.specs.Visible.{Blob, visible_text}
 use Rattle.input_tree.specs.Listing.{Lookup}
 use Rattle.actions.specs.Nodes.{PlanNodeValue}
 use Rattle.actions.specs.Walk as Walk
-use Rattle.actions.specs.Walk.{Nodes, TreeFaultValue, digests_met, walk}
+use Rattle.actions.specs.Walk.{Nodes, TreeFaultValue, digests_met, nodes_met, walk}
 use Rattle.actions.specs.Actions.{ActionTaken, action_in, and_then}
 use Rattle.actions.specs.Commands.{command_in}
 use Rattle.execution_messages.specs.declared.fault.Fault.{Fault}
@@ -117,10 +117,10 @@ abbrev pub nodes_or_none : Nodes → List PlanNodeValue
 nodes_or_none (Ok nodes) = nodes
 nodes_or_none (Err fault) = []
 
--- what stands in its input root
+-- what stands in its input root: what is missing was asked when the job was made
 abbrev pub nodes_among : List Blob → Option ActionTaken → List PlanNodeValue
 nodes_among texts None = []
-nodes_among texts (Some a) = nodes_or_none (walk (look_kept texts) a.root)
+nodes_among texts (Some a) = nodes_or_none (nodes_met (look_kept texts) a.root)
 
 -- the task of the action of a digest, where these are the texts that its job keeps
 unfoldable pub command_read : Digest → List Blob → List ℕ

@@ -16,10 +16,10 @@ fn give_number(
 ) -> Result<(), AllocError>
     ensures { OnOk result (GivesNumber numbers.old.entries numbers.new.entries digest number) }
 {
-    if numbers.contains_key(&digest) {
+    let Some(first) = numbers.insert(digest, number)? else {
         return Ok(());
-    }
-    numbers.insert(digest, number)?;
+    };
+    numbers.insert(digest, first)?;
     Ok(())
 }
 

@@ -15,7 +15,7 @@ ghost use Rattle.actions.specs.Shown.{action_taken_shown, nodes_shown};
 use crate::job::Task;
 use crate::keeping::KeptText;
 use crate::numbering::{number_of, text_numbers};
-use actions::{ActionTaken, Finds, Plan, TreeFault, read_action, walk};
+use actions::{ActionTaken, Finds, Plan, TreeFault, nodes_met, read_action};
 use blob_pool::Pool;
 use digest::Digest;
 use instance_view::{Seen, copy_of};
@@ -178,7 +178,7 @@ fn command_among<F: Finds>(
     }
 }
 
-/// What stands in the input root of an action.
+/// What stands in the input root of an action. No text is looked for but those of directories.
 fn plan_among(
     alloc: Global,
     pool: &Pool,
@@ -191,8 +191,8 @@ fn plan_among(
     let Some(action) = action else {
         return Ok(no_plan(alloc));
     };
-    match walk(alloc, texts, pool, &action.root) {
-        Ok(plan) => Ok(plan),
+    match nodes_met(alloc, texts, pool, &action.root) {
+        Ok(nodes) => Ok(Plan { nodes }),
         Err(TreeFault::NoMemory) => Err(AllocError),
         Err(_) => Ok(no_plan(alloc)),
     }

@@ -19,7 +19,7 @@ pub nodes-preserved : goal.nodes-preserved
 nodes-preserved g c = record {
   same = next_at node_shown (g.F.Finds.found_in c.args.pool.now c.args.view.now) 10000 _ _ _ _ _ c.in-Some.node _ _ c.in-Some.ensures.items
       c.nodes.invariant.same (omega arith) c.in_ok-inside.ensures.nodes c.in_ok-stack.ensures c.in_ok-push.ensures.items;
-  read = c.in_ok-inside.ensures.read;
+  kept = c.in_ok-inside.ensures.kept;
   few = omega arith;
 }
 

@@ -1,14 +1,14 @@
 use Rattle.std.proofs.Common.{◌≡◌, ◌-◌, ◌≤◌, [], reverse, length}
 use Rattle.actions.specs.Shown.{nodes_shown}
 use Rattle.actions.specs.Walk.{walk_along}
-use Rattle.actions.specs.ReadOnce.{AreRead}
+use Rattle.actions.specs.KeptNodes.{AreKept}
 use Rattle.actions.proofs.walking.walk_along.Given as goal
 
 abbrev pub invariant-nodes : goal.invariant-nodes
 invariant-nodes g l = record {
   same : walk_along (10000 - length l.met.items) (g.F.Finds.found_in l.pool l.view) (reverse (nodes_shown l.todo.items))
       (nodes_shown l.met.items) ≡ walk_along 10000 (g.F.Finds.found_in l.pool l.view) (reverse (nodes_shown l.fn.todo.items)) [];
-  read : AreRead (g.F.Finds.found_in l.pool l.view) l.read.entries;
+  kept : AreKept (g.F.Finds.found_in l.pool l.view) l.kept.entries;
   few : length l.met.items ≤ 10000;
 }
 

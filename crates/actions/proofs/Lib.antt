@@ -1,4 +1,6 @@
 mod Walks
+mod Spending
+mod Pieces
 mod Levels
 mod Trees
 pub mod Kept

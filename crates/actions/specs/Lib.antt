@@ -7,5 +7,7 @@ pub mod Nodes
 pub mod Walk
 pub mod KeptNodes
 pub mod Answers
+pub mod Reading
+pub mod TreeWalks
 pub mod Tree
 pub mod Paths

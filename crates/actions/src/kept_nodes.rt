@@ -5,12 +5,15 @@ ghost use Rattle.actions.specs.Shown.{nodes_shown};
 ghost use Rattle.actions.specs.KeptNodes.{AreKept, at_level};
 ghost use Rattle.actions.specs.Walk.{directory_nodes};
 ghost use Rattle.actions.specs.Answers.{Answers};
+ghost use Rattle.budget.specs.Budgets.{Spends};
+ghost use Rattle.input_tree.specs.declared.directory.TheConstants.{MOST_DIRECTORY_BYTES};
 
 use crate::fault::TreeFault;
 use crate::finding::Finds;
 use crate::node::PlanNode;
 use crate::reading::directory_nodes;
 use blob_pool::Pool;
+use budget::Budget;
 use digest::Digest;
 use keyed_maps::KeyedMap;
 use std::alloc::{AllocError, Global};
@@ -51,10 +54,12 @@ fn nodes_to_keep(
 
 /// The nodes of the directory of a digest, none where the instance sees no text of it. Its text is
 /// read the first two times, and then its nodes are copied.
+#[tactic(auto, using(crate::proofs::Spending::nothing_spent, crate::proofs::Spending::looking_spends))]
 pub fn nodes_or_kept<F: Finds>(
     alloc: Global,
     view: &F,
     pool: &Pool,
+    budget: &mut Budget,
     kept: &mut KeptNodes,
     level: usize,
     digest: &Digest,
@@ -63,12 +68,13 @@ pub fn nodes_or_kept<F: Finds>(
     ensures nodes { Answers (λ nodes. nodes_shown nodes.items) result
         (directory_nodes (F.found_in pool.now view.now) level digest.now) }
     ensures kept { OnOk result (AreKept (F.found_in pool.now view.now) kept.new.entries) }
+    ensures budget { Spends MOST_DIRECTORY_BYTES budget.old budget.new }
 {
     if let Some(Some(nodes)) = kept.get(digest) {
         return Ok(copy_nodes(alloc, level, nodes)?);
     }
     let is_read_again = kept.contains_key(digest);
-    let nodes = directory_nodes(alloc, view, pool, level, digest)?;
+    let nodes = directory_nodes(alloc, view, pool, budget, level, digest)?;
     let copies = nodes_to_keep(alloc, level, &nodes, is_read_again)?;
     kept.insert(*digest, copies)?;
     Ok(nodes)

@@ -1,22 +1,23 @@
 //! The nodes of a directory whose text an instance sees.
 
-ghost use Rattle.std.specs.Prelude.{◌≡◌, ◌++◌, map, option_map, IfOk, OnOk};
+ghost use Rattle.std.specs.Prelude.{◌≡◌, ◌++◌, length, map, option_map, IfOk, OnOk};
 ghost use Rattle.std.specs.List.{filter_map};
 ghost use Rattle.tree_messages.specs.Directories.{directory_shown};
-ghost use Rattle.blob_pool.specs.Slots.{text_at};
 ghost use Rattle.instance_view.specs.Shown.{text_seen};
 ghost use Rattle.actions.specs.Nodes.{nodes_in, nodes_of};
 ghost use Rattle.actions.specs.Shown.{nodes_shown};
+ghost use Rattle.actions.specs.Reading.{after_looking, after_reading};
 ghost use Rattle.actions.specs.Walk.{directory_nodes};
 ghost use Rattle.actions.specs.Answers.{Answers};
 
 use crate::fault::TreeFault;
 use crate::finding::Finds;
 use crate::node::{NodeMessage, PlanNode};
-use blob_pool::{Kept, Pool};
+use blob_pool::Pool;
+use budget::Budget;
 use digest::Digest;
 use input_tree::{MOST_DIRECTORY_BYTES, take_directory};
-use instance_view::Seen;
+use instance_view::{Seen, copy_of};
 use std::alloc::{AllocError, Global};
 use tree_messages::Directory;
 
@@ -67,38 +68,36 @@ fn nodes_in(alloc: Global, level: usize, text: &[u8]) -> Result<Option<Vec<PlanN
     }
 }
 
-/// The same for a text of a pool, whose length is looked at before its bytes.
-fn nodes_kept(
-    alloc: Global,
-    level: usize,
-    pool: &Pool,
-    kept: Kept,
-) -> Result<Option<Vec<PlanNode>>, AllocError>
-    ensures { IfOk result (λ found. option_map (λ nodes. nodes_shown nodes.items) found
-        ≡ nodes_in level (text_at pool.now kept)) }
+/// How long a text is that an instance sees.
+fn length_of(pool: &Pool, seen: &Seen) -> u64
+    ensures { result ≡ length (text_seen pool.now seen.now) }
 {
-    if pool.length(kept) > MOST_DIRECTORY_BYTES as u64 {
-        return Ok(None);
+    match seen {
+        Seen::Empty => 0,
+        Seen::Text(kept) => pool.length(*kept),
     }
-    let mut text = Vec::new(alloc);
-    pool.copy_into(kept, &mut text)?;
-    nodes_in(alloc, level, &text)
 }
 
-/// The same for a text that an instance sees.
+/// The same for a text that an instance sees, whose length is looked at before its bytes. Each byte
+/// that is read is spent.
 fn nodes_seen(
     alloc: Global,
     level: usize,
     pool: &Pool,
+    budget: &mut Budget,
     seen: Seen,
 ) -> Result<Option<Vec<PlanNode>>, AllocError>
-    ensures { IfOk result (λ found. option_map (λ nodes. nodes_shown nodes.items) found
+    ensures nodes { IfOk result (λ found. option_map (λ nodes. nodes_shown nodes.items) found
         ≡ nodes_in level (text_seen pool.now seen)) }
+    ensures budget { budget.new ≡ after_reading (text_seen pool.now seen) budget.old }
 {
-    match seen {
-        Seen::Empty => nodes_in(alloc, level, &[]),
-        Seen::Text(kept) => nodes_kept(alloc, level, pool, kept),
+    let length = length_of(pool, &seen);
+    if length > MOST_DIRECTORY_BYTES as u64 {
+        return Ok(None);
     }
+    budget.read(length);
+    let text = copy_of(alloc, pool, seen)?;
+    nodes_in(alloc, level, &text)
 }
 
 /// The nodes of the directory of a digest, none where the instance sees no text of it.
@@ -106,15 +105,18 @@ pub fn directory_nodes<F: Finds>(
     alloc: Global,
     view: &F,
     pool: &Pool,
+    budget: &mut Budget,
     level: usize,
     digest: &Digest,
 ) -> Result<Vec<PlanNode>, TreeFault>
-    ensures { Answers (λ nodes. nodes_shown nodes.items) result
+    ensures nodes { Answers (λ nodes. nodes_shown nodes.items) result
         (directory_nodes (F.found_in pool.now view.now) level digest.now) }
+    ensures budget { budget.new
+        ≡ after_looking (F.found_in pool.now view.now digest.now) budget.old }
 {
     match view.get(digest) {
         None => Ok(Vec::new(alloc)),
-        Some(seen) => match nodes_seen(alloc, level, pool, seen)? {
+        Some(seen) => match nodes_seen(alloc, level, pool, budget, seen)? {
             None => Err(TreeFault::BadDirectory),
             Some(nodes) => Ok(nodes),
         },

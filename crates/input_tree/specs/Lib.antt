@@ -3,6 +3,7 @@ pub mod NameSteps
 pub mod Directories
 pub mod Listing
 pub mod ListingSteps
+pub mod Listings
 pub mod Answers
 pub mod Texts
 pub mod Pages

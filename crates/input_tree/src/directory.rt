@@ -9,6 +9,7 @@ ghost use Rattle.instance_view.specs.Texts.{look_of};
 ghost use Rattle.input_tree.specs.Directories.{has_nodes, has_order, is_directory, child_digest, children_in};
 ghost use Rattle.input_tree.specs.Listing.{children};
 ghost use Rattle.input_tree.specs.Pages.{text_or_none};
+ghost use Rattle.input_tree.specs.declared.directory.TheConstants.{MOST_DIRECTORY_BYTES};
 
 use crate::names::{are_apart, are_rising, have_form};
 use crate::nodes::digest_written;
@@ -90,6 +91,7 @@ fn children_kept(
     ensures looks { work.new.looks ≡ work.old.looks }
     ensures bytes { work.new.bytes
         ≤ work.old.bytes + length (text_at texts.now.pool kept) }
+    ensures most { work.new.bytes ≤ work.old.bytes + MOST_DIRECTORY_BYTES }
 {
     if texts.length(kept) > MOST_DIRECTORY_BYTES as u64 {
         return Ok(None);
@@ -110,6 +112,7 @@ fn children_seen(
     ensures looks { work.new.looks ≡ work.old.looks }
     ensures bytes { work.new.bytes
         ≤ work.old.bytes + length (text_seen texts.now.pool seen) }
+    ensures most { work.new.bytes ≤ work.old.bytes + MOST_DIRECTORY_BYTES }
 {
     match seen {
         Seen::Empty => children_in(alloc, &[]),
@@ -132,6 +135,7 @@ pub fn children(
     ensures looks { work.new.looks ≤ work.old.looks + 1 }
     ensures bytes { work.new.bytes
         ≤ work.old.bytes + length (text_or_none (look_of texts.now) digest.now) }
+    ensures most { work.new.bytes ≤ work.old.bytes + MOST_DIRECTORY_BYTES }
 {
     match texts.get(work, digest) {
         None => Ok(None),

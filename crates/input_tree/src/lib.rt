@@ -17,7 +17,7 @@ mod uses;
 pub use directory::{MOST_DIRECTORY_BYTES, check, text_or_none};
 pub use error::{GetTreeError, TreeRefusal};
 pub use laws::only_the_last_use_counts;
-pub use listing::{MOST_DIRECTORIES, list_tree};
+pub use listing::{Listing, MOST_DIRECTORIES, list_tree};
 pub use node_texts::Unread;
 pub use nodes::{Node, digest_written, is_name};
 pub use pages::{MOST_PAGE_BYTES, MOST_PAGE_DIRECTORIES};

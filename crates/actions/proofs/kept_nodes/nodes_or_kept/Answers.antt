@@ -24,5 +24,5 @@ returns-clause-kept g c =
     (λ (ns : List PlanNode). IfSome c.in_ok-copies.copies (λ copies. nodes_shown copies.items ≡ at_level c.args.level (nodes_shown ns)))
     c.deref-2.ensures.value c.in_ok-copies.ensures in
     keeps_more look c.args.kept.now.entries c.insert.new.self.entries c.args.level c.args.digest.now
-    (nodes_shown c.in_ok-nodes.nodes.items) c.in_ok-copies.copies c.requires.kept c.in_ok-nodes.ensures copied
+    (nodes_shown c.in_ok-nodes.nodes.items) c.in_ok-copies.copies c.requires.kept c.in_ok-nodes.ensures.nodes copied
     c.in_ok-insert.ensures.updates.0

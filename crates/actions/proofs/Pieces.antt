@@ -57,12 +57,12 @@ pub meets : (look : Lookup) (old new : TreeWalk) (front : List PlanNode) (n : Pl
     AreKept look new.kept.entries → LeadsTo look new
 meets look old new front n inside leads begun popped room gives root begins stacked pushed noted kept =
     let count : length new.met.items ≡ length old.met.items + 1 = ap length pushed ∙ length-append old.met.items (n ∷ []) in
-    let same = next_at node_shown look 10000 old.todo.items front new.todo.items old.met.items new.met.items n inside
+    let whole = next_at node_shown look 10000 old.todo.items front new.todo.items old.met.items new.met.items n inside
     (nodes_met look old.root) popped (goes_along look old leads begun) room gives stacked pushed in
     let were : old.missing.items ≡ missing_among look (digests_met old.root (nodes_shown old.met.items)) = rw begun at leads.missing_are in
     let all_missing = missing_more look old.root old.met.items new.met.items n old.missing.items new.missing.items were pushed noted in
     record {
-      same = rw (root, begins, begun) same;
+      same = rw (root, begins, begun) whole;
       missing_are = rw (root, begins, begun) all_missing;
       kept_are = kept;
       few = omega (arith, room, count);

@@ -11,8 +11,8 @@ use Rattle.actions.specs.declared.walking.TheConstants.{MOST_NODES}
 use Rattle.budget.specs.declared.TheConstants.{STEP_COST}
 use Rattle.input_tree.specs.declared.directory.TheConstants.{MOST_DIRECTORY_BYTES}
 
--- the nodes that are met from where a walk has come: where it is begun, at most so many more may be,
--- these come next, and those were met
+-- the nodes that are met from where a walk has come: where it is begun, at most so many more may
+-- be, these come next, and those were met
 abbrev pub rest_of : Lookup → Digest → Bool → ℕ → List PlanNodeValue → List PlanNodeValue → Nodes
 rest_of look root false most next met = nodes_met look root
 rest_of look root true most next met = walk_along most look next met

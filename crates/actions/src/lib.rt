@@ -2,6 +2,7 @@
 //! and what stands where in an input tree (remote_execution.proto, Action, Command and Directory).
 #![tactic(auto)]
 
+mod absent;
 mod action;
 mod action_text;
 mod command;
@@ -10,7 +11,6 @@ mod fault;
 mod finding;
 mod kept_nodes;
 mod laws;
-mod missing;
 mod node;
 mod outputs;
 mod reading;

@@ -10,10 +10,10 @@ ghost use Rattle.actions.specs.KeptNodes.{AreKept};
 ghost use Rattle.actions.specs.Answers.{Answers, Fails};
 ghost use Rattle.actions.specs.TreeWalks.{LeadsTo, is_over, most_of_step, steps_left};
 
+use crate::absent::{note_missing, note_node};
 use crate::fault::TreeFault;
 use crate::finding::Finds;
 use crate::kept_nodes::{KeptNodes, nodes_or_kept};
-use crate::missing::{note_missing, note_node};
 use crate::node::PlanNode;
 use crate::reading::directory_nodes;
 use crate::walking::{MOST_LEVELS, MOST_NODES, Plan};

@@ -151,31 +151,29 @@ too_many look l inside rest leads begun gone due full =
     (ap is_some next.there)
 
 pub goes_over : (look : Lookup) (old new : Listing) (inside : Vec Digest Global) (rest : List (Vec Digest Global)) → LeadsTo look old →
-    old.is_begun ≡ true → length old.inside.items ≤ old.next → old.known.due.items ≡ inside ∷ rest → (old.place ≡ 10000 → ⊥) →
+    old.is_begun ≡ true → length old.inside.items ≤ old.next → old.known.due.items ≡ inside ∷ rest → old.place < 10000 →
     new.root ≡ old.root → new.is_begun ≡ true → new.known.listed ≡ old.known.listed → new.known.others ≡ old.known.others →
     new.known.due.items ≡ rest → new.place ≡ old.place + 1 → new.inside ≡ inside → new.next ≡ 0 → GoesOver look old new
-goes_over look old new inside rest leads begun gone due not_full root begins listed others is_due place is_inside first =
-    let few = leads.few in
-    let room : old.place < 10000 = omega (arith, few, not_full) in
+goes_over look old new inside rest leads begun gone due room root begins listed others is_due place is_inside from_start =
     let keys = old.known.listed.keys in
     let next = due_next look old.place keys inside rest (rw due at leads.due_are) in
     let along = along_next 10000 old.place look keys next.directory room next.there in
-    let same = goes_along look old leads begun gone in
+    let whole = goes_along look old leads begun gone in
     let with_inside = ap (λ (ds : List Digest). with_all_listed look keys ds) next.inside_is in
-    let named = named_next 10000 old.place look keys next.directory inside.items room next.there next.inside_is in
+    let names = named_next 10000 old.place look keys next.directory inside.items room next.there next.inside_is in
     let named_new : length (named_left look new)
-        ≡ length (inside.items ++ named_along (10000 - (old.place + 1)) look (with_all_listed look keys inside.items) (old.place + 1)) =
-        rw (begins, listed, place, is_inside, first) refl in
+    ≡ length (inside.items ++ named_along (10000 - (old.place + 1)) look (with_all_listed look keys inside.items) (old.place + 1)) =
+    rw (begins, listed, place, is_inside, from_start) refl in
     let split = length-append inside.items (named_along (10000 - (old.place + 1)) look (with_all_listed look keys inside.items)
     (old.place + 1)) in
     let after = ap (λ (ds : List Digest). length (named_along (10000 - (old.place + 1)) look ds (old.place + 1))) with_inside in
     let count : length (named_left look old) ≡ length (named_left look new) =
-    named_on look old begun gone ∙ named
+    named_on look old begun gone ∙ names
     ∙ ap (λ (n : ℕ). length inside.items + n) after ∙ sym split ∙ sym named_new in
     record {
       leads = record {
-        same = rw (root, begins, listed, place, is_inside, first)
-            (ap (λ (ds : List Digest). listed_along (10000 - (old.place + 1)) look ds (old.place + 1)) (sym with_inside) ∙ sym along ∙ same);
+        same = rw (root, begins, listed, place, is_inside, from_start)
+            (ap (λ (ds : List Digest). listed_along (10000 - (old.place + 1)) look ds (old.place + 1)) (sym with_inside) ∙ sym along ∙ whole);
         others_are = rw others leads.others_are;
         due_are = rw (listed, is_due, place) next.rest_due;
         few = rw place (omega (arith, room));

@@ -1,4 +1,5 @@
--- A list of a tree's directories that is made in pieces. For the code alone: no promise speaks of it.
+-- A list of a tree's directories that is made in pieces. For the code alone: no promise speaks
+-- of it.
 use Rattle.std.specs.Prelude.{◌≡◌, ◌≤◌, ◌<◌, ℕ, ◌+◌, ◌-◌, Bool, true, false, ◌&&◌, nat_eq, nat_le, List, [], ◌++◌, drop, length, Result}
 use Rattle.digest.specs.declared.Digest.{Digest}
 use Rattle.input_tree.specs.Listing.{Lookup, listed_along, tree_list, with_all_listed}

@@ -253,7 +253,8 @@ impl Listing {
             self.list_next(alloc, texts, work, budget)?;
             return Ok(());
         }
-        self.open_next()
+        self.open_next()?;
+        Ok(())
     }
 
     /// Goes on by steps until the budget is spent, by one at least where any is left. The result

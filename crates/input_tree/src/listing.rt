@@ -203,6 +203,7 @@ impl Listing {
         requires begun { self.old.is_begun ≡ true }
         requires gone { length self.old.inside.items ≤ self.old.next }
         requires left { is_over self.old ≡ false }
+        requires few { self.old.place ≤ MOST_DIRECTORIES }
         ensures root { self.new.root ≡ self.old.root }
         ensures next { (look : Lookup) → LeadsTo look self.old →
             OnOk result (GoesOver look self.old self.new) }

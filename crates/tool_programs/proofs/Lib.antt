@@ -1,5 +1,5 @@
 mod Calls
 mod CallLines
 mod Alone
-mod Told
+mod ToldRuns
 mod Steps

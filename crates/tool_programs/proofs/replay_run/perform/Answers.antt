@@ -1,6 +1,6 @@
 use Rattle.server_events.specs.LimitsShown.{limits_value}
 use Rattle.tool_programs.specs.Printed.{text_printed_by}
-use Rattle.tool_programs.proofs.Told.{lines_put}
+use Rattle.tool_programs.proofs.ToldRuns.{lines_put}
 use Rattle.tool_programs.proofs.replay_run.perform.Goals as goal
 
 pub returns-in-Ok : goal.returns-in-Ok

@@ -1,6 +1,6 @@
 use Rattle.server_events.specs.LimitsShown.{limits_value}
 use Rattle.tool_programs.specs.Printed.{text_printed_by}
-use Rattle.tool_programs.proofs.Told.{outcome_told}
+use Rattle.tool_programs.proofs.ToldRuns.{outcome_told}
 use Rattle.tool_programs.proofs.replay_run.replay.Goals as goal
 
 pub returns-clause-outcome : goal.returns-clause-outcome

@@ -23,8 +23,9 @@ use crate::sockets::peers::serve_peers;
 use crate::sockets::silent::serve_silent;
 use decimals::decimal;
 use hex::FromHexError;
+use logs::LoggedSockets;
 use script::lines;
-use serve::{LoggedSockets, Sockets};
+use serve::Sockets;
 use server_events::Configs;
 use tool_programs::{Fault, Output, Status};
 

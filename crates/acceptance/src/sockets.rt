@@ -21,10 +21,11 @@ use crate::sockets::fake::{Client, Fake, Habits};
 use crate::sockets::no_runs::serve_alone;
 use crate::sockets::peers::serve_peers;
 use crate::sockets::silent::serve_silent;
-use decimals::decimal;
 use hex::FromHexError;
+use logs::LoggedSockets;
+use numerals::decimal;
 use script::lines;
-use serve::{LoggedSockets, Sockets};
+use serve::Sockets;
 use server_events::Configs;
 use tool_programs::{Fault, Output, Status};
 

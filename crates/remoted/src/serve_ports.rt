@@ -32,7 +32,7 @@ use operator_lines::{
     told,
 };
 use run_programs::{Launcher, RunPrograms, launcher_path};
-use serve::{ErrorLines, Sockets, serve};
+use serve::{Beginning, ErrorLines, Sockets, serve};
 use server_events::Configs;
 use std::alloc::AllocError;
 use std::io::{self, Write};
@@ -162,11 +162,6 @@ fn links_of(options: Options) -> Links {
     }
 }
 
-/// Whether nothing runs any more of what a launcher started, once it has ended.
-fn leaves_nothing(rt: &HostRuntime, launcher: &Option<Launcher>) -> bool {
-    matches!(launcher, Some(given) if leaves_no_process(&said_by(rt, given.path())))
-}
-
 /// Runs in this place, of the jobs of these instances.
 #[tactic(auto, using(work_folders::proofs::Nowhere::may_runs))]
 fn job_runner<'a, E: Write>(
@@ -186,14 +181,16 @@ fn job_runner<'a, E: Write>(
     let (failure, failed_at) = (&oversight.failure, &oversight.failed_at);
     let (shells, work) = (HostShells::new(rt), work.inner());
     let mut folder = WorkFolder::new(shells, work, links, trees, folders, failure, failed_at);
-    if slots_of(instances) > 0 && !leaves_nothing(rt, &launcher) {
+    let leaves_nothing =
+        matches!(&launcher, Some(given) if leaves_no_process(&said_by(rt, given.path())));
+    if slots_of(instances) > 0 && !leaves_nothing {
         if let Err(error) = guard_against_leases(rt, &mut folder, errors) {
             drop(folder);
             return Err(error);
         }
     }
     let (host, spawner) = (HostSystem::new(rt), HostSpawner::new(rt));
-    let sessions = HostSessions::new(rt);
+    let sessions = HostSessions::new(rt, leaves_nothing);
     let programs = RunPrograms::new(host, sessions, spawner, path, launcher, failure);
     let runs = JobRunner::new(rt.alloc(), folder, programs, slots_of(instances))?;
     Ok(OperatedRuns::new(rt.alloc(), runs, oversight))
@@ -278,13 +275,15 @@ fn serve_turns(
     operator.tell_start(&sockets, service);
     let served = serve(
         alloc,
-        key,
+        Beginning {
+            key,
+            turns: service.turns,
+        },
         configs,
         &mut sockets,
         runs,
         &mut lines,
         &mut operator,
-        service.turns,
     );
     end_runs(rt, configs, sockets, runs, &mut lines);
     operator.tell_end(service);

@@ -1,7 +1,7 @@
 -- A text that is hashed part by part.
 use Rattle.std.proofs.Common.{◌≡◌, ℕ, ◌+◌, ◌≤◌, List, ◌++◌, length, take, drop, sym, ap, ◌∙◌, append_assoc, arith, length-append}
 use Rattle.std.proofs.lemmas.List.{take_at, take-append-drop, length-take}
-use Rattle.paged_text.proofs.Parts.{part_before}
+use Rattle.blob_pool.proofs.Parts.{part_before}
 
 -- a front of a text and the part behind it
 pub front_more : (t part : List ℕ) (from count : ℕ) → from ≤ length t → part ≡ take count (drop from t) →

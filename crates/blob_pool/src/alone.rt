@@ -1,7 +1,7 @@
 //! Texts that some holders have alone.
 
 ghost use Rattle.std.specs.Prelude.{◌≡◌, ◌≢◌, ◌<◌, ◌≤◌, ◌==◌, if◌then◌else◌, ℕ, length, None};
-ghost use Rattle.paged_text.specs.declared.text.TheConstants.{MOST_BYTES};
+ghost use Rattle.blob_pool.specs.declared.text.TheConstants.{MOST_BYTES};
 ghost use Rattle.blob_pool.specs.Slots.{held_text_at, text_at, count_at};
 ghost use Rattle.blob_pool.specs.Alone.{bytes_alone, holders_at};
 

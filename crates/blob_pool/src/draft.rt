@@ -2,11 +2,11 @@
 
 ghost use Rattle.std.specs.Prelude.{◌≡◌, ◌+◌, ◌≤◌, ◌++◌, ◌↔◌, [], ℕ, List, length, true, false, IsTrue, OnOk, OnErr, IfOk};
 ghost use Rattle.digest.specs.Naming.{Names, digest_by, digest_of};
-ghost use Rattle.paged_text.specs.declared.text.TheConstants.{MOST_BYTES};
+ghost use Rattle.blob_pool.specs.declared.text.TheConstants.{MOST_BYTES};
 
 use crate::hashing::{Digests, Progress, digest_pages, end, update};
+use crate::text::PagedText;
 use digest::{Digest, HashFunction, is_same};
-use paged_text::PagedText;
 use std::alloc::{AllocError, Global};
 use std::marker::Model;
 
@@ -28,7 +28,7 @@ impl Drop for Draft {
 impl Model for Draft {
     ghost use Rattle.std.specs.Prelude.{◌≤◌, length};
     ghost use Rattle.blob_pool.specs.Drafts.{DraftValue, Hashes, is_going};
-    ghost use Rattle.paged_text.specs.declared.text.TheConstants.{MOST_BYTES};
+    ghost use Rattle.blob_pool.specs.declared.text.TheConstants.{MOST_BYTES};
 
     ghost Value = { DraftValue };
 

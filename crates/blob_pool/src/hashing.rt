@@ -3,10 +3,10 @@
 ghost use Rattle.std.specs.Prelude.{◌≡◌, ◌≤◌, ◌++◌, [], ℕ, List, length, true, false};
 ghost use Rattle.digest.specs.Naming.{Names, digest_by};
 ghost use Rattle.blob_pool.specs.Drafts.{AreDigests, AreHashing, Hashes, is_going};
-ghost use Rattle.paged_text.specs.declared.text.TheConstants.{MOST_BYTES};
+ghost use Rattle.blob_pool.specs.declared.text.TheConstants.{MOST_BYTES};
 
+use crate::text::PagedText;
 use digest::{Digest, Hash, HashFunction, Hasher};
-use paged_text::PagedText;
 use std::mem;
 
 /// The hashes of a text in course: by SHA-256, under which it will stand in a pool, and by SHA-512

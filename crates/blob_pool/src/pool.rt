@@ -2,11 +2,11 @@
 
 ghost use Rattle.std.specs.Prelude.{◌≡◌, ◌≢◌, ◌+◌, ◌<◌, ◌≤◌, ◌^◌, ◌++◌, ℕ, [], length, Some, None, IfOk, IfErr, OnOk, OnErr};
 ghost use Rattle.digest.specs.Naming.{Names};
-ghost use Rattle.paged_text.specs.Pages.{part_of};
+ghost use Rattle.blob_pool.specs.Pages.{part_of};
 ghost use Rattle.blob_pool.specs.Slots.{text_at, count_at, held_text_at, IsShared, texts_stored, bytes_stored};
 ghost use Rattle.blob_pool.specs.Alone.{bytes_alone, holders_at};
 ghost use Rattle.blob_pool.specs.Moves.{Moves, HasRoom, no_holders, one_at};
-ghost use Rattle.paged_text.specs.declared.text.TheConstants.{MOST_BYTES, PAGE_BYTES};
+ghost use Rattle.blob_pool.specs.declared.text.TheConstants.{MOST_BYTES, PAGE_BYTES};
 
 use crate::alone::bytes_alone;
 use crate::draft::Draft;

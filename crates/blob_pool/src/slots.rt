@@ -3,7 +3,7 @@
 ghost use Rattle.std.specs.Prelude.{◌≡◌, ◌+◌, ◌-◌, ◌<◌, ◌≤◌, ◌^◌, ◌↔◌, ℕ, [], length, Some, None, true, IsTrue, IfSome, IfNone, IfOk, IfErr, OnErr, slice_index_or};
 ghost use Rattle.std.specs.Option.{option_copied};
 ghost use Rattle.digest.specs.Naming.{digest_of};
-ghost use Rattle.paged_text.specs.declared.text.TheConstants.{MOST_BYTES};
+ghost use Rattle.blob_pool.specs.declared.text.TheConstants.{MOST_BYTES};
 ghost use Rattle.blob_pool.specs.Slots.{held_text_at, text_at, count_at};
 ghost use Rattle.blob_pool.specs.declared.slots.Totals.{Totals};
 ghost use Rattle.blob_pool.specs.Putting.{Puts};
@@ -13,8 +13,8 @@ ghost use Rattle.blob_pool.specs.Listed.{Listing, IsInListing, IsPool, AreTotals
 use crate::draft::Draft;
 use crate::index::Index;
 use crate::slot::Slot;
+use crate::text::PagedText;
 use digest::Digest;
-use paged_text::PagedText;
 use slab::Slab;
 
 /// How often a text is read that the pool did not have: two texts are compared in about the time in

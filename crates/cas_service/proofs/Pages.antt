@@ -3,7 +3,7 @@ use Rattle.std.proofs.Common.{◌≡◌, ℕ, ◌+◌, ◌-◌, ◌%◌, min, Li
 use Rattle.std.specs.List.{flat_map}
 use Rattle.std.proofs.lemmas.List.{append-nil, take_all, length-take}
 use Rattle.std.proofs.lemmas.List.Concat.{flat_map-append}
-use Rattle.paged_text.proofs.Parts.{part_before}
+use Rattle.blob_pool.proofs.Parts.{part_before}
 
 cut_whole : (t page : List ℕ) (most count : ℕ) → page ≡ take most t → count ≡ length t → length page ≡ count → page ≡ t
 cut_whole t page most count cut is same =

@@ -18,10 +18,9 @@ ghost use Rattle.cas_service.specs.Shown.{asked_digest, digest_as_sent, read_res
 use crate::error::CallError;
 use crate::requests::{Asked, MOST_BATCH_BYTES, read_asked, use_all};
 use crate::statuses::{ok_status, refused_status};
-use blob_pool::{Kept, Pool};
+use blob_pool::{Kept, PAGE_BYTES, Pool};
 use digest::Digest;
 use instance_view::{Seen, Sight, View};
-use paged_text::PAGE_BYTES;
 use reapi_messages::{BatchReadBlobsResponse, Message, Pieces, ReadBlobResponse};
 use rpc::Refusal;
 use std::alloc::{AllocError, Global};

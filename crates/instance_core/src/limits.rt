@@ -1,7 +1,7 @@
 //! The limits that clauses and definitions call by their names, as numbers.
 
 ghost use Rattle.std.specs.Prelude.{◌≡◌, ◌^◌};
-ghost use Rattle.blob_pool.specs.TextConstants.{MOST_BYTES, PAGE_BYTES};
+ghost use Rattle.blob_pool.specs.declared.text.TheConstants.{MOST_BYTES, PAGE_BYTES};
 ghost use Rattle.instance_view.specs.declared.view.TheConstants.{MOST_LIMIT};
 ghost use Rattle.bytestream.specs.ParseConstants.{MOST_UUID};
 ghost use Rattle.uploads.specs.declared.steps.TheConstants.{MOST_UPLOADS};

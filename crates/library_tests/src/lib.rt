@@ -1,7 +1,7 @@
 //! Tests of libraries.
 //!
 //! Texts of a pool are put in and read back, alone and by instances side by side, and trees of many
-//! shapes are walked, and such as are made once: tests of `paged_text`, `blob_pool`,
+//! shapes are walked, and such as are made once: tests of `blob_pool`,
 //! `instance_view`, `quota_evict`, `actions` and `made_trees`.
 //!
 //! Others are of `message_fields`, `http2_headers`, `http2_streams`, `grpc_sending`, `conn_core`.

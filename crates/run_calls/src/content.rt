@@ -1,7 +1,7 @@
 //! Texts that a run gave, hashed as they came.
 
 ghost use Rattle.std.specs.Prelude.{◌≡◌, ◌≤◌, ◌==◌, length};
-ghost use Rattle.blob_pool.specs.TextConstants.{MOST_BYTES};
+ghost use Rattle.blob_pool.specs.declared.text.TheConstants.{MOST_BYTES};
 ghost use Rattle.digest.specs.Naming.{hash_by};
 ghost use Rattle.run_calls.specs.Naming.{digest_like};
 

@@ -1,7 +1,7 @@
 //! Copies of tasks that are lent and of what runs give, for logs.
 
 ghost use Rattle.std.specs.Prelude.{◌≡◌, ◌≤◌, ℕ, List, length, map, IfOk};
-ghost use Rattle.blob_pool.specs.TextConstants.{MOST_BYTES};
+ghost use Rattle.blob_pool.specs.declared.text.TheConstants.{MOST_BYTES};
 ghost use Rattle.instance_view.specs.Shown.{blob_in, blobs_in};
 ghost use Rattle.execution.specs.Keeping.{kept_entry, kept_entries};
 ghost use Rattle.server_core.specs.Lent.{lent_shown};

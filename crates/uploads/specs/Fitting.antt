@@ -1,6 +1,6 @@
 -- For the code alone: no promise speaks of it.
 use Rattle.std.specs.Prelude.{ℕ, ◌+◌, ◌≤◌, List, length}
-use Rattle.blob_pool.specs.TextConstants.{MOST_BYTES}
+use Rattle.blob_pool.specs.declared.text.TheConstants.{MOST_BYTES}
 use Rattle.uploads.specs.Uploads.{KeyValue, UploadList, text_so_far}
 
 -- a piece leaves room for itself

@@ -3,7 +3,7 @@
 ghost use Rattle.std.specs.Prelude.{◌≡◌, ◌≤◌, ◌+◌, ◌↔◌, ◌⊎◌, ◌++◌, true, length, map, IsTrue, IsSome, Ok, Err, OnOk, OnErr};
 ghost use Rattle.digest.specs.Naming.{Names};
 ghost use Rattle.blob_pool.specs.Moves.{Moves};
-ghost use Rattle.blob_pool.specs.TextConstants.{MOST_BYTES};
+ghost use Rattle.blob_pool.specs.declared.text.TheConstants.{MOST_BYTES};
 ghost use Rattle.instance_view.specs.Shown.{visible_in, holders};
 ghost use Rattle.quota_evict.specs.Admission.{visible_after_admission};
 ghost use Rattle.quota_evict.specs.InPool.{IsViewInPool};

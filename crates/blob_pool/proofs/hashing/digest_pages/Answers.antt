@@ -1,6 +1,6 @@
 use Rattle.std.proofs.Common.{◌-◌, ◌%◌, ℕ, List, min, take, subst, arith}
 use Rattle.digest.specs.Hashing.{Holds}
-use Rattle.paged_text.proofs.Parts.{next_part}
+use Rattle.blob_pool.proofs.Parts.{next_part}
 use Rattle.blob_pool.proofs.Hashings.{front_more}
 use Rattle.blob_pool.proofs.hashing.digest_pages.Goals as goal
 

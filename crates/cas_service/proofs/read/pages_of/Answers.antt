@@ -1,7 +1,7 @@
 use Rattle.std.proofs.Common.{ℕ, List, ◌+◌, ◌-◌, ◌%◌, ◌++◌, min, length, drop, Bor, ap, ◌∙◌, arith}
 use Rattle.std.specs.List.{flat_map}
 use Rattle.blob_pool.specs.Slots.{text_at}
-use Rattle.paged_text.proofs.Parts.{next_part}
+use Rattle.blob_pool.proofs.Parts.{next_part}
 use Rattle.cas_service.proofs.Pages.{page_added}
 use Rattle.cas_service.proofs.read.pages_of.Goals as goal
 

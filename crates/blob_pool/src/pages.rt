@@ -1,7 +1,7 @@
 //! Pages of any size.
 
 ghost use Rattle.std.specs.Prelude.{◌≡◌, ◌+◌, ◌<◌, ◌≤◌, ◌↔◌, ◌++◌, [], length, map, IsTrue, IfOk, OnOk, OnErr};
-ghost use Rattle.paged_text.specs.Pages.{text_of_pages, ArePages, part_of, page_at, page_content};
+ghost use Rattle.blob_pool.specs.Pages.{text_of_pages, ArePages, part_of, page_at, page_content};
 
 use std::alloc::{AllocError, Global};
 use std::mem;

@@ -4,8 +4,8 @@ use Rattle.std.specs.List.{AllByRecursion, concat}
 use Rattle.std.proofs.lemmas.List.{append-nil, take_at, take-append-drop, drop_at, drop-drop, drop_all, length-take, length-drop}
 use Rattle.std.proofs.lemmas.Nat.{mod_below}
 use Rattle.std.proofs.lemmas.Bool.Decides.{nat_tests}
-use Rattle.paged_text.specs.Pages.{part_of}
-use Rattle.paged_text.specs.Parts.{parts_from}
+use Rattle.blob_pool.specs.Pages.{part_of}
+use Rattle.blob_pool.specs.Parts.{parts_from}
 
 -- a part from a place on, before what follows it
 pub part_before : (t page : List ℕ) (from count : ℕ) → page ≡ take count (drop from t) → page ++ drop (from + length page) t ≡ drop from t

@@ -2,7 +2,7 @@
 
 ghost use Rattle.std.specs.Prelude.{◌≡◌, ◌<◌, ◌≤◌, ℕ, List, length, take};
 ghost use Rattle.std.specs.List.{AllByRecursion, concat};
-ghost use Rattle.paged_text.specs.Parts.{parts_from};
+ghost use Rattle.blob_pool.specs.Parts.{parts_from};
 
 /// The parts of a text from its beginning on join to a front of it: to the whole text where they
 /// have as many bytes, and wherever there are as many parts as it has bytes, each of which may have

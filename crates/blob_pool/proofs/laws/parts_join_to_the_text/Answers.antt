@@ -1,5 +1,5 @@
-use Rattle.paged_text.proofs.Parts.{front_read, whole_read, all_read}
-use Rattle.paged_text.proofs.laws.parts_join_to_the_text.Goals as goal
+use Rattle.blob_pool.proofs.Parts.{front_read, whole_read, all_read}
+use Rattle.blob_pool.proofs.laws.parts_join_to_the_text.Goals as goal
 
 pub returns-clause-front : goal.returns-clause-front
 returns-clause-front c = front_read

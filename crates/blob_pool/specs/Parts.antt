@@ -1,6 +1,6 @@
 -- A text that is read part by part.
 use Rattle.std.specs.Prelude.{ℕ, ◌+◌, List, [], ◌∷◌, length}
-use Rattle.paged_text.specs.Pages.{part_of}
+use Rattle.blob_pool.specs.Pages.{part_of}
 
 -- parts of a text, of these numbers of bytes at most: each begins where the one before it ended
 abbrev pub parts_from : ℕ → List ℕ → ℕ → List ℕ → List (List ℕ)

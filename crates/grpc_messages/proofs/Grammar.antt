@@ -7,10 +7,10 @@ use Rattle.std.proofs.lemmas.List.{length-take-le, append-nil}
 use Rattle.std.proofs.lemmas.List.Concat.{flat_map-cons}
 use Rattle.byteorder.specs.Endian.{big_number, big_bytes}
 use Rattle.byteorder.specs.Numbers.{big_number-reads_back}
-use Rattle.wire_items.specs.Items.{behind}
-use Rattle.wire_items.specs.Grammar.{IsOneItem, Reads}
-use Rattle.wire_items.proofs.Heads.{four_of}
-use Rattle.wire_items.proofs.Divisions.{divide_partial, divide_after, division_only, division_found}
+use Rattle.http2_frames.specs.Items.{behind}
+use Rattle.http2_frames.specs.Grammar.{IsOneItem, Reads}
+use Rattle.http2_frames.proofs.Heads.{four_of}
+use Rattle.http2_frames.proofs.WireItemsDivisions.{divide_partial, divide_after, division_only, division_found}
 use Rattle.grpc_messages.specs.Wire.{Split, IsSplit, IsMessageText, IsEnd, IsUnfinished, flag_of, size_of}
 use Rattle.grpc_messages.specs.Reading.{whole_at, message_at, message_format, split}
 use Rattle.grpc_messages.specs.Writing.{framed_message}

@@ -1,9 +1,9 @@
 -- What one call of a reader says of the split of the text that it stands for.
 use Rattle.std.proofs.Common.{◌≡◌, ◌≢◌, ℕ, ◌+◌, ◌<◌, ◌≤◌, inl, inr, List, [], ◌∷◌, ◌++◌, length, drop, Option, Some, None, Result, Ok, Err, IfOk, IfErr, IfNone, IfSome, IsErrOf, OnOk, OnSome, refl, sym, ap, subst, ◌∙◌, append_assoc, arith, length-append}
 use Rattle.std.proofs.lemmas.List.{append-nil, length-drop, length-take-le}
-use Rattle.wire_items.specs.Items.{behind, rest_only, fault_only}
-use Rattle.wire_items.proofs.Divisions.{divide_partial, divide_fault, divide_whole, divide_whole_more, divide_fault_more}
-use Rattle.wire_items.proofs.Givings.{given_more, given_now, given_all, given_fault}
+use Rattle.http2_frames.specs.Items.{behind, rest_only, fault_only}
+use Rattle.http2_frames.proofs.WireItemsDivisions.{divide_partial, divide_fault, divide_whole, divide_whole_more, divide_fault_more}
+use Rattle.http2_frames.proofs.Givings.{given_more, given_now, given_all, given_fault}
 use Rattle.grpc_messages.specs.declared.error.MessagesError.{MessagesError}
 use Rattle.grpc_messages.specs.declared.error.MessagesError.TheVariants.{Compressed, TooLarge, CutOff, NoMemory}
 use Rattle.grpc_messages.specs.Wire.{Split, end_of_rest, size_of, IsUnfinished}

@@ -1,6 +1,6 @@
 -- What a reader of messages holds, and what that stands for.
 use Rattle.std.specs.Prelude.{ℕ, ◌+◌, ◌-◌, nat_lt, nat_le, ◌&&◌, if◌then◌else◌, Bool, List, [], ◌∷◌, ◌++◌, length, Option, Some, None, Result, Ok, Err}
-use Rattle.wire_items.specs.Items.{fault_only, AreItemsSoFar}
+use Rattle.http2_frames.specs.Items.{fault_only, AreItemsSoFar}
 use Rattle.grpc_messages.specs.declared.error.MessagesError.{MessagesError}
 use Rattle.grpc_messages.specs.Wire.{Split, size_of}
 use Rattle.grpc_messages.specs.Reading.{split}

@@ -1,6 +1,6 @@
 -- Dividing a text into messages from left to right.
 use Rattle.std.specs.Prelude.{ℕ, ◌+◌, nat_lt, if◌then◌else◌, List, length, take, drop, Option, Some, None, Result, Ok, Err}
-use Rattle.wire_items.specs.Items.{Format, divide}
+use Rattle.http2_frames.specs.Items.{Format, divide}
 use Rattle.grpc_messages.specs.declared.error.MessagesError.{MessagesError}
 use Rattle.grpc_messages.specs.declared.error.MessagesError.TheVariants.{Compressed, TooLarge}
 use Rattle.grpc_messages.specs.Wire.{Split, flag_of, size_of}

@@ -2,8 +2,8 @@
 -- how the data of a call divides into messages.
 use Rattle.std.specs.Prelude.{◌≡◌, ◌≢◌, ℕ, ◌+◌, ◌^◌, ◌<◌, ◌≤◌, ◌⊎◌, List, [], ◌∷◌, ◌++◌, length, drop, slice_index, Result, Ok, Err}
 use Rattle.byteorder.specs.Endian.{big_number}
-use Rattle.wire_items.specs.Items.{Division}
-use Rattle.wire_items.specs.Grammar.{IsDivision}
+use Rattle.http2_frames.specs.Items.{Division}
+use Rattle.http2_frames.specs.Grammar.{IsDivision}
 use Rattle.grpc_messages.specs.declared.error.MessagesError.{MessagesError}
 use Rattle.grpc_messages.specs.declared.error.MessagesError.TheVariants.{Compressed, TooLarge, CutOff, NoMemory}
 

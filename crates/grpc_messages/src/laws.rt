@@ -2,7 +2,7 @@
 
 ghost use Rattle.std.specs.Prelude.{◌≡◌, ◌++◌, ◌<◌, ◌≤◌, List, ℕ, Ok, Err, length};
 ghost use Rattle.std.specs.List.{AllByRecursion, flat_map};
-ghost use Rattle.wire_items.specs.Items.{behind};
+ghost use Rattle.http2_frames.specs.Items.{behind};
 ghost use Rattle.grpc_messages.specs.declared.error.MessagesError.{MessagesError};
 ghost use Rattle.grpc_messages.specs.Wire.{message_length_limit, Split, IsSplit};
 ghost use Rattle.grpc_messages.specs.Reading.{split};

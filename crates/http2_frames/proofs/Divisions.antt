@@ -4,10 +4,10 @@ use Rattle.std.proofs.Math.Seq.{drop-append_seam, take-length}
 use Rattle.std.proofs.lemmas.Bool.Decides.{eqb_tells}
 use Rattle.std.proofs.lemmas.List.{length-take-le}
 use Rattle.byteorder.specs.Endian.{big_number}
-use Rattle.wire_items.specs.Items.{rest_only, fault_only}
-use Rattle.wire_items.specs.Grammar.{IsOneItem, Reads}
-use Rattle.wire_items.proofs.Heads.{three_of, four_of}
-use Rattle.wire_items.proofs.Divisions.{division_only, division_found}
+use Rattle.http2_frames.specs.Items.{rest_only, fault_only}
+use Rattle.http2_frames.specs.Grammar.{IsOneItem, Reads}
+use Rattle.http2_frames.proofs.Heads.{three_of, four_of}
+use Rattle.http2_frames.proofs.WireItemsDivisions.{division_only, division_found}
 use Rattle.http2_frames.specs.declared.error.FrameError.{FrameError}
 use Rattle.http2_frames.specs.declared.error.FrameError.TheVariants.{Preface}
 use Rattle.http2_frames.specs.declared.frame.RawFrame.{RawFrame}

@@ -7,4 +7,6 @@ pub mod Divisions
 pub mod MoreBytes
 pub mod Again
 pub mod Padding
-pub use Rattle.wire_items.proofs.Divisions as WireItemsDivisions
+pub mod Heads
+pub mod WireItemsDivisions
+pub mod Givings

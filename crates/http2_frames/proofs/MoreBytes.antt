@@ -1,7 +1,7 @@
 -- A text that grows.
 use Rattle.std.proofs.Common.{◌≡◌, ℕ, inl, inr, List, [], ◌∷◌, ◌++◌, Result, Ok, Err, refl, sym, ap, subst, ◌∙◌, append_assoc}
-use Rattle.wire_items.specs.Items.{rest_only, fault_only}
-use Rattle.wire_items.proofs.Divisions.{Grows, grows}
+use Rattle.http2_frames.specs.Items.{rest_only, fault_only}
+use Rattle.http2_frames.proofs.WireItemsDivisions.{Grows, grows}
 use Rattle.http2_frames.specs.declared.error.FrameError.{FrameError}
 use Rattle.http2_frames.specs.declared.error.FrameError.TheVariants.{Preface}
 use Rattle.http2_frames.specs.declared.frame.RawFrame.{RawFrame}

@@ -3,7 +3,7 @@ use Rattle.std.proofs.Common.{◌≡◌, ℕ, ◌≤◌, inl, inr, Bool, true, f
 use Rattle.std.specs.List.{starts_with}
 use Rattle.std.proofs.lemmas.Bool.{cases_lt}
 use Rattle.std.proofs.lemmas.List.{drop-append-le}
-use Rattle.wire_items.specs.Items.{rest_only, fault_only}
+use Rattle.http2_frames.specs.Items.{rest_only, fault_only}
 use Rattle.http2_frames.specs.declared.error.FrameError.TheVariants.{Preface}
 use Rattle.http2_frames.specs.Reading.{split_frames, split}
 use Rattle.http2_frames.proofs.Fronts.{begins, begin, front_of}

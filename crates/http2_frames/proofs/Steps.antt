@@ -3,9 +3,9 @@ use Rattle.std.proofs.Common.{◌≡◌, ℕ, ◌+◌, ◌<◌, ◌≤◌, ◌�
 use Rattle.std.proofs.lemmas.List.{append-nil}
 use Rattle.std.specs.List.{starts_with}
 use Rattle.byteorder.specs.Endian.{big_number}
-use Rattle.wire_items.specs.Items.{behind, rest_only, fault_only}
-use Rattle.wire_items.proofs.Divisions.{divide_partial, divide_fault, divide_whole_more, divide_fault_more}
-use Rattle.wire_items.proofs.Givings.{given_more, given_all, given_fault}
+use Rattle.http2_frames.specs.Items.{behind, rest_only, fault_only}
+use Rattle.http2_frames.proofs.WireItemsDivisions.{divide_partial, divide_fault, divide_whole_more, divide_fault_more}
+use Rattle.http2_frames.proofs.Givings.{given_more, given_all, given_fault}
 use Rattle.http2_frames.specs.declared.error.FrameError.{FrameError}
 use Rattle.http2_frames.specs.declared.error.FrameError.TheVariants.{Preface}
 use Rattle.http2_frames.specs.declared.frame.RawFrame.{RawFrame}

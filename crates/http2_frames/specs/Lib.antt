@@ -6,5 +6,5 @@ pub mod Reading
 pub mod Reader
 pub mod Step
 pub mod Writing
-pub use Rattle.wire_items.specs.Items
-pub use Rattle.wire_items.specs.Grammar
+pub mod Items
+pub mod Grammar

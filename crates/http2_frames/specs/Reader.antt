@@ -1,7 +1,7 @@
 -- What a reader of frames holds, and what that stands for.
 use Rattle.std.specs.Prelude.{◌≡◌, ℕ, ◌+◌, ◌<◌, ◌≤◌, ◌^◌, List, [], ◌++◌, length, Option, Some, None, Result, Ok, Err}
 use Rattle.byteorder.specs.Endian.{big_number}
-use Rattle.wire_items.specs.Items.{fault_only, AreItemsSoFar}
+use Rattle.http2_frames.specs.Items.{fault_only, AreItemsSoFar}
 use Rattle.http2_frames.specs.declared.error.FrameError.{FrameError}
 use Rattle.http2_frames.specs.declared.frame.RawFrame.{RawFrame}
 use Rattle.http2_frames.specs.Wire.{Split, stream_limit}

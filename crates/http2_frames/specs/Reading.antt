@@ -2,7 +2,7 @@
 use Rattle.std.specs.Prelude.{ℕ, ◌+◌, ◌%◌, nat_lt, nat_eq, if◌then◌else◌, List, length, take, drop, slice_index, Option, Some, None, Result, Ok, Err}
 use Rattle.std.specs.List.{starts_with}
 use Rattle.byteorder.specs.Endian.{big_number}
-use Rattle.wire_items.specs.Items.{Format, rest_only, fault_only, divide}
+use Rattle.http2_frames.specs.Items.{Format, rest_only, fault_only, divide}
 use Rattle.http2_frames.specs.declared.error.FrameError.{FrameError}
 use Rattle.http2_frames.specs.declared.error.FrameError.TheVariants.{Preface, Size}
 use Rattle.http2_frames.specs.declared.frame.RawFrame.{RawFrame}

@@ -2,8 +2,8 @@
 -- frames.
 use Rattle.std.specs.Prelude.{◌≡◌, ◌≢◌, ℕ, ◌+◌, ◌%◌, ◌^◌, ◌<◌, ◌≤◌, ◌⊎◌, List, ◌∷◌, ◌++◌, length, Result, Ok, Err}
 use Rattle.byteorder.specs.Endian.{big_number}
-use Rattle.wire_items.specs.Items.{Division, rest_only, fault_only}
-use Rattle.wire_items.specs.Grammar.{IsDivision}
+use Rattle.http2_frames.specs.Items.{Division, rest_only, fault_only}
+use Rattle.http2_frames.specs.Grammar.{IsDivision}
 use Rattle.http2_frames.specs.declared.error.FrameError.{FrameError}
 use Rattle.http2_frames.specs.declared.error.FrameError.TheVariants.{Preface, Size}
 use Rattle.http2_frames.specs.declared.frame.RawFrame.{RawFrame}

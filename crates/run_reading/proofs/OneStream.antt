@@ -12,8 +12,8 @@ use Rattle.grpc_messages.specs.declared.error.MessagesError.{MessagesError}
 use Rattle.grpc_messages.specs.Wire.{Split}
 use Rattle.grpc_messages.specs.Reading.{message_format}
 use Rattle.grpc_messages.proofs.Fronts.{steady}
-use Rattle.wire_items.specs.Items.{divide_in}
-use Rattle.wire_items.proofs.Divisions.{grows}
+use Rattle.http2_frames.specs.Items.{divide_in}
+use Rattle.http2_frames.proofs.WireItemsDivisions.{grows}
 use Rattle.grpc_sending.proofs.Histories.{append-nil}
 use Rattle.grpc_calls.specs.declared.request.HeadFault.{HeadFault}
 use Rattle.grpc_calls.specs.Requests.{head_of}

@@ -1,4 +1,4 @@
-use Rattle.wire_items.proofs.Divisions.{grows}
+use Rattle.http2_frames.proofs.WireItemsDivisions.{grows}
 use Rattle.grpc_messages.specs.Reading.{message_format}
 use Rattle.grpc_messages.proofs.Fronts.{steady}
 use Rattle.grpc_messages.proofs.laws.more_bytes_add_messages.Goals as goal

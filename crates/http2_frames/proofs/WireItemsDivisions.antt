@@ -3,8 +3,8 @@ use Rattle.std.proofs.Common.{◌≡◌, ℕ, zero, suc, ◌+◌, ◌<◌, List,
 use Rattle.std.specs.List.{AllByRecursion}
 use Rattle.std.proofs.Math.Seq.{drop-append_seam}
 use Rattle.std.proofs.lemmas.List.{append-nil, drop-append-le, length-drop, take-append-drop}
-use Rattle.wire_items.specs.Items.{Format, Division, behind, rest_only, fault_only, divide_by, divide_in, divide, divide_left, IsSteady}
-use Rattle.wire_items.specs.Grammar.{Spells, IsDivision, Reads}
+use Rattle.http2_frames.specs.Items.{Format, Division, behind, rest_only, fault_only, divide_by, divide_in, divide, divide_left, IsSteady}
+use Rattle.http2_frames.specs.Grammar.{Spells, IsDivision, Reads}
 
 pub behind_both : {A E : Type 0} (xs ys : List A) (d : Division A E) → behind xs (behind ys d) ≡ behind (xs ++ ys) d
 behind_both {A = A} xs ys d = ap (λ (zs : List A). record { items = zs; end = d.end }) (sym (append_assoc xs ys d.items))

@@ -1,8 +1,8 @@
 -- What was given of a text, and what is left of it.
 use Rattle.std.proofs.Common.{◌≡◌, ℕ, List, [], ◌++◌, Ok, Err, sym, ap, ◌∙◌}
 use Rattle.std.proofs.lemmas.List.{append-nil}
-use Rattle.wire_items.specs.Items.{Division, behind, rest_only, fault_only, AreItemsSoFar}
-use Rattle.wire_items.proofs.Divisions.{behind_both}
+use Rattle.http2_frames.specs.Items.{Division, behind, rest_only, fault_only, AreItemsSoFar}
+use Rattle.http2_frames.proofs.WireItemsDivisions.{behind_both}
 
 module _ {A E : Type 0} (divided left : List ℕ → Division A E) (text : List ℕ) (given : List A)
     (stands : AreItemsSoFar divided left text given) where

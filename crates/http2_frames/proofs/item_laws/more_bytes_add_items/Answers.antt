@@ -1,5 +1,5 @@
-use Rattle.wire_items.proofs.Divisions.{continues, grows}
-use Rattle.wire_items.proofs.laws.more_bytes_add_items.Goals as goal
+use Rattle.http2_frames.proofs.WireItemsDivisions.{continues, grows}
+use Rattle.http2_frames.proofs.item_laws.more_bytes_add_items.Goals as goal
 
 pub returns-clause-continues : goal.returns-clause-continues
 returns-clause-continues g c = λ format text more steady. continues format steady text more

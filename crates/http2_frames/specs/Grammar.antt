@@ -1,6 +1,6 @@
 -- Items as a grammar has them: which bytes are an item, and what can stand behind the last one.
 use Rattle.std.specs.Prelude.{◌≡◌, ℕ, ◌+◌, List, [], ◌∷◌, ◌++◌, length, take, Some, None, Result, Ok, Err}
-use Rattle.wire_items.specs.Items.{Format, Division}
+use Rattle.http2_frames.specs.Items.{Format, Division}
 
 -- one item after another, and nothing else
 abbrev pub Spells : {A : Type 0} → (List ℕ → A → Type 0) → List ℕ → List A → Type 0

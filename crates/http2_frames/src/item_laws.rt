@@ -1,7 +1,7 @@
 //! What holds of every format of items, and of every text.
 
 ghost use Rattle.std.specs.Prelude.{◌≡◌, ◌++◌, ℕ, List, Err};
-ghost use Rattle.wire_items.specs.Items.{Format, behind, divide_by, divide, divide_left, IsSteady};
+ghost use Rattle.http2_frames.specs.Items.{Format, behind, divide_by, divide, divide_left, IsSteady};
 
 /// What stands at the front of a text is its first item, its rest or its fault, and behind an item
 /// the text divides as if it began there.

@@ -18,7 +18,7 @@ use Rattle.http2_frames.specs.Codes.{code_number}
 use Rattle.http2_frames.specs.Frames.{frame_of}
 use Rattle.http2_frames.specs.Writing.{IsStream, IsWritable}
 use Rattle.http2_streams.specs.HeaderBlock.{HeaderBlock, new_block, with_continuation, is_excessive}
-use Rattle.http2_streams.specs.HeaderList.{HeaderList}
+use Rattle.http2_streams.specs.declared.header_blocks.HeaderList.{HeaderList}
 use Rattle.http2_streams.specs.Decoding.{list_of_block, list_of_continuation, list_of}
 use Rattle.http2_streams.specs.Request.{is_well_formed_request}
 use Rattle.http2_streams.specs.declared.event.Event.{Event}

@@ -11,8 +11,8 @@ use Rattle.http2_frames.specs.Items.{behind}
 use Rattle.http2_frames.specs.Reading.{split}
 use Rattle.http2_frames.specs.Wire.{Split}
 use Rattle.http2_frames.specs.Reader.{FrameReaderValue, text_left, split_left, with_more_bytes, front_of, IsReader}
-use Rattle.http2_streams.specs.ConnectionFault.{ConnectionFault}
-use Rattle.http2_streams.specs.ConnectionFault.TheVariants.{Connection}
+use Rattle.http2_streams.specs.declared.fault.ConnectionFault.{ConnectionFault}
+use Rattle.http2_streams.specs.declared.fault.ConnectionFault.TheVariants.{Connection}
 use Rattle.http2_streams.specs.Decoding.{Gives}
 use Rattle.http2_streams.specs.declared.event.StreamEvent.{StreamEvent}
 use Rattle.http2_streams.specs.declared.stream.Stream.{Stream}

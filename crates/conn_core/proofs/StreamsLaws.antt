@@ -10,7 +10,7 @@ use Rattle.std.proofs.lemmas.List.Sums.{fold-append}
 use Rattle.hpack.specs.Header.{Header}
 use Rattle.http2_frames.specs.declared.frame.RawFrame.{RawFrame}
 use Rattle.http2_frames.specs.declared.frame.Frame.{Frame}
-use Rattle.http2_streams.specs.ConnectionFault.{ConnectionFault}
+use Rattle.http2_streams.specs.declared.fault.ConnectionFault.{ConnectionFault}
 use Rattle.http2_streams.specs.HeaderBlock.{HeaderBlock}
 use Rattle.http2_streams.specs.declared.event.Event.{Event}
 use Rattle.http2_streams.specs.declared.event.Event.TheVariants.{Request}

@@ -2,7 +2,7 @@
 
 ghost use Rattle.std.specs.Prelude.{◌≡◌, ◌<◌, ◌≤◌, ◌↔◌, ◌+◌, ◌^◌, ◌-◌, ℕ, List};
 ghost use Rattle.http2_frames.specs.declared.reader.TheConstants.{MAX_FRAME_SIZE};
-ghost use Rattle.http2_streams.specs.HeaderBlocksConstants.{MAX_BLOCK, MAX_CONTINUATIONS};
+ghost use Rattle.http2_streams.specs.declared.header_blocks.TheConstants.{MAX_BLOCK, MAX_CONTINUATIONS};
 ghost use Rattle.http2_streams.specs.declared.streams.TheConstants.{MAX_STREAMS, MAX_REMEMBERED};
 ghost use Rattle.http2_streams.specs.History.{Entry};
 ghost use Rattle.rpc.specs.Messages as calls;

@@ -13,10 +13,10 @@ use Rattle.http2_frames.specs.declared.frame.Frame.TheVariants.{Data, Headers, P
 use Rattle.http2_frames.specs.declared.settings.Setting.{Setting}
 use Rattle.http2_frames.specs.Frames.{frame_of, content_of, is_misaddressed, is_missized, is_overpadded}
 use Rattle.http2_frames.specs.Writing.{raw_of}
-use Rattle.http2_headers.specs.HeaderBlock.{new_block}
-use Rattle.http2_headers.specs.declared.header_blocks.HeaderList.{HeaderList}
-use Rattle.http2_headers.specs.Decoding.{list_of_block, list_of_continuation}
-use Rattle.http2_headers.specs.Request.{is_well_formed_request}
+use Rattle.http2_streams.specs.HeaderBlock.{new_block}
+use Rattle.http2_streams.specs.declared.header_blocks.HeaderList.{HeaderList}
+use Rattle.http2_streams.specs.Decoding.{list_of_block, list_of_continuation}
+use Rattle.http2_streams.specs.Request.{is_well_formed_request}
 use Rattle.http2_streams.specs.declared.event.Event.{Event}
 use Rattle.http2_streams.specs.declared.event.Event.TheVariants.{Nothing}
 use Rattle.http2_streams.specs.declared.event.StreamEvent.{StreamEvent}

@@ -13,10 +13,10 @@ use Rattle.http2_frames.specs.declared.codes.ErrorCode.TheVariants.{ProtocolErro
 use Rattle.http2_frames.specs.declared.frame.Frame.{Frame}
 use Rattle.http2_frames.specs.declared.frame.Frame.TheVariants.{Data, Headers, Priority, RstStream, Settings, PushPromise, Ping, GoAway, WindowUpdate, Continuation, Unknown}
 use Rattle.http2_frames.specs.declared.settings.Setting.{Setting}
-use Rattle.http2_headers.specs.HeaderBlock.{HeaderBlock, new_block, with_continuation, is_excessive}
-use Rattle.http2_headers.specs.declared.header_blocks.HeaderList.{HeaderList}
-use Rattle.http2_headers.specs.Decoding.{HeaderState, list_of_block, state_after_block, list_of_continuation, state_after_continuation, list_of}
-use Rattle.http2_headers.specs.Request.{is_well_formed_request}
+use Rattle.http2_streams.specs.HeaderBlock.{HeaderBlock, new_block, with_continuation, is_excessive}
+use Rattle.http2_streams.specs.declared.header_blocks.HeaderList.{HeaderList}
+use Rattle.http2_streams.specs.Decoding.{HeaderState, list_of_block, state_after_block, list_of_continuation, state_after_continuation, list_of}
+use Rattle.http2_streams.specs.Request.{is_well_formed_request}
 use Rattle.http2_streams.specs.declared.stream.Stream.{Stream}
 use Rattle.http2_streams.specs.declared.event.Event.{Event}
 use Rattle.http2_streams.specs.declared.event.Event.TheVariants.{Nothing, Request, Content, Trailers, Cancel}

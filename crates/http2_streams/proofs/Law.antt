@@ -15,12 +15,12 @@ use Rattle.http2_frames.specs.declared.frame.Frame.{Frame}
 use Rattle.http2_frames.specs.declared.frame.Frame.TheVariants.{Data, Headers, Priority, RstStream, Settings, PushPromise, Ping, GoAway, WindowUpdate, Continuation, Unknown}
 use Rattle.http2_frames.specs.declared.settings.Setting.{Setting}
 use Rattle.http2_frames.specs.Frames.{frame_of}
-use Rattle.http2_headers.specs.HeaderBlock.{HeaderBlock, new_block, with_continuation}
-use Rattle.http2_headers.specs.declared.header_blocks.HeaderList.{HeaderList}
-use Rattle.http2_headers.specs.declared.fault.ConnectionFault.{ConnectionFault}
-use Rattle.http2_headers.specs.declared.fault.ConnectionFault.TheVariants.{Connection, NoMemory}
-use Rattle.http2_headers.specs.Decoding.{list_of_block, state_after_block, list_of_continuation, state_after_continuation, Gives}
-use Rattle.http2_headers.specs.Request.{is_well_formed_request}
+use Rattle.http2_streams.specs.HeaderBlock.{HeaderBlock, new_block, with_continuation}
+use Rattle.http2_streams.specs.declared.header_blocks.HeaderList.{HeaderList}
+use Rattle.http2_streams.specs.declared.fault.ConnectionFault.{ConnectionFault}
+use Rattle.http2_streams.specs.declared.fault.ConnectionFault.TheVariants.{Connection, NoMemory}
+use Rattle.http2_streams.specs.Decoding.{list_of_block, state_after_block, list_of_continuation, state_after_continuation, Gives}
+use Rattle.http2_streams.specs.Request.{is_well_formed_request}
 use Rattle.http2_streams.specs.declared.event.Event.{Event}
 use Rattle.http2_streams.specs.declared.event.Event.TheVariants.{Nothing}
 use Rattle.http2_streams.specs.declared.event.StreamEvent.{StreamEvent}

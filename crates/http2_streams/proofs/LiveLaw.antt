@@ -9,7 +9,7 @@ use Rattle.std.proofs.lemmas.List.Folds.{list_any-append}
 use Rattle.std.proofs.lemmas.List.Sums.{fold-append}
 use Rattle.http2_frames.specs.declared.frame.Frame.{Frame}
 use Rattle.http2_frames.specs.declared.frame.Frame.TheVariants.{Data, Headers, Priority, RstStream, Settings, PushPromise, Ping, GoAway, WindowUpdate, Continuation, Unknown}
-use Rattle.http2_headers.specs.HeaderBlock.{HeaderBlock, new_block, with_continuation}
+use Rattle.http2_streams.specs.HeaderBlock.{HeaderBlock, new_block, with_continuation}
 use Rattle.http2_streams.specs.History.{Entry, Blocks, blocks_after, no_blocks, blocks_with, stream_of, frame_in, frame_out, received_frames, sent_frames, has_failed, highest_stream, live_streams, is_not_closed, opened_streams, rising_numbers, resets, data_ends, block_ends, ends}
 use Rattle.http2_streams.specs.Standing.{Standing}
 use Rattle.http2_streams.specs.StandsFor.{AreStreams}

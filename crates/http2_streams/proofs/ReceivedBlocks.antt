@@ -11,9 +11,9 @@ use Rattle.hpack.specs.Header.{Header}
 use Rattle.hpack.specs.Table.{Table, new_table}
 use Rattle.hpack.specs.Block.{step}
 use Rattle.http2_frames.specs.declared.frame.Frame.{Frame}
-use Rattle.http2_headers.specs.HeaderBlock.{HeaderBlock, is_excessive}
-use Rattle.http2_headers.specs.declared.header_blocks.HeaderList.{HeaderList}
-use Rattle.http2_headers.specs.Decoding.{list_of_block, state_after_block, list_of}
+use Rattle.http2_streams.specs.HeaderBlock.{HeaderBlock, is_excessive}
+use Rattle.http2_streams.specs.declared.header_blocks.HeaderList.{HeaderList}
+use Rattle.http2_streams.specs.Decoding.{list_of_block, state_after_block, list_of}
 use Rattle.http2_streams.specs.declared.stream.Stream.{Stream}
 use Rattle.http2_streams.specs.History.{Blocks, blocks_after, blocks_with, stream_of, rising_numbers, resets, data_ends, block_ends, size_after, increment_for, table_after_block}
 use Rattle.http2_streams.specs.Standing.{Standing}

@@ -15,7 +15,7 @@ use Rattle.http2_frames.specs.declared.frame.RawFrame.{RawFrame}
 use Rattle.http2_frames.specs.declared.frame.Frame.{Frame}
 use Rattle.http2_frames.specs.declared.frame.Frame.TheVariants.{Data, Headers, RstStream, Settings, GoAway, WindowUpdate, Continuation}
 use Rattle.http2_frames.specs.Frames.{frame_of}
-use Rattle.http2_headers.specs.HeaderBlock.{HeaderBlock, new_block, with_continuation}
+use Rattle.http2_streams.specs.HeaderBlock.{HeaderBlock, new_block, with_continuation}
 use Rattle.http2_streams.specs.declared.streams.TheConstants.{MAX_REMEMBERED}
 
 pub data Entry : Type 0 where

@@ -9,9 +9,8 @@ pub mod LiveStreams
 pub mod ControlAnswers
 pub mod Step
 pub use Rattle.http2_flow.specs.Credit
-pub use Rattle.http2_headers.specs.declared.header_blocks.TheConstants as HeaderBlocksConstants
-pub use Rattle.http2_headers.specs.declared.fault.ConnectionFault
-pub use Rattle.http2_headers.specs.Decoding
-pub use Rattle.http2_headers.specs.HeaderBlock
-pub use Rattle.http2_headers.specs.declared.header_blocks.HeaderList
-pub use Rattle.http2_headers.specs.Request
+pub mod HeaderBlock
+pub mod Decoding
+pub mod Shown
+pub mod FieldSyntax
+pub mod Request

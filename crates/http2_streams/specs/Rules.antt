@@ -18,10 +18,10 @@ use Rattle.http2_frames.specs.declared.frame.Frame.{Frame}
 use Rattle.http2_frames.specs.declared.frame.Frame.TheVariants.{Data, Headers, Priority, RstStream, Settings, PushPromise, Ping, GoAway, WindowUpdate, Continuation, Unknown}
 use Rattle.http2_frames.specs.Codes.{code_number}
 use Rattle.http2_frames.specs.Frames.{has_flag, frame_of}
-use Rattle.http2_headers.specs.HeaderBlock.{HeaderBlock, new_block}
-use Rattle.http2_headers.specs.declared.header_blocks.HeaderList.{HeaderList}
-use Rattle.http2_headers.specs.Decoding.{list_of_block, list_of_continuation}
-use Rattle.http2_headers.specs.Request.{is_well_formed_request}
+use Rattle.http2_streams.specs.HeaderBlock.{HeaderBlock, new_block}
+use Rattle.http2_streams.specs.declared.header_blocks.HeaderList.{HeaderList}
+use Rattle.http2_streams.specs.Decoding.{list_of_block, list_of_continuation}
+use Rattle.http2_streams.specs.Request.{is_well_formed_request}
 use Rattle.http2_streams.specs.declared.stream.Stream.{Stream}
 use Rattle.http2_streams.specs.declared.streams.TheConstants.{MAX_STREAMS}
 use Rattle.http2_streams.specs.declared.event.Event.{Event}

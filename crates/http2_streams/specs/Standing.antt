@@ -2,7 +2,7 @@
 use Rattle.std.specs.Prelude.{ℕ, Bool, List, map, Option}
 use Rattle.hpack.specs.Table.{Table}
 use Rattle.http2_flow.specs.Credit.{Credit}
-use Rattle.http2_headers.specs.HeaderBlock.{HeaderBlock}
+use Rattle.http2_streams.specs.HeaderBlock.{HeaderBlock}
 use Rattle.http2_streams.specs.declared.stream.Stream.{Stream}
 use Rattle.http2_streams.specs.History.{Entry, has_failed, has_begun, highest_stream, is_ended_by_client, is_ended_by_server, window, live_streams, remembered_streams, initial_window_size, connection_window, unfinished_block, table}
 

@@ -1,7 +1,7 @@
 -- What is kept of a connection stands for its history.
 use Rattle.std.specs.Prelude.{◌≡◌, ◌<◌, ℕ, false, List, sum_by, Result, Ok, Err}
-use Rattle.http2_headers.specs.declared.fault.ConnectionFault.{ConnectionFault}
-use Rattle.http2_headers.specs.declared.fault.ConnectionFault.TheVariants.{Connection, NoMemory}
+use Rattle.http2_streams.specs.declared.fault.ConnectionFault.{ConnectionFault}
+use Rattle.http2_streams.specs.declared.fault.ConnectionFault.TheVariants.{Connection, NoMemory}
 use Rattle.http2_streams.specs.History.{Entry, has_failed, highest_stream, received_frames, sent_frames, is_reset, is_ended_by_client, is_ended_by_server, increment_for, data_length_on}
 use Rattle.http2_streams.specs.Standing.{Standing, standing}
 

@@ -11,9 +11,9 @@ use Rattle.http2_frames.specs.declared.frame.RawFrame.{RawFrame}
 use Rattle.http2_frames.specs.declared.frame.Frame.{Frame}
 use Rattle.http2_frames.specs.declared.frame.Frame.TheVariants.{Data, Headers, RstStream, Settings, GoAway, WindowUpdate, Continuation}
 use Rattle.http2_frames.specs.Frames.{frame_of}
-use Rattle.http2_headers.specs.HeaderBlock.{HeaderBlock, new_block}
-use Rattle.http2_headers.specs.declared.header_blocks.HeaderList.{HeaderList}
-use Rattle.http2_headers.specs.Decoding.{HeaderState, list_of_block, state_after_block, list_of_continuation, state_after_continuation}
+use Rattle.http2_streams.specs.HeaderBlock.{HeaderBlock, new_block}
+use Rattle.http2_streams.specs.declared.header_blocks.HeaderList.{HeaderList}
+use Rattle.http2_streams.specs.Decoding.{HeaderState, list_of_block, state_after_block, list_of_continuation, state_after_continuation}
 use Rattle.http2_streams.specs.declared.stream.Side.{Side}
 use Rattle.http2_streams.specs.declared.stream.Side.TheVariants.{Client, Server}
 use Rattle.http2_streams.specs.declared.stream.Stream.{Stream}

@@ -4,7 +4,7 @@ use crate::octets::octets;
 use grpc_calls::{HeadFault, head};
 use hpack::{Decoder, HeaderField, Headers};
 use hpack_huffman::{HuffmanError, decode_into};
-use http2_headers::is_well_formed_request;
+use http2_streams::is_well_formed_request;
 use tool_programs::Output;
 
 /// The word for how decoding ended.

@@ -4,8 +4,8 @@ ghost use Rattle.std.specs.Prelude.{◌≡◌};
 ghost use Rattle.http2_streams.specs.Rules.{no_effect, event_only, reset_frame, window_update, on_ping};
 
 use crate::event::{Event, StreamEvent};
+use crate::fault::ConnectionFault;
 use http2_frames::{ErrorCode, Frame};
-use http2_headers::ConnectionFault;
 
 pub(super) const PROTOCOL_ERROR: ConnectionFault = ConnectionFault::Connection(
     ErrorCode::ProtocolError,

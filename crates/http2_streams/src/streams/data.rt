@@ -1,17 +1,17 @@
 //! DATA (RFC 9113 section 6.1).
 
 ghost use Rattle.std.specs.Prelude.{◌≡◌, IfOk, OnErr};
-ghost use Rattle.http2_headers.specs.Decoding.{Gives};
+ghost use Rattle.http2_streams.specs.Decoding.{Gives};
 ghost use Rattle.http2_streams.specs.Rules.{on_data};
 ghost use Rattle.http2_streams.specs.Step.{after_answer, after_client_end};
 
 use crate::event::{Event, StreamEvent};
+use crate::fault::ConnectionFault;
 use crate::live;
 use crate::stream::Side;
 use crate::streams::Streams;
 use crate::streams::answers::{PROTOCOL_ERROR, brings, nothing, reset_frame, update};
 use http2_frames::{ErrorCode, Octets};
-use http2_headers::ConnectionFault;
 
 impl Streams {
     #[tactic(auto, using(crate::proofs::Rising::ended_rises))]

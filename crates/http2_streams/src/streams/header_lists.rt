@@ -2,20 +2,21 @@
 
 ghost use Rattle.std.specs.Prelude.{◌≡◌, ◌<◌, ◌++◌, ◌∷◌, [], length, true, IfOk, OnErr};
 ghost use Rattle.std.specs.List.{AllByRecursion};
-ghost use Rattle.http2_headers.specs.Decoding.{Gives, list_of_block, list_of_continuation};
-ghost use Rattle.http2_headers.specs.HeaderBlock.{new_block};
+ghost use Rattle.http2_streams.specs.Decoding.{Gives, list_of_block, list_of_continuation};
+ghost use Rattle.http2_streams.specs.HeaderBlock.{new_block};
 ghost use Rattle.http2_streams.specs.declared.stream.Stream.{Stream};
 ghost use Rattle.http2_streams.specs.Rules.{is_receiving, on_header_list, on_block, on_request, on_trailers};
 ghost use Rattle.http2_streams.specs.Step.{after_answer, after_block, after_new_block, after_continuation, after_client_end, with_live, new_stream};
 
 use crate::event::{Event, StreamEvent};
+use crate::fault::ConnectionFault;
+use crate::header_blocks::HeaderList;
 use crate::live;
 use crate::stream::{Side, Stream};
 use crate::streams::answers::{PROTOCOL_ERROR, brings, nothing};
 use crate::streams::{MAX_STREAMS, Streams};
 use http2_flow::Window;
 use http2_frames::ErrorCode;
-use http2_headers::{ConnectionFault, HeaderList};
 
 impl Streams {
     pub(super) fn on_headers<'a>(
@@ -99,7 +100,7 @@ impl Streams {
         if self.live.len() >= MAX_STREAMS {
             return self.stream_error(stream, ErrorCode::RefusedStream);
         }
-        if !http2_headers::is_well_formed_request(&fields) {
+        if !crate::request::is_well_formed_request(&fields) {
             return self.stream_error(stream, ErrorCode::ProtocolError);
         }
         self.open(stream, end_stream);

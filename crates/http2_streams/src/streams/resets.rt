@@ -2,17 +2,17 @@
 
 ghost use Rattle.std.specs.Prelude.{◌≡◌, ◌≤◌, ◌++◌, ◌∷◌, [], length, IfOk, OnErr};
 ghost use Rattle.std.specs.VecDeque.{deque_len, deque_capacity};
-ghost use Rattle.http2_headers.specs.Decoding.{Gives};
+ghost use Rattle.http2_streams.specs.Decoding.{Gives};
 ghost use Rattle.http2_streams.specs.History.{last_items};
 ghost use Rattle.http2_streams.specs.Rules.{cancel_event, stream_error, is_remembered, on_reset};
 ghost use Rattle.http2_streams.specs.Step.{after_answer, after_reset, without_stream, with_live};
 
 use crate::event::{Event, StreamEvent};
+use crate::fault::ConnectionFault;
 use crate::live;
 use crate::streams::answers::{PROTOCOL_ERROR, brings, reset_frame};
 use crate::streams::{MAX_REMEMBERED, Streams};
 use http2_frames::ErrorCode;
-use http2_headers::ConnectionFault;
 use std::collections::VecDeque;
 
 impl Streams {

@@ -4,18 +4,18 @@ ghost use Rattle.std.specs.Prelude.{◌≡◌, ◌<◌, [], true, false, Some, N
 ghost use Rattle.std.specs.List.{list_any};
 ghost use Rattle.http2_flow.specs.Credit.{window_limit};
 ghost use Rattle.http2_frames.specs.declared.frame.Frame.TheVariants.{Settings};
-ghost use Rattle.http2_headers.specs.Decoding.{Gives};
+ghost use Rattle.http2_streams.specs.Decoding.{Gives};
 ghost use Rattle.http2_streams.specs.Rules.{no_effect, on_settings, is_above, setting_fault, settings_fault};
 ghost use Rattle.http2_streams.specs.Step.{after_answer, after_settings, after_resize, size_after_setting};
 
 use crate::event::StreamEvent;
+use crate::fault::ConnectionFault;
 use crate::live;
 use crate::stream::Stream;
 use crate::streams::Streams;
 use crate::streams::answers::nothing;
 use http2_flow::MAX_SIZE;
 use http2_frames::{ErrorCode, Frame, Setting, SettingsList, setting};
-use http2_headers::ConnectionFault;
 
 impl Streams {
     pub(super) fn on_settings<'a>(

@@ -1,17 +1,17 @@
 //! WINDOW_UPDATE (RFC 9113 section 6.9).
 
 ghost use Rattle.std.specs.Prelude.{◌≡◌, IfOk, OnErr, ◌==◌, if◌then◌else◌};
-ghost use Rattle.http2_headers.specs.Decoding.{Gives};
+ghost use Rattle.http2_streams.specs.Decoding.{Gives};
 ghost use Rattle.http2_streams.specs.Rules.{on_connection_update, on_stream_update};
 ghost use Rattle.http2_streams.specs.Step.{after_answer, after_window_update};
 
 use crate::event::StreamEvent;
+use crate::fault::ConnectionFault;
 use crate::live;
 use crate::streams::Streams;
 use crate::streams::answers::{PROTOCOL_ERROR, nothing};
 use http2_flow::FlowError;
 use http2_frames::ErrorCode;
-use http2_headers::ConnectionFault;
 
 impl Streams {
     #[tactic(auto, using(crate::proofs::StreamLists::none_granted, crate::proofs::StreamLists::without_granted))]

@@ -2,7 +2,7 @@
 //! by the stored scripts of `acceptance`.
 
 use http2_frames::ErrorCode;
-use http2_headers::*;
+use http2_streams::*;
 use std::test::*;
 
 /// GET, http, `/`.

@@ -2,8 +2,8 @@ use Rattle.std.proofs.Common.{refl, sym, ◌∙◌}
 use Rattle.std.specs.Prelude.{Result, Ok, Err, IfOk}
 use Rattle.std.specs.List.{AllByRecursion}
 use Rattle.http2_frames.specs.declared.frame.RawFrame.{RawFrame}
-use Rattle.http2_headers.specs.declared.fault.ConnectionFault.{ConnectionFault}
-use Rattle.http2_headers.specs.Decoding.{Gives}
+use Rattle.http2_streams.specs.declared.fault.ConnectionFault.{ConnectionFault}
+use Rattle.http2_streams.specs.Decoding.{Gives}
 use Rattle.http2_streams.specs.declared.event.StreamEvent.{StreamEvent}
 use Rattle.http2_streams.specs.Standing.{Standing}
 use Rattle.http2_streams.specs.Rules.{answer_to}

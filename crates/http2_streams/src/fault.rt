@@ -1,7 +1,7 @@
 //! What ends a connection.
 
 ghost use Rattle.std.specs.Prelude.{◌≡◌};
-ghost use Rattle.http2_headers.specs.declared.fault.ConnectionFault.TheVariants.{NoMemory};
+ghost use Rattle.http2_streams.specs.declared.fault.ConnectionFault.TheVariants.{NoMemory};
 
 use http2_frames::ErrorCode;
 use std::alloc::AllocError;

@@ -7,10 +7,10 @@ use Rattle.hpack.specs.Table.{Table, new_table}
 use Rattle.hpack.specs.Block.{step}
 use Rattle.http2_frames.specs.declared.codes.ErrorCode.{ErrorCode}
 use Rattle.http2_frames.specs.declared.codes.ErrorCode.TheVariants.{ProtocolError, CompressionError, EnhanceYourCalm}
-use Rattle.http2_headers.specs.declared.fault.ConnectionFault.{ConnectionFault}
-use Rattle.http2_headers.specs.declared.fault.ConnectionFault.TheVariants.{Connection, NoMemory}
-use Rattle.http2_headers.specs.declared.header_blocks.HeaderList.{HeaderList}
-use Rattle.http2_headers.specs.HeaderBlock.{HeaderBlock, with_continuation, is_excessive}
+use Rattle.http2_streams.specs.declared.fault.ConnectionFault.{ConnectionFault}
+use Rattle.http2_streams.specs.declared.fault.ConnectionFault.TheVariants.{Connection, NoMemory}
+use Rattle.http2_streams.specs.declared.header_blocks.HeaderList.{HeaderList}
+use Rattle.http2_streams.specs.HeaderBlock.{HeaderBlock, with_continuation, is_excessive}
 
 -- the block that is not at its end yet, and the dynamic table, or none after a refusal
 pub record HeaderState : Type 0 where

@@ -1,7 +1,7 @@
 use Rattle.std.proofs.Common.{◌≡◌}
 use Rattle.std.specs.List.{list_all}
-use Rattle.http2_headers.specs.Request.{is_lawful}
-use Rattle.http2_headers.proofs.request.has_lawful_fields.Given as goal
+use Rattle.http2_streams.specs.Request.{is_lawful}
+use Rattle.http2_streams.proofs.request.has_lawful_fields.Given as goal
 
 abbrev pub invariant-fields : goal.invariant-fields
 invariant-fields l =

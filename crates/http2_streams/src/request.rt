@@ -2,8 +2,8 @@
 
 ghost use Rattle.std.specs.Prelude.{◌≡◌, ◌<◌, ◌^◌, codes, count_by, length, take_while};
 ghost use Rattle.std.specs.List.{list_any, list_all};
-ghost use Rattle.http2_headers.specs.FieldSyntax.{is_request_field};
-ghost use Rattle.http2_headers.specs.Request.{is_lawful, is_pseudo_field, is_named, count_of_name, has_pseudo_fields_first, is_empty_path, is_well_formed_request};
+ghost use Rattle.http2_streams.specs.FieldSyntax.{is_request_field};
+ghost use Rattle.http2_streams.specs.Request.{is_lawful, is_pseudo_field, is_named, count_of_name, has_pseudo_fields_first, is_empty_path, is_well_formed_request};
 
 use crate::field_syntax::{is_request_field, names_pseudo};
 use hpack::{HeaderField, Headers};

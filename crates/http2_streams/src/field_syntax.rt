@@ -1,7 +1,7 @@
 //! Field names and values, by themselves (RFC 9113 section 8.2).
 
 ghost use Rattle.std.specs.Prelude.{◌≡◌, codes};
-ghost use Rattle.http2_headers.specs.FieldSyntax.{is_text, is_field_name_byte, is_valid_name, is_forbidden, is_blank, is_valid_value, is_pseudo, is_request_pseudo, is_connection_specific, is_allowed_te, is_request_field, is_colon};
+ghost use Rattle.http2_streams.specs.FieldSyntax.{is_text, is_field_name_byte, is_valid_name, is_forbidden, is_blank, is_valid_value, is_pseudo, is_request_pseudo, is_connection_specific, is_allowed_te, is_request_field, is_colon};
 ghost use Rattle.std.specs.List.{list_any, list_all};
 
 const COLON: u8 = b':';

@@ -1,9 +1,9 @@
 -- What values of the code stand for.
 use Rattle.std.specs.Prelude.{◌≤◌, length, Option, Some, None}
 use Rattle.hpack.specs.Table.{Table}
-use Rattle.http2_headers.specs.declared.header_blocks.Fragments.{Fragments}
-use Rattle.http2_headers.specs.HeaderBlock.{HeaderBlock}
-use Rattle.http2_headers.specs.declared.header_blocks.TheConstants.{MAX_BLOCK, MAX_CONTINUATIONS}
+use Rattle.http2_streams.specs.declared.header_blocks.Fragments.{Fragments}
+use Rattle.http2_streams.specs.HeaderBlock.{HeaderBlock}
+use Rattle.http2_streams.specs.declared.header_blocks.TheConstants.{MAX_BLOCK, MAX_CONTINUATIONS}
 
 abbrev pub block_shown : Fragments → HeaderBlock
 block_shown f = record {

@@ -1,7 +1,7 @@
 -- Header blocks (RFC 9113 section 4.3): the fragments of one HEADERS frame and the CONTINUATION
 -- frames after it.
 use Rattle.std.specs.Prelude.{ℕ, ◌+◌, ◌||◌, ◌++◌, nat_lt, Bool, List, length}
-use Rattle.http2_headers.specs.declared.header_blocks.TheConstants.{MAX_BLOCK, MAX_CONTINUATIONS}
+use Rattle.http2_streams.specs.declared.header_blocks.TheConstants.{MAX_BLOCK, MAX_CONTINUATIONS}
 
 pub record HeaderBlock : Type 0 where
   pub stream : ℕ

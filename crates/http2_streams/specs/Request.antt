@@ -2,7 +2,7 @@
 use Rattle.std.specs.Prelude.{ℕ, ◌==◌, ◌&&◌, nat_le, not, Bool, List, length, codes, count_by, take_while}
 use Rattle.std.specs.List.{list_any, list_all}
 use Rattle.hpack.specs.Header.{Header}
-use Rattle.http2_headers.specs.FieldSyntax.{is_text, is_pseudo, is_request_field}
+use Rattle.http2_streams.specs.FieldSyntax.{is_text, is_pseudo, is_request_field}
 
 abbrev pub is_lawful : Header → Bool
 is_lawful h = is_request_field h.name h.value

@@ -1,7 +1,7 @@
 use Rattle.std.proofs.Common.{◌≡◌}
 use Rattle.std.specs.List.{list_any}
-use Rattle.http2_headers.specs.Request.{is_empty_path}
-use Rattle.http2_headers.proofs.request.has_empty_path.Given as goal
+use Rattle.http2_streams.specs.Request.{is_empty_path}
+use Rattle.http2_streams.proofs.request.has_empty_path.Given as goal
 
 abbrev pub invariant-fields : goal.invariant-fields
 invariant-fields l =

@@ -1,7 +1,7 @@
 use Rattle.std.proofs.Common.{◌≡◌, ◌+◌, ◌<◌, ◌^◌, length}
 use Rattle.std.specs.Prelude.{take_while}
-use Rattle.http2_headers.specs.Request.{is_pseudo_field}
-use Rattle.http2_headers.proofs.request.count_of_leading_pseudo.Given as goal
+use Rattle.http2_streams.specs.Request.{is_pseudo_field}
+use Rattle.http2_streams.proofs.request.count_of_leading_pseudo.Given as goal
 
 abbrev pub invariant-fields : goal.invariant-fields
 invariant-fields l =

@@ -2,9 +2,9 @@
 
 ghost use Rattle.std.specs.Prelude.{◌≡◌, ◌≤◌, ◌<◌, ◌+◌, ◌++◌, length, Option, Some, None, IsSome, IfSome, OnOk, OnErr, IfOk, Ok, Err, option_map};
 ghost use Rattle.hpack.specs.Block.{step};
-ghost use Rattle.http2_headers.specs.HeaderBlock.{new_block, with_continuation, is_excessive};
-ghost use Rattle.http2_headers.specs.Shown.{block_shown, table_shown};
-ghost use Rattle.http2_headers.specs.Decoding.{new_state, failed_state, list_of_block, state_after_block, list_of_continuation, state_after_continuation, Gives, list_of};
+ghost use Rattle.http2_streams.specs.HeaderBlock.{new_block, with_continuation, is_excessive};
+ghost use Rattle.http2_streams.specs.Shown.{block_shown, table_shown};
+ghost use Rattle.http2_streams.specs.Decoding.{new_state, failed_state, list_of_block, state_after_block, list_of_continuation, state_after_continuation, Gives, list_of};
 
 use crate::fault::ConnectionFault;
 use hpack::{Decoder, Headers, HpackError};
@@ -59,8 +59,8 @@ impl Drop for HeaderBlocks {
 
 impl Model for HeaderBlocks {
     ghost use Rattle.std.specs.Prelude.{option_map};
-    ghost use Rattle.http2_headers.specs.Decoding.{HeaderState};
-    ghost use Rattle.http2_headers.specs.Shown.{block_shown, table_shown, IsBlockBounded};
+    ghost use Rattle.http2_streams.specs.Decoding.{HeaderState};
+    ghost use Rattle.http2_streams.specs.Shown.{block_shown, table_shown, IsBlockBounded};
 
     ghost Value = { HeaderState };
 

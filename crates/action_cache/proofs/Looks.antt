@@ -5,10 +5,10 @@ use Rattle.std.specs.List.{list_any}
 use Rattle.std.proofs.Math.Seq.{take-length}
 use Rattle.std.proofs.lemmas.List.{length-map, map-append, reverse-append}
 use Rattle.digest.specs.declared.Digest.{Digest}
-use Rattle.message_fields.specs.Results.{◌>>=◌}
-use Rattle.message_fields.specs.Record.{Record}
-use Rattle.message_fields.specs.declared.error.MessageError.{MessageError}
-use Rattle.message_fields.specs.Fields.{embedded_value, int32, octets, repeated_values, value_of_text}
+use Rattle.protobuf_wire.specs.Results.{◌>>=◌}
+use Rattle.protobuf_wire.specs.Record.{Record}
+use Rattle.protobuf_wire.specs.declared.error.MessageError.{MessageError}
+use Rattle.protobuf_wire.specs.Fields.{embedded_value, int32, octets, repeated_values, value_of_text}
 use Rattle.protobuf_wire.proofs.Tools.{ok_is}
 use Rattle.reapi_messages.specs.Digests.{DigestValue, digest_of}
 use Rattle.tree_messages.specs.Results.{ActionResultValue, OutputDirectoryValue, OutputFileValue, action_result_of, output_directory_of, output_file_of}
@@ -19,7 +19,7 @@ use Rattle.input_tree.proofs.Counts.{has_records, payload_left, values_few}
 use Rattle.input_tree.proofs.Counts as counts
 use Rattle.protobuf_wire.specs.declared.field.WireError.{WireError}
 use Rattle.protobuf_wire.specs.Reading.{record_at, step, count_left}
-use Rattle.message_fields.specs.Fields.{payload_in}
+use Rattle.protobuf_wire.specs.Fields.{payload_in}
 use Rattle.action_cache.specs.Lengths.{length_or_zero}
 use Rattle.action_cache.specs.LastTrees.{are_of_one_tree, last_trees}
 use Rattle.action_cache.specs.Work.{length_of, looks_named, looks_within, result_looks, sum_of, tree_length, tree_looks, trees_named}

@@ -1,15 +1,15 @@
 -- Naming the files of a tree record by record names those of the tree that the text means.
 use Rattle.std.proofs.Common.{◌≡◌, ℕ, Bool, true, false, List, [], ◌∷◌, ◌++◌, ◌&&◌, Option, Some, None, Result, Ok, Err, is_some, refl, sym, ap, ◌∙◌, if◌then◌else◌}
 use Rattle.std.specs.Prelude.{is_ok, option_map, unwrap_or}
-use Rattle.message_fields.specs.Results.{◌>>=◌}
-use Rattle.message_fields.specs.Reading.{records_of}
-use Rattle.message_fields.specs.Record.{Record}
+use Rattle.protobuf_wire.specs.Results.{◌>>=◌}
+use Rattle.protobuf_wire.specs.Reading.{records_of}
+use Rattle.protobuf_wire.specs.Record.{Record}
 use Rattle.protobuf_wire.specs.declared.field.WireError.{WireError}
-use Rattle.message_fields.specs.declared.error.MessageError.{MessageError}
-use Rattle.message_fields.specs.Answers.{of_wire}
-use Rattle.message_fields.specs.Fields.{each_of, embedded_value, payload_in, payloads, records_in, repeated_values, value_of_text}
-use Rattle.message_fields.specs.Joining.{joined_records, optional_value}
-use Rattle.message_fields.proofs.Submessages.{embedded_is_joined}
+use Rattle.protobuf_wire.specs.declared.error.MessageError.{MessageError}
+use Rattle.protobuf_wire.specs.Answers.{of_wire}
+use Rattle.protobuf_wire.specs.Fields.{each_of, embedded_value, payload_in, payloads, records_in, repeated_values, value_of_text}
+use Rattle.protobuf_wire.specs.Joining.{joined_records, optional_value}
+use Rattle.protobuf_wire.proofs.Submessages.{embedded_is_joined}
 use Rattle.digest.specs.declared.Digest.{Digest}
 use Rattle.tree_messages.specs.Directories.{DirectoryValue, FileNodeValue, DirectoryNodeValue, SymlinkNodeValue, file_node_of, directory_node_of, symlink_node_of, directory_of, tree_of}
 use Rattle.input_tree.specs.Listing.{Lookup}

@@ -1,10 +1,10 @@
 -- The files that a tree's text names, record by record. For the code alone: no public contract
 -- speaks of it.
 use Rattle.std.specs.Prelude.{ℕ, List, Option, Some, None, Result, Ok, Err, option_map}
-use Rattle.message_fields.specs.Record.{Record}
-use Rattle.message_fields.specs.Reading.{records_of}
-use Rattle.message_fields.specs.declared.error.MessageError.{MessageError}
-use Rattle.message_fields.specs.Fields.{payload_in, value_of_text}
+use Rattle.protobuf_wire.specs.Record.{Record}
+use Rattle.protobuf_wire.specs.Reading.{records_of}
+use Rattle.protobuf_wire.specs.declared.error.MessageError.{MessageError}
+use Rattle.protobuf_wire.specs.Fields.{payload_in, value_of_text}
 use Rattle.digest.specs.declared.Digest.{Digest}
 use Rattle.tree_messages.specs.Directories.{FileNodeValue, file_node_of, directory_node_of, symlink_node_of}
 use Rattle.input_tree.specs.Listing.{Lookup}

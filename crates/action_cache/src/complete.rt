@@ -5,7 +5,7 @@ ghost use Rattle.std.specs.Prelude.{◌≡◌, ◌+◌, ◌≤◌, ℕ, List, Op
 ghost use Rattle.digest.specs.declared.Digest.{Digest};
 ghost use Rattle.input_tree.specs.Listing.{Lookup};
 ghost use Rattle.input_tree.specs.Texts.{texts_of};
-ghost use Rattle.message_fields.specs.Fields.{value_of_text};
+ghost use Rattle.protobuf_wire.specs.Fields.{value_of_text};
 ghost use Rattle.tree_messages.specs.Results.{action_result_of, action_result_shown, output_directory_shown};
 ghost use Rattle.instance_view.specs.Texts.{look_of};
 ghost use Rattle.action_cache.specs.Complete.{with_each, with_output_directory};
@@ -20,7 +20,7 @@ use blob_pool::Pool;
 use digest::Digest;
 use input_tree::{digest_written, text_or_none};
 use instance_view::{Sight, Texts, Work};
-use message_fields::{Message, MessageError};
+use protobuf_wire::{Message, MessageError};
 use std::alloc::{AllocError, Global};
 use tree_messages::{ActionResult, OutputDirectory, OutputFile};
 

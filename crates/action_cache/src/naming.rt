@@ -10,7 +10,7 @@ ghost use Rattle.action_cache.specs.Naming.{Names};
 use digest::Digest;
 use input_tree::{Unread, digest_written};
 use instance_view::{Sight, Texts, Work};
-use message_fields::WireError;
+use protobuf_wire::WireError;
 use reapi_messages as messages;
 use std::alloc::{AllocError, AllocFailed, Global};
 

@@ -1,8 +1,8 @@
 //! The files of a tree, named while its text is gone over: no value is made but one node at a time.
 
 ghost use Rattle.std.specs.Prelude.{◌≡◌, ◌+◌, ◌*◌, ◌≤◌, length, option_map};
-ghost use Rattle.message_fields.specs.Shown.{record_shown};
-ghost use Rattle.message_fields.specs.Fields.{payload_in, value_of_text};
+ghost use Rattle.protobuf_wire.specs.Shown.{record_shown};
+ghost use Rattle.protobuf_wire.specs.Fields.{payload_in, value_of_text};
 ghost use Rattle.tree_messages.specs.Directories.{file_node_shown, tree_of};
 ghost use Rattle.instance_view.specs.Texts.{look_of};
 ghost use Rattle.action_cache.specs.Complete.{with_tree};
@@ -14,8 +14,7 @@ use crate::naming::{Blobs, Unnamed, name_blob};
 use digest::Digest;
 use input_tree::{Node, payload_of};
 use instance_view::Work;
-use message_fields::Field;
-use protobuf_wire::Reader;
+use protobuf_wire::{Field, Reader};
 use tree_messages::{DirectoryNode, FileNode, SymlinkNode};
 
 /// The node of a record, where that is one of the field.

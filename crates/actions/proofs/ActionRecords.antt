@@ -5,12 +5,12 @@ use Rattle.std.specs.Int.{w64, cast_signed}
 use Rattle.protobuf_wire.specs.Results.{◌>>=◌}
 use Rattle.protobuf_wire.specs.Reading.{records_of}
 use Rattle.protobuf_wire.specs.declared.field.WireError.{WireError}
-use Rattle.message_fields.specs.declared.error.MessageError.{MessageError}
-use Rattle.message_fields.specs.Record.{Record}
-use Rattle.message_fields.specs.Answers.{of_wire}
-use Rattle.message_fields.specs.Fields.{embedded_value, flag, int32, int32_of, int64, last_or, number_in, numbers, payload_in, payloads, records_in, string, value_of_text}
-use Rattle.message_fields.specs.Joining.{joined_records, optional_value}
-use Rattle.message_fields.proofs.Submessages.{embedded_is_joined}
+use Rattle.protobuf_wire.specs.declared.error.MessageError.{MessageError}
+use Rattle.protobuf_wire.specs.Record.{Record}
+use Rattle.protobuf_wire.specs.Answers.{of_wire}
+use Rattle.protobuf_wire.specs.Fields.{embedded_value, flag, int32, int32_of, int64, last_or, number_in, numbers, payload_in, payloads, records_in, string, value_of_text}
+use Rattle.protobuf_wire.specs.Joining.{joined_records, optional_value}
+use Rattle.protobuf_wire.proofs.Submessages.{embedded_is_joined}
 use Rattle.reapi_messages.specs.Digests.{DigestValue, digest_of}
 use Rattle.input_tree.specs.NodeTexts.{and_then, readable, with_all, with_left}
 use Rattle.input_tree.proofs.NodeRecords.{none_after}

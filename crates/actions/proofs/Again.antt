@@ -2,7 +2,7 @@
 use Rattle.std.proofs.Common.{◌≡◌, ◌⊎◌, inl, inr, ℕ, zero, suc, ◌+◌, nat_le, List, [], ◌∷◌, ◌++◌, Option, Some, None, Ok, Err, refl, sym, ap, subst, ◌∙◌, if◌then◌else◌}
 use Rattle.std.specs.List.{Contains, filter_map}
 use Rattle.std.proofs.lemmas.List.Elements.{Contains-push}
-use Rattle.message_fields.specs.Results.{◌>>=◌}
+use Rattle.protobuf_wire.specs.Results.{◌>>=◌}
 use Rattle.digest.specs.declared.Digest.{Digest}
 use Rattle.input_tree.specs.Listing.{Lookup}
 use Rattle.actions.specs.Nodes.{PlanKindValue, file, symlink, directory, PlanNodeValue}

@@ -1,7 +1,7 @@
 -- What is missing in a tree.
 use Rattle.std.proofs.Common.{◌≡◌, ℕ, zero, suc, ◌+◌, Bool, true, false, not, nat_le, List, [], ◌∷◌, ◌++◌, is_some, Option, Some, None, Ok, Err, refl, ◌∙◌, if◌then◌else◌}
 use Rattle.std.specs.List.{Contains}
-use Rattle.message_fields.specs.Results.{◌>>=◌}
+use Rattle.protobuf_wire.specs.Results.{◌>>=◌}
 use Rattle.digest.specs.declared.Digest.{Digest}
 use Rattle.input_tree.specs.Listing.{Lookup}
 use Rattle.actions.specs.Nodes.{PlanKindValue, file, symlink, directory, PlanNodeValue, nodes_in}

@@ -5,12 +5,12 @@ use Rattle.std.specs.Str.{is_utf8}
 use Rattle.protobuf_wire.specs.Results.{◌>>=◌}
 use Rattle.protobuf_wire.specs.Reading.{records_of}
 use Rattle.protobuf_wire.specs.declared.field.WireError.{WireError}
-use Rattle.message_fields.specs.declared.error.MessageError.{MessageError}
-use Rattle.message_fields.specs.declared.error.MessageError.TheVariants.{NotUtf8}
-use Rattle.message_fields.specs.Record.{Record}
-use Rattle.message_fields.specs.Answers.{of_wire}
-use Rattle.message_fields.specs.Fields.{each_of, last_or, payload_in, payloads, records_in, repeated_string, repeated_values, string, utf8, value_of_text}
-use Rattle.message_fields.proofs.Lists.{after, after_next, after_none, last_after, last_after_next}
+use Rattle.protobuf_wire.specs.declared.error.MessageError.{MessageError}
+use Rattle.protobuf_wire.specs.declared.error.MessageError.TheVariants.{NotUtf8}
+use Rattle.protobuf_wire.specs.Record.{Record}
+use Rattle.protobuf_wire.specs.Answers.{of_wire}
+use Rattle.protobuf_wire.specs.Fields.{each_of, last_or, payload_in, payloads, records_in, repeated_string, repeated_values, string, utf8, value_of_text}
+use Rattle.protobuf_wire.proofs.Lists.{after, after_next, after_none, last_after, last_after_next}
 use Rattle.input_tree.specs.NodeTexts.{and_then, readable, with_all, with_left}
 use Rattle.input_tree.proofs.NodeRecords.{none_after}
 use Rattle.execution_messages.specs.Actions.{CommandValue, EnvironmentVariableValue, environment_variable_of, command_of}

@@ -1,7 +1,7 @@
 -- Walking along, step by step.
 use Rattle.std.proofs.Common.{◌≡◌, ℕ, zero, suc, ◌+◌, ◌-◌, ◌<◌, List, [], ◌∷◌, ◌++◌, map, reverse, length, Result, Ok, Err, arith, refl, sym, ap, ◌∙◌}
 use Rattle.std.proofs.lemmas.List.{map-append, length-append, reverse-append, reverse-reverse}
-use Rattle.message_fields.specs.Results.{◌>>=◌}
+use Rattle.protobuf_wire.specs.Results.{◌>>=◌}
 use Rattle.input_tree.specs.Listing.{Lookup}
 use Rattle.actions.specs.declared.fault.TreeFault.{TreeFault}
 use Rattle.actions.specs.declared.fault.TreeFault.TheVariants.{Missing, BadDirectory, TooMany, TooDeep, NoMemory}

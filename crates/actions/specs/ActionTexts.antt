@@ -2,8 +2,8 @@
 use Rattle.std.specs.Prelude.{ℕ, ℤ, pos, false, List, [], Option, Some, None, nat_lt, option_map, unwrap_or}
 use Rattle.std.specs.Int.{w64, cast_signed}
 use Rattle.protobuf_wire.specs.Reading.{records_of}
-use Rattle.message_fields.specs.Record.{Record}
-use Rattle.message_fields.specs.Fields.{int32_of, number_in, payload_in}
+use Rattle.protobuf_wire.specs.Record.{Record}
+use Rattle.protobuf_wire.specs.Fields.{int32_of, number_in, payload_in}
 use Rattle.reapi_messages.specs.Digests.{DigestValue}
 use Rattle.input_tree.specs.NodeTexts.{and_then, with_left}
 use Rattle.execution_messages.specs.Actions.{ActionValue, DurationValue}

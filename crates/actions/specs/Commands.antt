@@ -1,8 +1,8 @@
 -- Which commands are taken, and what outputs they ask for (remote_execution.proto, Command).
 use Rattle.std.specs.Prelude.{ℕ, Bool, true, false, not, List, [], ◌∷◌, ◌++◌, length, map, Option, Some, None, Result, Ok, Err, nat_le, ◌==◌, ◌&&◌, if◌then◌else◌}
 use Rattle.std.specs.List.{list_all}
-use Rattle.message_fields.specs.declared.error.MessageError.{MessageError}
-use Rattle.message_fields.specs.Fields.{value_of_text}
+use Rattle.protobuf_wire.specs.declared.error.MessageError.{MessageError}
+use Rattle.protobuf_wire.specs.Fields.{value_of_text}
 use Rattle.resource_names.specs.Segments.{segments_of}
 use Rattle.input_tree.specs.Names.{is_name}
 use Rattle.execution_messages.specs.Actions.{CommandValue, EnvironmentVariableValue, command_of}

@@ -1,8 +1,8 @@
 -- Actions and commands read record by record. For the code alone: no public contract speaks of it.
 use Rattle.std.specs.Prelude.{◌≡◌, ℕ, List, [], ◌∷◌, ◌++◌, Option, Some, None, Result, Ok, Err, if◌then◌else◌}
 use Rattle.std.specs.Str.{is_utf8}
-use Rattle.message_fields.specs.Record.{Record}
-use Rattle.message_fields.specs.Fields.{payload_in, value_of_text}
+use Rattle.protobuf_wire.specs.Record.{Record}
+use Rattle.protobuf_wire.specs.Fields.{payload_in, value_of_text}
 use Rattle.input_tree.specs.NodeTexts.{and_then, readable}
 use Rattle.execution_messages.specs.Actions.{CommandValue, EnvironmentVariableValue, environment_variable_of}
 use Rattle.actions.specs.Commands.{is_command}

@@ -2,7 +2,7 @@
 -- directory first the files, then the symbolic links, then each directory with what is in it.
 use Rattle.std.specs.Prelude.{ℕ, zero, suc, ◌+◌, List, [], ◌∷◌, ◌++◌, filter, not, is_some, nat_le, Option, Some, None, Result, Ok, Err, if◌then◌else◌}
 use Rattle.std.specs.List.{filter_map}
-use Rattle.message_fields.specs.Results.{◌>>=◌}
+use Rattle.protobuf_wire.specs.Results.{◌>>=◌}
 use Rattle.digest.specs.declared.Digest.{Digest}
 use Rattle.input_tree.specs.Listing.{Lookup}
 use Rattle.actions.specs.Nodes.{PlanKindValue, file, symlink, directory, PlanNodeValue, nodes_in}

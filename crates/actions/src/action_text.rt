@@ -5,7 +5,7 @@ ghost use Rattle.std.specs.Prelude.{◌≡◌, Some, nat_lt, option_map};
 ghost use Rattle.std.specs.Int.{w64, cast_signed};
 ghost use Rattle.protobuf_wire.specs.Reading.{records_of};
 ghost use Rattle.protobuf_wire.specs.Shown.{record_shown};
-ghost use Rattle.message_fields.specs.Fields.{int32_of, number_in};
+ghost use Rattle.protobuf_wire.specs.Fields.{int32_of, number_in};
 ghost use Rattle.reapi_messages.specs.Digests.{digest_shown};
 ghost use Rattle.input_tree.specs.NodeTexts.{with_left};
 ghost use Rattle.execution_messages.specs.Actions.{action_shown, duration_shown};
@@ -14,8 +14,7 @@ ghost use Rattle.actions.specs.ActionTexts.{number_after, digest_after, digest_f
 use crate::command_text::string_after;
 use execution_messages::{Action, Duration};
 use input_tree::payload_of;
-use message_fields::{Content, Field};
-use protobuf_wire::Reader;
+use protobuf_wire::{Content, Field, Reader};
 use reapi_messages::Digest;
 
 /// The number of a record, where it is one of the field.

@@ -10,8 +10,7 @@ ghost use Rattle.actions.specs.Texts.{Takes, string_in, string_after, strings_af
 
 use execution_messages::{Command, EnvironmentVariable};
 use input_tree::payload_of;
-use message_fields::{Field, WireError};
-use protobuf_wire::Reader;
+use protobuf_wire::{Field, Reader, WireError};
 use std::alloc::{AllocFailed, Global};
 
 /// Why a text is not read to its end.

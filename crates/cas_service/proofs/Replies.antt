@@ -4,7 +4,7 @@ use Rattle.std.proofs.Math.Seq.{take-length}
 use Rattle.std.specs.Prelude.{is_some}
 use Rattle.std.specs.List.{filter}
 use Rattle.protobuf_wire.proofs.Written.{followed_by_none, followed_by_both, from_nothing}
-use Rattle.message_fields.proofs.Texts.{text_append}
+use Rattle.protobuf_wire.proofs.FieldTexts.{text_append}
 use Rattle.reapi_messages.specs.Record.{Record}
 use Rattle.reapi_messages.specs.Writing.{WriterValue, Text, followed_by, followed_by_records, records_text}
 use Rattle.reapi_messages.specs.Parts.{embedded_field, text_for}

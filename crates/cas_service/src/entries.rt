@@ -116,7 +116,7 @@ pub fn admit_head(own: &str, head: &Head<'_>) -> Result<Option<HashFunction>, Re
 
 /// The message that a payload spells. In an empty one no record is looked for: a request may have
 /// two million of them.
-#[tactic(auto, unfolding(message_fields::specs::Fields::records_in))]
+#[tactic(auto, unfolding(protobuf_wire::specs::Fields::records_in))]
 fn message_in<'a, M: Message<'a>>(alloc: Global, payload: &'a [u8]) -> Result<M, MessageError>
     ensures { Means M.shown result (value_of_text M.value_of payload.now) }
 {

@@ -18,7 +18,7 @@ use crate::error::CallError;
 use crate::requests::{Asked, read_asked, use_all};
 use digest::Digest;
 use instance_view::{CountedSight, View, Work};
-use message_fields::put_embedded;
+use protobuf_wire::put_embedded;
 use reapi_messages::Writer;
 use std::alloc::{AllocError, Global};
 

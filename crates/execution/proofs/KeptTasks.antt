@@ -2,7 +2,7 @@
 use Rattle.std.proofs.Common.{◌≡◌, ◌⊎◌, inl, inr, ℕ, is_some, unwrap_or, Bool, true, false, ◌||◌, List, [], ◌∷◌, ◌++◌, Option, Some, None, Result, Ok, Err, refl, sym, ap, subst, ◌∙◌, if◌then◌else◌}
 use Rattle.std.specs.List.{Contains, filter_map}
 use Rattle.std.specs.Map.{lookup}
-use Rattle.message_fields.specs.Results.{◌>>=◌}
+use Rattle.protobuf_wire.specs.Results.{◌>>=◌}
 use Rattle.digest.specs.declared.Digest.{Digest}
 use Rattle.digest.specs.Naming.{same_digest, is_empty_digest}
 use Rattle.digest.proofs.Same.{same_equal, same_refl}

@@ -2,7 +2,7 @@
 -- the action is not there; it is not taken; its command is there and not taken; the first fault of
 -- the walk through its inputs; the command, directories or files that are not there.
 use Rattle.std.specs.Prelude.{ℕ, Bool, List, [], ◌∷◌, Option, Some, None, is_some, unwrap_or, Result, Ok, Err, if◌then◌else◌}
-use Rattle.message_fields.specs.Results.{◌>>=◌}
+use Rattle.protobuf_wire.specs.Results.{◌>>=◌}
 use Rattle.digest.specs.declared.Digest.{Digest}
 use Rattle.instance_view.specs.Visible.{Blob, visible_text}
 use Rattle.input_tree.specs.Listing.{Lookup}

@@ -3,13 +3,13 @@ use Rattle.std.proofs.Common.{List, arith, if◌then◌else◌, map, refl, ◌++
 use Rattle.std.specs.Int.{w64, cast_unsigned}
 use Rattle.std.specs.List.{AllByRecursion}
 use Rattle.std.proofs.lemmas.Bool.{eqb-false}
-use Rattle.message_fields.specs.Record.{Record}
-use Rattle.message_fields.specs.Parts.{embedded_field, flag_field, int32_field, int64_field, repeated_field, repeated_string_field, string_field, text_for}
-use Rattle.message_fields.specs.Again.{HasField, AreReadAgain}
-use Rattle.message_fields.proofs.Places.{after, alone, before, lacks_both, lacks_bytes, lacks_each, lacks_embedded, lacks_number}
-use Rattle.message_fields.proofs.ReadAgain.{flag_again, int32_again, int64_again, repeated_string_again, string_again}
-use Rattle.message_fields.proofs.Lengths.{IsNumbered, bytes_numbered, each_numbered, embedded_numbered, first_shorter, flag_numbered, int32_numbered, int64_numbered, numbered_both, parsed_again, second_shorter}
-use Rattle.message_fields.proofs.Fitting.{embedded_fits, repeated_fits}
+use Rattle.protobuf_wire.specs.Record.{Record}
+use Rattle.protobuf_wire.specs.Parts.{embedded_field, flag_field, int32_field, int64_field, repeated_field, repeated_string_field, string_field, text_for}
+use Rattle.protobuf_wire.specs.Again.{HasField, AreReadAgain}
+use Rattle.protobuf_wire.proofs.Places.{after, alone, before, lacks_both, lacks_bytes, lacks_each, lacks_embedded, lacks_number}
+use Rattle.protobuf_wire.proofs.ReadAgain.{flag_again, int32_again, int64_again, repeated_string_again, string_again}
+use Rattle.protobuf_wire.proofs.Lengths.{IsNumbered, bytes_numbered, each_numbered, embedded_numbered, first_shorter, flag_numbered, int32_numbered, int64_numbered, numbered_both, parsed_again, second_shorter}
+use Rattle.protobuf_wire.proofs.Fitting.{embedded_fits, repeated_fits}
 use Rattle.execution_messages.specs.Actions.{DurationValue, duration_of, duration_records, FitsDuration, ActionValue, action_of, action_records, FitsAction, EnvironmentVariableValue, environment_variable_of, environment_variable_records, FitsEnvironmentVariable, CommandValue, command_of, command_records, FitsCommand}
 use Rattle.reapi_messages.specs.Digests.{digest_of, digest_records, FitsDigest}
 use Rattle.reapi_messages.proofs.DigestsAgain.{digest_again}

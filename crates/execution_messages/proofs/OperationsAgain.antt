@@ -3,13 +3,13 @@ use Rattle.std.proofs.Common.{List, arith, if◌then◌else◌, map, refl, ◌++
 use Rattle.std.specs.Int.{w64, cast_unsigned}
 use Rattle.std.specs.List.{AllByRecursion}
 use Rattle.std.proofs.lemmas.Bool.{eqb-false}
-use Rattle.message_fields.specs.Record.{Record}
-use Rattle.message_fields.specs.Parts.{embedded_field, flag_field, int32_field, repeated_field, sent_field, string_field, text_for}
-use Rattle.message_fields.specs.Again.{HasField, AreReadAgain}
-use Rattle.message_fields.proofs.Places.{after, alone, before, lacks_both, lacks_bytes, lacks_embedded, lacks_number, lacks_sent}
-use Rattle.message_fields.proofs.ReadAgain.{flag_again, int32_again, sent_again, string_again}
-use Rattle.message_fields.proofs.Lengths.{IsNumbered, bytes_numbered, each_numbered, embedded_numbered, first_shorter, flag_numbered, int32_numbered, numbered_both, parsed_again, second_shorter, sent_numbered}
-use Rattle.message_fields.proofs.Fitting.{embedded_fits, repeated_fits}
+use Rattle.protobuf_wire.specs.Record.{Record}
+use Rattle.protobuf_wire.specs.Parts.{embedded_field, flag_field, int32_field, repeated_field, sent_field, string_field, text_for}
+use Rattle.protobuf_wire.specs.Again.{HasField, AreReadAgain}
+use Rattle.protobuf_wire.proofs.Places.{after, alone, before, lacks_both, lacks_bytes, lacks_embedded, lacks_number, lacks_sent}
+use Rattle.protobuf_wire.proofs.ReadAgain.{flag_again, int32_again, sent_again, string_again}
+use Rattle.protobuf_wire.proofs.Lengths.{IsNumbered, bytes_numbered, each_numbered, embedded_numbered, first_shorter, flag_numbered, int32_numbered, numbered_both, parsed_again, second_shorter, sent_numbered}
+use Rattle.protobuf_wire.proofs.Fitting.{embedded_fits, repeated_fits}
 use Rattle.execution_messages.specs.Operations.{ExecuteOperationMetadataValue, execute_operation_metadata_of, execute_operation_metadata_records, FitsExecuteOperationMetadata, ExecuteResponseValue, execute_response_of, execute_response_records, FitsExecuteResponse, OperationValue, operation_of, operation_records, FitsOperation, ViolationValue, violation_of, violation_records, FitsViolation, PreconditionFailureValue, precondition_failure_of, precondition_failure_records, FitsPreconditionFailure}
 use Rattle.tree_messages.specs.Results.{action_result_of}
 use Rattle.reapi_messages.specs.Statuses.{any_of, any_records, FitsAny, status_of, status_records, FitsStatus}

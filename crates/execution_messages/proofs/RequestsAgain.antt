@@ -3,13 +3,13 @@ use Rattle.std.proofs.Common.{List, arith, if◌then◌else◌, refl, ◌++◌}
 use Rattle.std.specs.Int.{w64, cast_unsigned}
 use Rattle.std.specs.List.{AllByRecursion}
 use Rattle.std.proofs.lemmas.Bool.{eqb-false}
-use Rattle.message_fields.specs.Record.{Record}
-use Rattle.message_fields.specs.Parts.{embedded_field, flag_field, int32_field, string_field}
-use Rattle.message_fields.specs.Again.{HasField, AreReadAgain}
-use Rattle.message_fields.proofs.Places.{after, alone, before, lacks_both, lacks_bytes, lacks_embedded, lacks_number}
-use Rattle.message_fields.proofs.ReadAgain.{flag_again, int32_again, string_again}
-use Rattle.message_fields.proofs.Lengths.{IsNumbered, bytes_numbered, embedded_numbered, first_shorter, flag_numbered, int32_numbered, numbered_both, parsed_again, second_shorter}
-use Rattle.message_fields.proofs.Fitting.{embedded_fits}
+use Rattle.protobuf_wire.specs.Record.{Record}
+use Rattle.protobuf_wire.specs.Parts.{embedded_field, flag_field, int32_field, string_field}
+use Rattle.protobuf_wire.specs.Again.{HasField, AreReadAgain}
+use Rattle.protobuf_wire.proofs.Places.{after, alone, before, lacks_both, lacks_bytes, lacks_embedded, lacks_number}
+use Rattle.protobuf_wire.proofs.ReadAgain.{flag_again, int32_again, string_again}
+use Rattle.protobuf_wire.proofs.Lengths.{IsNumbered, bytes_numbered, embedded_numbered, first_shorter, flag_numbered, int32_numbered, numbered_both, parsed_again, second_shorter}
+use Rattle.protobuf_wire.proofs.Fitting.{embedded_fits}
 use Rattle.execution_messages.specs.Requests.{ExecuteRequestValue, execute_request_of, execute_request_records, FitsExecuteRequest, WaitExecutionRequestValue, wait_execution_request_of, wait_execution_request_records, FitsWaitExecutionRequest}
 use Rattle.reapi_messages.specs.Digests.{digest_of, digest_records, FitsDigest}
 use Rattle.reapi_messages.proofs.DigestsAgain.{digest_again}

@@ -3,11 +3,11 @@ use Rattle.std.specs.Prelude.{Bool, FitsSigned, IfSome, List, Ok, Option, Result
 use Rattle.std.specs.Str.{is_utf8}
 use Rattle.std.specs.Int.{w32, w64}
 use Rattle.std.specs.List.{AllByRecursion}
-use Rattle.message_fields.specs.declared.error.MessageError.{MessageError}
-use Rattle.message_fields.specs.Results.{◌>>=◌}
-use Rattle.message_fields.specs.Record.{Record}
-use Rattle.message_fields.specs.Fields.{embedded_value, flag, int32, int64, repeated_string, repeated_values, string}
-use Rattle.message_fields.specs.Parts.{embedded_field, flag_field, int32_field, int64_field, repeated_field, repeated_string_field, string_field}
+use Rattle.protobuf_wire.specs.declared.error.MessageError.{MessageError}
+use Rattle.protobuf_wire.specs.Results.{◌>>=◌}
+use Rattle.protobuf_wire.specs.Record.{Record}
+use Rattle.protobuf_wire.specs.Fields.{embedded_value, flag, int32, int64, repeated_string, repeated_values, string}
+use Rattle.protobuf_wire.specs.Parts.{embedded_field, flag_field, int32_field, int64_field, repeated_field, repeated_string_field, string_field}
 use Rattle.execution_messages.specs.declared.actions.Duration.{Duration}
 use Rattle.execution_messages.specs.declared.actions.Action.{Action}
 use Rattle.execution_messages.specs.declared.actions.EnvironmentVariable.{EnvironmentVariable}

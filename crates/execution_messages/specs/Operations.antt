@@ -3,11 +3,11 @@ use Rattle.std.specs.Prelude.{Bool, FitsSigned, IfSome, IsOk, List, Ok, Option, 
 use Rattle.std.specs.Str.{is_utf8}
 use Rattle.std.specs.Int.{w32}
 use Rattle.std.specs.List.{AllByRecursion}
-use Rattle.message_fields.specs.declared.error.MessageError.{MessageError}
-use Rattle.message_fields.specs.Results.{◌>>=◌}
-use Rattle.message_fields.specs.Record.{Record}
-use Rattle.message_fields.specs.Fields.{embedded_value, flag, int32, repeated_values, sent_bytes, string, value_of_text}
-use Rattle.message_fields.specs.Parts.{embedded_field, flag_field, int32_field, repeated_field, sent_field, string_field}
+use Rattle.protobuf_wire.specs.declared.error.MessageError.{MessageError}
+use Rattle.protobuf_wire.specs.Results.{◌>>=◌}
+use Rattle.protobuf_wire.specs.Record.{Record}
+use Rattle.protobuf_wire.specs.Fields.{embedded_value, flag, int32, repeated_values, sent_bytes, string, value_of_text}
+use Rattle.protobuf_wire.specs.Parts.{embedded_field, flag_field, int32_field, repeated_field, sent_field, string_field}
 use Rattle.execution_messages.specs.declared.operations.ExecuteOperationMetadata.{ExecuteOperationMetadata}
 use Rattle.execution_messages.specs.declared.operations.ExecuteResponse.{ExecuteResponse}
 use Rattle.execution_messages.specs.declared.operations.Operation.{Operation}

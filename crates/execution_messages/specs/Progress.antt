@@ -2,7 +2,7 @@
 -- executing, and it is completed, with a response (remote_execution.proto, ExecutionStage).
 use Rattle.std.specs.Prelude.{ℕ, ℤ, pos, true, false, List, ◌++◌, Option, Bool, Some, None, option_map, codes}
 use Rattle.std.specs.Fmt.{decimal}
-use Rattle.message_fields.specs.Parts.{text_for}
+use Rattle.protobuf_wire.specs.Parts.{text_for}
 use Rattle.digest.specs.declared.Digest.{Digest}
 use Rattle.reapi_messages.specs.Digests.{DigestValue}
 use Rattle.reapi_messages.specs.Statuses.{AnyValue, StatusValue}

@@ -2,11 +2,11 @@
 use Rattle.std.specs.Prelude.{Bool, FitsSigned, IfSome, List, Ok, Option, Result, option_map, true, ℕ, ℤ, ◌++◌, ◌≡◌}
 use Rattle.std.specs.Str.{is_utf8}
 use Rattle.std.specs.Int.{w32}
-use Rattle.message_fields.specs.declared.error.MessageError.{MessageError}
-use Rattle.message_fields.specs.Results.{◌>>=◌}
-use Rattle.message_fields.specs.Record.{Record}
-use Rattle.message_fields.specs.Fields.{embedded_value, flag, int32, string}
-use Rattle.message_fields.specs.Parts.{embedded_field, flag_field, int32_field, string_field}
+use Rattle.protobuf_wire.specs.declared.error.MessageError.{MessageError}
+use Rattle.protobuf_wire.specs.Results.{◌>>=◌}
+use Rattle.protobuf_wire.specs.Record.{Record}
+use Rattle.protobuf_wire.specs.Fields.{embedded_value, flag, int32, string}
+use Rattle.protobuf_wire.specs.Parts.{embedded_field, flag_field, int32_field, string_field}
 use Rattle.execution_messages.specs.declared.requests.ExecuteRequest.{ExecuteRequest}
 use Rattle.execution_messages.specs.declared.requests.WaitExecutionRequest.{WaitExecutionRequest}
 use Rattle.reapi_messages.specs.Digests.{DigestValue, FitsDigest, digest_shown, digest_of, digest_records}

@@ -2,7 +2,7 @@
 
 ghost use Rattle.std.specs.Prelude.{◌≡◌};
 
-use message_fields::{
+use protobuf_wire::{
     Field, Message, MessageError, Writer, embedded, flag, int32, int64, put_embedded, put_flag,
     put_int32, put_int64, put_repeated, put_repeated_string, put_string, repeated, repeated_string,
     string,

@@ -1,7 +1,7 @@
 //! What reading and writing messages have to do with each other: a message that is written means
 //! what it was written for.
 
-ghost use Rattle.message_fields.specs.Again.{AreReadAgain};
+ghost use Rattle.protobuf_wire.specs.Again.{AreReadAgain};
 ghost use Rattle.execution_messages.specs.Actions.{FitsDuration, FitsAction, FitsCommand, duration_of, duration_records, action_of, action_records, command_of, command_records};
 ghost use Rattle.execution_messages.specs.Operations.{FitsExecuteOperationMetadata, FitsExecuteResponse, FitsOperation, FitsPreconditionFailure, execute_operation_metadata_of, execute_operation_metadata_records, execute_response_of, execute_response_records, operation_of, operation_records, precondition_failure_of, precondition_failure_records};
 ghost use Rattle.execution_messages.specs.Requests.{FitsExecuteRequest, FitsWaitExecutionRequest, execute_request_of, execute_request_records, wait_execution_request_of, wait_execution_request_records};

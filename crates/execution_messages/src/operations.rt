@@ -2,7 +2,7 @@
 
 ghost use Rattle.std.specs.Prelude.{◌≡◌};
 
-use message_fields::{
+use protobuf_wire::{
     Field, Message, MessageError, Writer, embedded, flag, int32, put_embedded, put_flag, put_int32,
     put_repeated, put_sent, put_string, repeated, sent, string,
 };

@@ -12,7 +12,7 @@ use crate::written::{WrittenDigest, write_digest};
 use crate::{ExecuteOperationMetadata, ExecuteResponse, Operation};
 use digest::Digest;
 use keyed_maps::MapKey;
-use message_fields::Message;
+use protobuf_wire::Message;
 use reapi_messages::Any;
 use std::alloc::{AllocError, Global};
 

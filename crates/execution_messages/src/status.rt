@@ -4,7 +4,7 @@ ghost use Rattle.std.specs.Prelude.{◌≡◌, IfOk, OnOk, map, string_bytes};
 ghost use Rattle.std.specs.Fmt as fmt;
 ghost use Rattle.execution_messages.specs.Statuses.{with_distinct, distinct, subject_of, failure_text, details_of, violation_of, status_with, status_of};
 ghost use Rattle.execution_messages.specs.Operations.{violation_shown, execute_response_records};
-ghost use Rattle.message_fields.specs.Parts.{text_for};
+ghost use Rattle.protobuf_wire.specs.Parts.{text_for};
 ghost use Rattle.execution_messages.specs.Progress.{failed_with};
 ghost use Rattle.reapi_messages.specs.Statuses.{any_shown};
 
@@ -12,7 +12,7 @@ use crate::fault::Fault;
 use crate::{ExecuteResponse, PreconditionFailure, Violation};
 use digest::Digest;
 use keyed_maps::{KeyedSet, MapKey};
-use message_fields::Message;
+use protobuf_wire::Message;
 use reapi_messages::{Any, Status};
 use std::alloc::{AllocError, Global};
 

@@ -2,13 +2,13 @@
 use Rattle.std.proofs.Common.{◌≡◌, ℕ, zero, suc, ◌+◌, ◌≤◌, Bool, true, false, eqb, List, [], ◌∷◌, ◌++◌, length, Option, Some, None, Result, Ok, Err, refl, sym, ap, subst, ◌∙◌, arith, if◌then◌else◌}
 use Rattle.std.specs.List.{filter_map}
 use Rattle.std.proofs.lemmas.List.{length-append}
-use Rattle.message_fields.specs.Results.{◌>>=◌}
-use Rattle.message_fields.specs.Record.{Value, Number, Eight, Payload, Four, Record}
-use Rattle.message_fields.specs.Spelling.{IsContent}
-use Rattle.message_fields.specs.Reading.{record_at, items_in, records_of, answer_of, step, count_left}
-use Rattle.message_fields.specs.Answers.{of_wire}
-use Rattle.message_fields.specs.Fields.{each_of, payload_in, payload_value, payloads, records_in, repeated_values, value_of_text}
-use Rattle.message_fields.specs.declared.error.MessageError.{MessageError}
+use Rattle.protobuf_wire.specs.Results.{◌>>=◌}
+use Rattle.protobuf_wire.specs.Record.{Value, Number, Eight, Payload, Four, Record}
+use Rattle.protobuf_wire.specs.Spelling.{IsContent}
+use Rattle.protobuf_wire.specs.Reading.{record_at, items_in, records_of, answer_of, step, count_left}
+use Rattle.protobuf_wire.specs.Answers.{of_wire}
+use Rattle.protobuf_wire.specs.Fields.{each_of, payload_in, payload_value, payloads, records_in, repeated_values, value_of_text}
+use Rattle.protobuf_wire.specs.declared.error.MessageError.{MessageError}
 use Rattle.protobuf_wire.specs.declared.field.WireError.{WireError}
 use Rattle.protobuf_wire.proofs.Tools.{bind_ok, ok_is}
 use Rattle.protobuf_wire.proofs.Records.{record_takes}

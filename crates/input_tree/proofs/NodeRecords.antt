@@ -6,14 +6,14 @@ use Rattle.std.specs.Int.{w64, cast_signed}
 use Rattle.protobuf_wire.specs.Results.{◌>>=◌}
 use Rattle.protobuf_wire.specs.Reading.{records_of}
 use Rattle.protobuf_wire.specs.declared.field.WireError.{WireError}
-use Rattle.message_fields.specs.declared.error.MessageError.{MessageError}
-use Rattle.message_fields.specs.declared.error.MessageError.TheVariants.{NotUtf8}
-use Rattle.message_fields.specs.Record.{Record}
-use Rattle.message_fields.specs.Answers.{of_wire}
-use Rattle.message_fields.specs.Fields.{each_of, embedded_value, int64, last_or, number_in, numbers, payload_in, payloads, records_in, repeated_string, string, value_of_text}
-use Rattle.message_fields.specs.Joining.{joined_records, optional_value}
-use Rattle.message_fields.proofs.Lists.{last_after, last_after_next}
-use Rattle.message_fields.proofs.Submessages.{embedded_is_joined}
+use Rattle.protobuf_wire.specs.declared.error.MessageError.{MessageError}
+use Rattle.protobuf_wire.specs.declared.error.MessageError.TheVariants.{NotUtf8}
+use Rattle.protobuf_wire.specs.Record.{Record}
+use Rattle.protobuf_wire.specs.Answers.{of_wire}
+use Rattle.protobuf_wire.specs.Fields.{each_of, embedded_value, int64, last_or, number_in, numbers, payload_in, payloads, records_in, repeated_string, string, value_of_text}
+use Rattle.protobuf_wire.specs.Joining.{joined_records, optional_value}
+use Rattle.protobuf_wire.proofs.Lists.{last_after, last_after_next}
+use Rattle.protobuf_wire.proofs.Submessages.{embedded_is_joined}
 use Rattle.reapi_messages.specs.Digests.{DigestValue, digest_of}
 use Rattle.tree_messages.specs.Directories.{FileNodeValue, DirectoryNodeValue, SymlinkNodeValue, file_node_of, directory_node_of, symlink_node_of}
 use Rattle.input_tree.specs.NodeTexts.{and_then, readable, with_all, with_left, string_after, number_after, digest_after, no_digest, digest_text_after, embedded_after, file_after, no_file, child_after, no_child, symlink_after, no_symlink}

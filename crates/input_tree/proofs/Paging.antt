@@ -3,10 +3,10 @@ use Rattle.std.proofs.Common.{◌≡◌, ℕ, ◌+◌, ◌-◌, ◌<◌, map, ta
 use Rattle.std.specs.Prelude.{unwrap_or}
 use Rattle.std.proofs.Math.Seq.{take-length}
 use Rattle.std.proofs.lemmas.List.{length-append}
-use Rattle.message_fields.specs.Record.{Record}
-use Rattle.message_fields.specs.Writing.{records_text}
-use Rattle.message_fields.specs.Parts.{repeated_octets_field}
-use Rattle.message_fields.proofs.Texts.{text_append}
+use Rattle.protobuf_wire.specs.Record.{Record}
+use Rattle.protobuf_wire.specs.Writing.{records_text}
+use Rattle.protobuf_wire.specs.Parts.{repeated_octets_field}
+use Rattle.protobuf_wire.proofs.FieldTexts.{text_append}
 use Rattle.input_tree.specs.Pages.{page_before, page_bytes, page_from, pages_along, takes}
 
 records_last : (page : List (List ℕ)) (t : List ℕ) →

@@ -5,10 +5,10 @@ use Rattle.std.specs.List.{list_all}
 use Rattle.protobuf_wire.specs.Results.{◌>>=◌}
 use Rattle.protobuf_wire.specs.Reading.{records_of}
 use Rattle.protobuf_wire.specs.declared.field.WireError.{WireError}
-use Rattle.message_fields.specs.declared.error.MessageError.{MessageError}
-use Rattle.message_fields.specs.Record.{Record}
-use Rattle.message_fields.specs.Answers.{of_wire}
-use Rattle.message_fields.specs.Fields.{each_of, payload_in, payloads, records_in, repeated_values, value_of_text}
+use Rattle.protobuf_wire.specs.declared.error.MessageError.{MessageError}
+use Rattle.protobuf_wire.specs.Record.{Record}
+use Rattle.protobuf_wire.specs.Answers.{of_wire}
+use Rattle.protobuf_wire.specs.Fields.{each_of, payload_in, payloads, records_in, repeated_values, value_of_text}
 use Rattle.tree_messages.specs.Directories.{DirectoryValue, FileNodeValue, DirectoryNodeValue, SymlinkNodeValue, file_node_of, directory_node_of, symlink_node_of, directory_of}
 use Rattle.input_tree.specs.Directories.{is_file, is_child, is_symlink, has_order, valid_directory}
 use Rattle.input_tree.specs.NodeTexts.{and_then}

@@ -1,8 +1,8 @@
 -- Which directories are taken for input trees (remote_execution.proto, Directory).
 use Rattle.std.specs.Prelude.{ℕ, Bool, List, map, Option, Some, None, Result, Ok, Err, is_some, nat_le, length, ◌&&◌, option_map, if◌then◌else◌}
 use Rattle.std.specs.List.{list_all, filter_map}
-use Rattle.message_fields.specs.declared.error.MessageError.{MessageError}
-use Rattle.message_fields.specs.Fields.{value_of_text}
+use Rattle.protobuf_wire.specs.declared.error.MessageError.{MessageError}
+use Rattle.protobuf_wire.specs.Fields.{value_of_text}
 use Rattle.digest.specs.declared.Digest.{Digest}
 use Rattle.digest.specs.Text.{digest_in}
 use Rattle.reapi_messages.specs.Digests.{DigestValue}

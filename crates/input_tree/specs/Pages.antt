@@ -1,9 +1,9 @@
 -- The pages of a tree's list, each a response of GetTree (remote_execution.proto, GetTreeResponse).
 use Rattle.std.specs.Prelude.{ℕ, ℤ, pos, negsuc, ◌+◌, Bool, List, [], ◌∷◌, ◌++◌, map, length, drop, Option, Some, None, Result, Ok, Err, nat_le, nat_lt, unwrap_or, ◌==◌, ◌&&◌, ◌||◌, if◌then◌else◌}
 use Rattle.std.specs.Fmt.{decimal}
-use Rattle.message_fields.specs.Results.{◌>>=◌}
-use Rattle.message_fields.specs.Writing.{records_text}
-use Rattle.message_fields.specs.Parts.{text_for, repeated_octets_field}
+use Rattle.protobuf_wire.specs.Results.{◌>>=◌}
+use Rattle.protobuf_wire.specs.Writing.{records_text}
+use Rattle.protobuf_wire.specs.Parts.{text_for, repeated_octets_field}
 use Rattle.digest.specs.declared.Digest.{Digest}
 use Rattle.decimals.specs.Number.{decimal_of}
 use Rattle.tree_messages.specs.GetTree.{GetTreeResponseValue, get_tree_response_records}

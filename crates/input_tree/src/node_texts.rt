@@ -4,14 +4,13 @@ ghost use Rattle.std.specs.Prelude.{◌≡◌, nat_lt, option_map};
 ghost use Rattle.std.specs.Int.{w64, cast_signed};
 ghost use Rattle.protobuf_wire.specs.Reading.{records_of};
 ghost use Rattle.protobuf_wire.specs.Shown.{record_shown};
-ghost use Rattle.message_fields.specs.Fields.{number_in, value_of_text};
+ghost use Rattle.protobuf_wire.specs.Fields.{number_in, value_of_text};
 ghost use Rattle.reapi_messages.specs.Digests.{digest_shown};
 ghost use Rattle.tree_messages.specs.Directories.{file_node_shown, directory_node_shown, symlink_node_shown, file_node_of, directory_node_of, symlink_node_of};
 ghost use Rattle.input_tree.specs.NodeTexts.{Reads, readable, with_left, string_in, string_after, number_after, digest_after, embedded_after, file_after, child_after, symlink_after};
 
 use crate::taking::payload_of;
-use message_fields::{Content, Field, WireError};
-use protobuf_wire::Reader;
+use protobuf_wire::{Content, Field, Reader, WireError};
 use reapi_messages::Digest;
 use tree_messages::{DirectoryNode, FileNode, SymlinkNode};
 

@@ -2,9 +2,9 @@
 
 ghost use Rattle.std.specs.Prelude.{◌≡◌, Bool, ℕ, List, Result, option_map};
 ghost use Rattle.std.specs.List.{list_all};
-ghost use Rattle.message_fields.specs.declared.error.MessageError.{MessageError};
-ghost use Rattle.message_fields.specs.Record.{Record};
-ghost use Rattle.message_fields.specs.Fields.{value_of_text};
+ghost use Rattle.protobuf_wire.specs.declared.error.MessageError.{MessageError};
+ghost use Rattle.protobuf_wire.specs.Record.{Record};
+ghost use Rattle.protobuf_wire.specs.Fields.{value_of_text};
 ghost use Rattle.reapi_messages.specs.Digests.{digest_shown};
 ghost use Rattle.input_tree.specs.Directories.{written_digest};
 ghost use Rattle.input_tree.specs.Names as names;

@@ -2,7 +2,7 @@
 
 ghost use Rattle.std.specs.Prelude.{◌≡◌, ◌+◌, ◌<◌, ◌≤◌, ◌^◌, [], map, length, ◌++◌, Some, None, IfOk, OnOk, if◌then◌else◌};
 ghost use Rattle.std.specs.Fmt as fmt;
-ghost use Rattle.message_fields.specs.Writing.{records_text, message_field};
+ghost use Rattle.protobuf_wire.specs.Writing.{records_text, message_field};
 ghost use Rattle.input_tree.specs.Pages.{page_before, page_bytes, page_from, page_text, pages_along, place_asked, size_asked, takes_more, texts};
 ghost use Rattle.input_tree.specs.Work.{texts_length};
 ghost use Rattle.instance_view.specs.Texts.{look_of};
@@ -11,7 +11,7 @@ use crate::directory::text_or_none;
 use decimals::decimal;
 use digest::Digest;
 use instance_view::{Sight, Texts, Work};
-use message_fields::{Message, Writer};
+use protobuf_wire::{Message, Writer};
 use std::alloc::{AllocError, Global};
 use tree_messages::GetTreeResponse;
 

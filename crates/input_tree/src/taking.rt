@@ -4,7 +4,7 @@ ghost use Rattle.std.specs.Prelude.{◌≡◌, Some, map, option_map, IfOk};
 ghost use Rattle.std.specs.Option.{option_copied};
 ghost use Rattle.protobuf_wire.specs.Reading.{records_of};
 ghost use Rattle.protobuf_wire.specs.Shown.{record_shown};
-ghost use Rattle.message_fields.specs.Fields.{payload_in};
+ghost use Rattle.protobuf_wire.specs.Fields.{payload_in};
 ghost use Rattle.tree_messages.specs.Directories.{directory_shown};
 ghost use Rattle.input_tree.specs.declared.taking.Untaken.TheVariants.{Bad, NoMemory};
 ghost use Rattle.input_tree.specs.Directories.{directory_in};
@@ -12,8 +12,7 @@ ghost use Rattle.input_tree.specs.Taking.{Takes, node_in, with_record, with_node
 
 use crate::directory::{MOST_DIRECTORY_BYTES, has_order};
 use crate::nodes::Node;
-use message_fields::{Content, Field, WireError};
-use protobuf_wire::Reader;
+use protobuf_wire::{Content, Field, Reader, WireError};
 use std::alloc::{AllocError, AllocFailed, Global};
 use tree_messages::Directory;
 

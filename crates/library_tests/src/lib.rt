@@ -4,7 +4,7 @@
 //! shapes are walked, and such as are made once: tests of `blob_pool`,
 //! `instance_view`, `quota_evict`, `actions` and `made_trees`.
 //!
-//! Others are of `message_fields`, `http2_streams`, `grpc_sending`, `conn_core`.
+//! Others are of `protobuf_wire`, `http2_streams`, `grpc_sending`, `conn_core`.
 //! More are vectors of the program `vectors` and scripts of `acceptance`.
 #![tactic(auto)]
 

@@ -10,7 +10,7 @@ use blob_pool::Pool;
 use digest::Digest;
 use instance_view::{Sight, View};
 use keyed_maps::MapKey;
-use message_fields::Message;
+use protobuf_wire::Message;
 use reapi_messages as messages;
 use std::alloc::{AllocError, Global};
 use tree_messages::{Directory, DirectoryNode, FileNode, SymlinkNode};

@@ -4,7 +4,7 @@ use Rattle.std.specs.List.{flat_map, list_all}
 use Rattle.digest.specs.declared.Digest.{Digest}
 use Rattle.input_tree.specs.Directories.{is_directory}
 use Rattle.instance_view.specs.Visible.{Blob}
-use Rattle.message_fields.specs.Parts.{text_for}
+use Rattle.protobuf_wire.specs.Parts.{text_for}
 use Rattle.tree_messages.specs.Directories.{DirectoryValue, tree_records}
 use Rattle.tree_messages.specs.Results.{OutputDirectoryValue, OutputFileValue, action_result_records}
 use Rattle.actions.specs.Commands.{AskedOutput}

@@ -5,7 +5,7 @@ use Rattle.std.specs.List.{AllByRecursion}
 use Rattle.std.specs.Map.{lookup}
 use Rattle.digest.specs.declared.Digest.{Digest}
 use Rattle.digest.specs.Naming.{same_digest}
-use Rattle.message_fields.specs.Results.{◌>>=◌}
+use Rattle.protobuf_wire.specs.Results.{◌>>=◌}
 use Rattle.instance_view.specs.Visible.{Blob, blobs_length}
 use Rattle.input_tree.specs.Listing.{Lookup}
 use Rattle.action_cache.specs.Answering.{blobs_for, blobs_used}

@@ -2,11 +2,11 @@
 use Rattle.std.proofs.Common.{◌≡◌, ℕ, ◌+◌, ◌*◌, ◌^◌, ◌<◌, ◌≤◌, Bool, true, false, cond, eqb, List, [], ◌∷◌, ◌++◌, length, ap, arith}
 use Rattle.std.proofs.lemmas.List.{length-append}
 use Rattle.std.proofs.lemmas.List.Concat.{flat_map-cons}
-use Rattle.message_fields.specs.Record.{Number, Payload, Record}
-use Rattle.message_fields.specs.Writing.{varint, record_text, records_text, number_field, bytes_field, message_field}
-use Rattle.message_fields.specs.Parts.{each_field, flag_field}
-use Rattle.message_fields.proofs.Groups.{groups_few, groups_small}
-use Rattle.message_fields.proofs.ProtobufWireTexts.{varint_is}
+use Rattle.protobuf_wire.specs.Record.{Number, Payload, Record}
+use Rattle.protobuf_wire.specs.Writing.{varint, record_text, records_text, number_field, bytes_field, message_field}
+use Rattle.protobuf_wire.specs.Parts.{each_field, flag_field}
+use Rattle.protobuf_wire.proofs.Groups.{groups_few, groups_small}
+use Rattle.protobuf_wire.proofs.Texts.{varint_is}
 use Rattle.tree_calls.proofs.Sizes.{both_written}
 
 small : (n : ℕ) → n < 128 → length (varint n) ≡ 1

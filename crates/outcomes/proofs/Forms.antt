@@ -8,10 +8,10 @@ use Rattle.digest.specs.declared.Hash.TheVariants.{Sha256, Sha512}
 use Rattle.digest.specs.declared.HashFunction.{HashFunction}
 use Rattle.digest.specs.Text.{bytes_in, digest_in, hash_in, with_hash}
 use Rattle.digest.proofs.Writings.{is_written}
-use Rattle.message_fields.specs.declared.error.MessageError.{MessageError}
-use Rattle.message_fields.specs.Record.{Record}
-use Rattle.message_fields.specs.Fields.{each_of, embedded_value, flag, int32, int64, joined_value, last_or, numbers, payloads, records_in, repeated_values, string, value_of_text}
-use Rattle.message_fields.proofs.Tools.{bind_ok, ok_is}
+use Rattle.protobuf_wire.specs.declared.error.MessageError.{MessageError}
+use Rattle.protobuf_wire.specs.Record.{Record}
+use Rattle.protobuf_wire.specs.Fields.{each_of, embedded_value, flag, int32, int64, joined_value, last_or, numbers, payloads, records_in, repeated_values, string, value_of_text}
+use Rattle.protobuf_wire.proofs.Tools.{bind_ok, ok_is}
 use Rattle.reapi_messages.specs.Digests.{DigestValue, digest_of}
 use Rattle.tree_messages.specs.Directories.{DirectoryNodeValue, DirectoryValue, FileNodeValue, directory_node_of, directory_of, file_node_of, symlink_node_of}
 use Rattle.rpc.specs.declared.refusal.Refusal.TheVariants.{BadDigest}

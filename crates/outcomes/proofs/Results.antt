@@ -16,14 +16,14 @@ use Rattle.digest.specs.Hex.{lower_digits}
 use Rattle.digest.specs.Naming.{digest_by, function_of}
 use Rattle.digest.specs.Text.{hash_text}
 use Rattle.digest.proofs.HexLemmas.{length-encode_with}
-use Rattle.message_fields.specs.declared.error.MessageError.{MessageError}
-use Rattle.message_fields.specs.declared.error.MessageError.TheVariants.{NotUtf8}
-use Rattle.message_fields.specs.Record.{Value, Number, Eight, Payload, Four, Record}
-use Rattle.message_fields.specs.Writing.{records_text, message_field}
-use Rattle.message_fields.specs.Fields.{each_of, payloads, repeated_string, repeated_values, string, utf8, value_of_text}
-use Rattle.message_fields.specs.Parts.{each_field, text_for, embedded_field, flag_field, int32_field, repeated_field, string_field}
-use Rattle.message_fields.proofs.ReadAgain.{int32_below}
-use Rattle.message_fields.proofs.Tools.{bind_ok, ok_is}
+use Rattle.protobuf_wire.specs.declared.error.MessageError.{MessageError}
+use Rattle.protobuf_wire.specs.declared.error.MessageError.TheVariants.{NotUtf8}
+use Rattle.protobuf_wire.specs.Record.{Value, Number, Eight, Payload, Four, Record}
+use Rattle.protobuf_wire.specs.Writing.{records_text, message_field}
+use Rattle.protobuf_wire.specs.Fields.{each_of, payloads, repeated_string, repeated_values, string, utf8, value_of_text}
+use Rattle.protobuf_wire.specs.Parts.{each_field, text_for, embedded_field, flag_field, int32_field, repeated_field, string_field}
+use Rattle.protobuf_wire.proofs.ReadAgain.{int32_below}
+use Rattle.protobuf_wire.proofs.Tools.{bind_ok, ok_is}
 use Rattle.reapi_messages.specs.Digests.{DigestValue, digest_records}
 use Rattle.tree_messages.specs.Results.{OutputDirectoryValue, OutputFileValue, output_directory_records, output_file_records}
 use Rattle.execution_messages.specs.Actions.{CommandValue, command_of, environment_variable_of}

@@ -7,8 +7,8 @@ use Rattle.std.proofs.lemmas.List.{length-append}
 use Rattle.digest.specs.declared.Digest.{Digest}
 use Rattle.digest.specs.Naming.{same_digest}
 use Rattle.digest.specs.Text.{hash_text}
-use Rattle.message_fields.specs.Writing.{records_text, number_field, bytes_field, message_field}
-use Rattle.message_fields.specs.Parts.{text_for, string_field, int64_field, flag_field, embedded_field, repeated_field}
+use Rattle.protobuf_wire.specs.Writing.{records_text, number_field, bytes_field, message_field}
+use Rattle.protobuf_wire.specs.Parts.{text_for, string_field, int64_field, flag_field, embedded_field, repeated_field}
 use Rattle.reapi_messages.specs.Digests.{digest_records}
 use Rattle.reapi_messages.specs.Statuses.{AnyValue, any_records, status_records}
 use Rattle.execution_messages.specs.Operations.{execute_response_records, violation_records}

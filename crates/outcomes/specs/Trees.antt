@@ -2,7 +2,7 @@
 use Rattle.std.specs.Prelude.{ℕ, ◌+◌, Bool, true, false, List, [], ◌∷◌, ◌++◌, length, nat_eq, nat_le, nat_lt, ◌==◌, ◌&&◌, Some, if◌then◌else◌}
 use Rattle.std.specs.List.{list_all, list_any}
 use lib.Pointwise.{pointwise}
-use Rattle.message_fields.specs.Parts.{text_for}
+use Rattle.protobuf_wire.specs.Parts.{text_for}
 use Rattle.digest.specs.declared.Digest.{Digest}
 use Rattle.tree_messages.specs.Directories.{DirectoryNodeValue, DirectoryValue, FileNodeValue, directory_records, tree_records}
 use Rattle.input_tree.specs.Directories.{is_directory}

@@ -4,7 +4,7 @@ ghost use Rattle.std.specs.Prelude.{◌≡◌, ◌++◌, true, map, option_map, 
 ghost use Rattle.actions.specs.Shown.{asked_shown};
 ghost use Rattle.reapi_messages.specs.Digests.{digest_shown};
 ghost use Rattle.tree_messages.specs.Results.{output_directory_shown, output_file_shown, action_result_records};
-ghost use Rattle.message_fields.specs.Parts.{text_for};
+ghost use Rattle.protobuf_wire.specs.Parts.{text_for};
 ghost use Rattle.execution_messages.specs.Written.{written_shown};
 ghost use Rattle.outcomes.specs.Completing.{Collects, blob_shown, IsCollected, completion_shown, named_output_shown, named_tree_shown};
 ghost use Rattle.outcomes.specs.Naming.{blob_like};
@@ -21,7 +21,7 @@ use blob_pool::Draft;
 use digest::Digest;
 use execution_messages::WrittenDigest;
 use keyed_maps::MapKey;
-use message_fields::Message;
+use protobuf_wire::Message;
 use reapi_messages as messages;
 use run_calls::{Content, Exited, Output, OutputKind, OutputNode, OutputNodeKind, Streams};
 use std::alloc::{AllocError, Global};

@@ -7,7 +7,7 @@ ghost use Rattle.outcomes.specs.Gathering.{folder_shown, named_directory_shown, 
 ghost use Rattle.outcomes.specs.Trees.{directory_text};
 
 use execution_messages::WrittenDigest;
-use message_fields::Message;
+use protobuf_wire::Message;
 use std::alloc::{AllocError, Global};
 use std::collections::VecDeque;
 use tree_messages::{Directory, DirectoryNode, FileNode};

@@ -4,7 +4,7 @@
 ghost use Rattle.std.specs.Prelude.{◌≡◌, ◌<◌, ◌≤◌, ◌+◌, ◌*◌, ◌^◌, ℕ, Bool, true, List, [], length, Option, Some, Ok, Err, IfOk, IfSome, FitsSigned};
 ghost use Rattle.std.specs.Int.{w32};
 ghost use Rattle.std.specs.List.{AllByRecursion};
-ghost use Rattle.message_fields.specs.Fields.{value_of_text};
+ghost use Rattle.protobuf_wire.specs.Fields.{value_of_text};
 ghost use Rattle.digest.specs.declared.Digest.{Digest};
 ghost use Rattle.digest.specs.declared.HashFunction.{HashFunction};
 ghost use Rattle.instance_view.specs.Visible.{Blob};

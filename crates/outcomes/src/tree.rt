@@ -2,7 +2,7 @@
 
 ghost use Rattle.std.specs.Prelude.{◌≡◌, [], Some, true, map, option_map, IfOk, OnOk};
 ghost use Rattle.std.specs.List.{list_all};
-ghost use Rattle.message_fields.specs.Parts.{text_for};
+ghost use Rattle.protobuf_wire.specs.Parts.{text_for};
 ghost use Rattle.tree_messages.specs.Directories.{directory_shown, tree_records};
 ghost use Rattle.outcomes.specs.Gathering.{HaveTexts, folder_shown};
 ghost use Rattle.run_calls.specs.Shown.{node_shown, nodes_shown};
@@ -14,7 +14,7 @@ use crate::gathering::{gather_nodes, take_open};
 use actions::{MOST_LEVELS, MOST_NODES};
 use digest::Digest;
 use keyed_maps::{KeyedSet, MapKey};
-use message_fields::Message;
+use protobuf_wire::Message;
 use run_calls::{OutputNode, OutputNodeKind};
 use std::alloc::{AllocError, Global};
 use std::collections::VecDeque;

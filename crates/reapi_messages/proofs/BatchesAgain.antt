@@ -3,14 +3,14 @@ use Rattle.std.proofs.Common.{List, ◌++◌, map, refl, arith}
 use Rattle.std.specs.Int.{w64, cast_unsigned}
 use Rattle.std.specs.List.{AllByRecursion}
 use Rattle.std.proofs.lemmas.Bool.{eqb-false}
-use Rattle.message_fields.specs.Record.{Record}
-use Rattle.message_fields.specs.Writing.{bytes_field}
-use Rattle.message_fields.specs.Parts.{text_for, string_field, int32_field, embedded_field, repeated_field}
-use Rattle.message_fields.specs.Again.{HasField, AreReadAgain}
-use Rattle.message_fields.proofs.Places.{alone, after, before, lacks_both, lacks_bytes, lacks_number, lacks_each, lacks_embedded}
-use Rattle.message_fields.proofs.ReadAgain.{string_again, octets_again, int32_again}
-use Rattle.message_fields.proofs.Lengths.{IsNumbered, parsed_again, first_shorter, second_shorter, numbered_both, bytes_numbered, int32_numbered, each_numbered, embedded_numbered}
-use Rattle.message_fields.proofs.Fitting.{repeated_fits, embedded_fits}
+use Rattle.protobuf_wire.specs.Record.{Record}
+use Rattle.protobuf_wire.specs.Writing.{bytes_field}
+use Rattle.protobuf_wire.specs.Parts.{text_for, string_field, int32_field, embedded_field, repeated_field}
+use Rattle.protobuf_wire.specs.Again.{HasField, AreReadAgain}
+use Rattle.protobuf_wire.proofs.Places.{alone, after, before, lacks_both, lacks_bytes, lacks_number, lacks_each, lacks_embedded}
+use Rattle.protobuf_wire.proofs.ReadAgain.{string_again, octets_again, int32_again}
+use Rattle.protobuf_wire.proofs.Lengths.{IsNumbered, parsed_again, first_shorter, second_shorter, numbered_both, bytes_numbered, int32_numbered, each_numbered, embedded_numbered}
+use Rattle.protobuf_wire.proofs.Fitting.{repeated_fits, embedded_fits}
 use Rattle.reapi_messages.specs.Batches.{UpdateBlobRequestValue, update_blob_request_of, update_blob_request_records, FitsUpdateBlobRequest, BatchUpdateBlobsRequestValue, batch_update_blobs_request_of, batch_update_blobs_request_records, FitsBatchUpdateBlobsRequest, UpdateBlobResponseValue, update_blob_response_of, update_blob_response_records, FitsUpdateBlobResponse, BatchUpdateBlobsResponseValue, batch_update_blobs_response_of, batch_update_blobs_response_records, FitsBatchUpdateBlobsResponse, BatchReadBlobsRequestValue, batch_read_blobs_request_of, batch_read_blobs_request_records, FitsBatchReadBlobsRequest, ReadBlobResponseValue, read_blob_response_of, read_blob_response_records, FitsReadBlobResponse, BatchReadBlobsResponseValue, batch_read_blobs_response_of, batch_read_blobs_response_records, FitsBatchReadBlobsResponse}
 use Rattle.reapi_messages.specs.Digests.{digest_of, digest_records, FitsDigest}
 use Rattle.reapi_messages.proofs.DigestsAgain.{digest_again}

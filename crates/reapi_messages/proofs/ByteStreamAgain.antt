@@ -3,13 +3,13 @@ use Rattle.std.proofs.Common.{List, ◌++◌, refl, arith, if◌then◌else◌}
 use Rattle.std.specs.Int.{w64, cast_unsigned}
 use Rattle.std.specs.List.{AllByRecursion}
 use Rattle.std.proofs.lemmas.Bool.{eqb-false}
-use Rattle.message_fields.specs.Record.{Record}
-use Rattle.message_fields.specs.Writing.{bytes_field}
-use Rattle.message_fields.specs.Parts.{flag_field, int64_field, string_field}
-use Rattle.message_fields.specs.Again.{HasField, AreReadAgain}
-use Rattle.message_fields.proofs.Places.{after, alone, before, lacks_both, lacks_bytes, lacks_number}
-use Rattle.message_fields.proofs.ReadAgain.{flag_again, int64_again, octets_again, string_again}
-use Rattle.message_fields.proofs.Lengths.{IsNumbered, bytes_numbered, flag_numbered, int64_numbered, numbered_both, parsed_again}
+use Rattle.protobuf_wire.specs.Record.{Record}
+use Rattle.protobuf_wire.specs.Writing.{bytes_field}
+use Rattle.protobuf_wire.specs.Parts.{flag_field, int64_field, string_field}
+use Rattle.protobuf_wire.specs.Again.{HasField, AreReadAgain}
+use Rattle.protobuf_wire.proofs.Places.{after, alone, before, lacks_both, lacks_bytes, lacks_number}
+use Rattle.protobuf_wire.proofs.ReadAgain.{flag_again, int64_again, octets_again, string_again}
+use Rattle.protobuf_wire.proofs.Lengths.{IsNumbered, bytes_numbered, flag_numbered, int64_numbered, numbered_both, parsed_again}
 use Rattle.reapi_messages.specs.ByteStream.{ReadRequestValue, read_request_of, read_request_records, FitsReadRequest, ReadResponseValue, read_response_of, read_response_records, FitsReadResponse, WriteRequestValue, write_request_of, write_request_records, FitsWriteRequest, WriteResponseValue, write_response_of, write_response_records, FitsWriteResponse, QueryWriteStatusRequestValue, query_write_status_request_of, query_write_status_request_records, FitsQueryWriteStatusRequest, QueryWriteStatusResponseValue, query_write_status_response_of, query_write_status_response_records, FitsQueryWriteStatusResponse}
 
 read_request_numbered : (v : ReadRequestValue) → FitsReadRequest v → AllByRecursion IsNumbered (read_request_records v)

@@ -3,14 +3,14 @@ use Rattle.std.proofs.Common.{List, ◌++◌, map, refl, arith, if◌then◌else
 use Rattle.std.specs.Int.{w64, cast_unsigned}
 use Rattle.std.specs.List.{AllByRecursion}
 use Rattle.std.proofs.lemmas.Bool.{eqb-false}
-use Rattle.message_fields.specs.Record.{Record}
-use Rattle.message_fields.specs.Writing.{packed_text}
-use Rattle.message_fields.specs.Parts.{string_field, int64_field, int32_field, flag_field, repeated_enum_field, embedded_field}
-use Rattle.message_fields.specs.Again.{HasField, AreReadAgain}
-use Rattle.message_fields.proofs.Places.{alone, after, before, lacks_both, lacks_bytes, lacks_number, lacks_embedded}
-use Rattle.message_fields.proofs.ReadAgain.{string_again, int64_again, int32_again, flag_again, repeated_enum_again}
-use Rattle.message_fields.proofs.Lengths.{IsNumbered, parsed_again, first_shorter, second_shorter, numbered_both, bytes_numbered, int64_numbered, int32_numbered, flag_numbered, embedded_numbered}
-use Rattle.message_fields.proofs.Fitting.{embedded_fits}
+use Rattle.protobuf_wire.specs.Record.{Record}
+use Rattle.protobuf_wire.specs.Writing.{packed_text}
+use Rattle.protobuf_wire.specs.Parts.{string_field, int64_field, int32_field, flag_field, repeated_enum_field, embedded_field}
+use Rattle.protobuf_wire.specs.Again.{HasField, AreReadAgain}
+use Rattle.protobuf_wire.proofs.Places.{alone, after, before, lacks_both, lacks_bytes, lacks_number, lacks_embedded}
+use Rattle.protobuf_wire.proofs.ReadAgain.{string_again, int64_again, int32_again, flag_again, repeated_enum_again}
+use Rattle.protobuf_wire.proofs.Lengths.{IsNumbered, parsed_again, first_shorter, second_shorter, numbered_both, bytes_numbered, int64_numbered, int32_numbered, flag_numbered, embedded_numbered}
+use Rattle.protobuf_wire.proofs.Fitting.{embedded_fits}
 use Rattle.reapi_messages.specs.Capabilities.{GetCapabilitiesRequestValue, get_capabilities_request_of, get_capabilities_request_records, FitsGetCapabilitiesRequest, SemVerValue, sem_ver_of, sem_ver_records, FitsSemVer, ActionCacheUpdateCapabilitiesValue, action_cache_update_capabilities_of, action_cache_update_capabilities_records, FitsActionCacheUpdateCapabilities, CacheCapabilitiesValue, cache_capabilities_of, cache_capabilities_records, FitsCacheCapabilities, ExecutionCapabilitiesValue, execution_capabilities_of, execution_capabilities_records, FitsExecutionCapabilities, ServerCapabilitiesValue, server_capabilities_of, server_capabilities_records, FitsServerCapabilities}
 
 get_capabilities_request_numbered : (v : GetCapabilitiesRequestValue) → FitsGetCapabilitiesRequest v →

@@ -3,12 +3,12 @@ use Rattle.std.proofs.Common.{List, refl, arith}
 use Rattle.std.specs.Int.{w64, cast_unsigned}
 use Rattle.std.specs.List.{AllByRecursion}
 use Rattle.std.proofs.lemmas.Bool.{eqb-false}
-use Rattle.message_fields.specs.Record.{Record}
-use Rattle.message_fields.specs.Parts.{string_field, int64_field}
-use Rattle.message_fields.specs.Again.{HasField, AreReadAgain}
-use Rattle.message_fields.proofs.Places.{alone, after, before, lacks_bytes, lacks_number}
-use Rattle.message_fields.proofs.ReadAgain.{string_again, int64_again}
-use Rattle.message_fields.proofs.Lengths.{IsNumbered, parsed_again, numbered_both, bytes_numbered, int64_numbered}
+use Rattle.protobuf_wire.specs.Record.{Record}
+use Rattle.protobuf_wire.specs.Parts.{string_field, int64_field}
+use Rattle.protobuf_wire.specs.Again.{HasField, AreReadAgain}
+use Rattle.protobuf_wire.proofs.Places.{alone, after, before, lacks_bytes, lacks_number}
+use Rattle.protobuf_wire.proofs.ReadAgain.{string_again, int64_again}
+use Rattle.protobuf_wire.proofs.Lengths.{IsNumbered, parsed_again, numbered_both, bytes_numbered, int64_numbered}
 use Rattle.reapi_messages.specs.Digests.{DigestValue, digest_of, digest_records, FitsDigest}
 
 digest_numbered : (v : DigestValue) → FitsDigest v → AllByRecursion IsNumbered (digest_records v)

@@ -6,5 +6,5 @@ pub mod StatusesAgain
 pub mod BatchesAgain
 pub mod CapabilitiesAgain
 pub mod ByteStreamAgain
-pub use Rattle.message_fields.proofs.Tools
-pub use Rattle.message_fields.proofs.ProtobufWireTexts
+pub use Rattle.protobuf_wire.proofs.Tools
+pub use Rattle.protobuf_wire.proofs.Texts as ProtobufWireTexts

@@ -3,14 +3,14 @@ use Rattle.std.proofs.Common.{List, ◌++◌, map, refl, arith}
 use Rattle.std.specs.Int.{w64, cast_unsigned}
 use Rattle.std.specs.List.{AllByRecursion}
 use Rattle.std.proofs.lemmas.Bool.{eqb-false}
-use Rattle.message_fields.specs.Record.{Record}
-use Rattle.message_fields.specs.Writing.{bytes_field}
-use Rattle.message_fields.specs.Parts.{text_for, string_field, int32_field, repeated_field}
-use Rattle.message_fields.specs.Again.{HasField, AreReadAgain}
-use Rattle.message_fields.proofs.Places.{alone, after, before, lacks_both, lacks_bytes, lacks_number, lacks_each}
-use Rattle.message_fields.proofs.ReadAgain.{string_again, octets_again, int32_again}
-use Rattle.message_fields.proofs.Lengths.{IsNumbered, parsed_again, second_shorter, numbered_both, bytes_numbered, int32_numbered, each_numbered}
-use Rattle.message_fields.proofs.Fitting.{repeated_fits}
+use Rattle.protobuf_wire.specs.Record.{Record}
+use Rattle.protobuf_wire.specs.Writing.{bytes_field}
+use Rattle.protobuf_wire.specs.Parts.{text_for, string_field, int32_field, repeated_field}
+use Rattle.protobuf_wire.specs.Again.{HasField, AreReadAgain}
+use Rattle.protobuf_wire.proofs.Places.{alone, after, before, lacks_both, lacks_bytes, lacks_number, lacks_each}
+use Rattle.protobuf_wire.proofs.ReadAgain.{string_again, octets_again, int32_again}
+use Rattle.protobuf_wire.proofs.Lengths.{IsNumbered, parsed_again, second_shorter, numbered_both, bytes_numbered, int32_numbered, each_numbered}
+use Rattle.protobuf_wire.proofs.Fitting.{repeated_fits}
 use Rattle.reapi_messages.specs.Statuses.{AnyValue, any_of, any_records, FitsAny, StatusValue, status_of, status_records, FitsStatus}
 
 any_numbered : (v : AnyValue) → FitsAny v → AllByRecursion IsNumbered (any_records v)

@@ -3,13 +3,13 @@ use Rattle.std.specs.Prelude.{ℕ, ℤ, List, ◌++◌, map, option_map, Option,
 use Rattle.std.specs.Str.{is_utf8}
 use Rattle.std.specs.Int.{w32}
 use Rattle.std.specs.List.{AllByRecursion}
-use Rattle.message_fields.specs.declared.error.MessageError.{MessageError}
-use Rattle.message_fields.specs.Results.{◌>>=◌}
-use Rattle.message_fields.specs.Record.{Record}
-use Rattle.message_fields.specs.Fields.{string, octets, int32, embedded_value, repeated_values}
-use Rattle.message_fields.specs.Parts.{string_field, int32_field, embedded_field, repeated_field}
-use Rattle.message_fields.specs.Writing.{bytes_field}
-use Rattle.message_fields.specs.Pieces.{pieces_text}
+use Rattle.protobuf_wire.specs.declared.error.MessageError.{MessageError}
+use Rattle.protobuf_wire.specs.Results.{◌>>=◌}
+use Rattle.protobuf_wire.specs.Record.{Record}
+use Rattle.protobuf_wire.specs.Fields.{string, octets, int32, embedded_value, repeated_values}
+use Rattle.protobuf_wire.specs.Parts.{string_field, int32_field, embedded_field, repeated_field}
+use Rattle.protobuf_wire.specs.Writing.{bytes_field}
+use Rattle.protobuf_wire.specs.Pieces.{pieces_text}
 use Rattle.reapi_messages.specs.declared.batches.UpdateBlobRequest.{UpdateBlobRequest}
 use Rattle.reapi_messages.specs.declared.batches.BatchUpdateBlobsRequest.{BatchUpdateBlobsRequest}
 use Rattle.reapi_messages.specs.declared.batches.UpdateBlobResponse.{UpdateBlobResponse}

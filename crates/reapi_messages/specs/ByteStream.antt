@@ -2,12 +2,12 @@
 use Rattle.std.specs.Prelude.{◌≡◌, true, ⊤, Bool, ℕ, ℤ, List, ◌++◌, Result, Ok, FitsSigned}
 use Rattle.std.specs.Str.{is_utf8}
 use Rattle.std.specs.Int.{w64}
-use Rattle.message_fields.specs.declared.error.MessageError.{MessageError}
-use Rattle.message_fields.specs.Results.{◌>>=◌}
-use Rattle.message_fields.specs.Record.{Record}
-use Rattle.message_fields.specs.Fields.{flag, int64, octets, string}
-use Rattle.message_fields.specs.Parts.{flag_field, int64_field, string_field}
-use Rattle.message_fields.specs.Writing.{bytes_field}
+use Rattle.protobuf_wire.specs.declared.error.MessageError.{MessageError}
+use Rattle.protobuf_wire.specs.Results.{◌>>=◌}
+use Rattle.protobuf_wire.specs.Record.{Record}
+use Rattle.protobuf_wire.specs.Fields.{flag, int64, octets, string}
+use Rattle.protobuf_wire.specs.Parts.{flag_field, int64_field, string_field}
+use Rattle.protobuf_wire.specs.Writing.{bytes_field}
 use Rattle.reapi_messages.specs.declared.byte_stream.ReadRequest.{ReadRequest}
 use Rattle.reapi_messages.specs.declared.byte_stream.ReadResponse.{ReadResponse}
 use Rattle.reapi_messages.specs.declared.byte_stream.WriteRequest.{WriteRequest}

@@ -2,11 +2,11 @@
 use Rattle.std.specs.Prelude.{ℕ, ℤ, List, ◌++◌, Result, Ok, ◌≡◌, true, FitsSigned}
 use Rattle.std.specs.Str.{is_utf8}
 use Rattle.std.specs.Int.{w64}
-use Rattle.message_fields.specs.declared.error.MessageError.{MessageError}
-use Rattle.message_fields.specs.Results.{◌>>=◌}
-use Rattle.message_fields.specs.Record.{Record}
-use Rattle.message_fields.specs.Fields.{string, int64}
-use Rattle.message_fields.specs.Parts.{string_field, int64_field}
+use Rattle.protobuf_wire.specs.declared.error.MessageError.{MessageError}
+use Rattle.protobuf_wire.specs.Results.{◌>>=◌}
+use Rattle.protobuf_wire.specs.Record.{Record}
+use Rattle.protobuf_wire.specs.Fields.{string, int64}
+use Rattle.protobuf_wire.specs.Parts.{string_field, int64_field}
 use Rattle.reapi_messages.specs.declared.digest.Digest.{Digest}
 
 -- hash 1, size_bytes 2

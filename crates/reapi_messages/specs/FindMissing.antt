@@ -3,11 +3,11 @@ use Rattle.std.specs.Prelude.{ℕ, ℤ, List, ◌++◌, map, Result, Ok, ◌≡�
 use Rattle.std.specs.Str.{is_utf8}
 use Rattle.std.specs.Int.{w32}
 use Rattle.std.specs.List.{AllByRecursion}
-use Rattle.message_fields.specs.declared.error.MessageError.{MessageError}
-use Rattle.message_fields.specs.Results.{◌>>=◌}
-use Rattle.message_fields.specs.Record.{Record}
-use Rattle.message_fields.specs.Fields.{string, int32, repeated_values}
-use Rattle.message_fields.specs.Parts.{string_field, int32_field, repeated_field}
+use Rattle.protobuf_wire.specs.declared.error.MessageError.{MessageError}
+use Rattle.protobuf_wire.specs.Results.{◌>>=◌}
+use Rattle.protobuf_wire.specs.Record.{Record}
+use Rattle.protobuf_wire.specs.Fields.{string, int32, repeated_values}
+use Rattle.protobuf_wire.specs.Parts.{string_field, int32_field, repeated_field}
 use Rattle.reapi_messages.specs.declared.find_missing.FindMissingBlobsRequest.{FindMissingBlobsRequest}
 use Rattle.reapi_messages.specs.declared.find_missing.FindMissingBlobsResponse.{FindMissingBlobsResponse}
 use Rattle.reapi_messages.specs.Digests.{DigestValue, FitsDigest, digest_shown, digest_of, digest_records}

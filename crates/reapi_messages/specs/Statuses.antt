@@ -3,12 +3,12 @@ use Rattle.std.specs.Prelude.{ℕ, ℤ, List, ◌++◌, map, Result, Ok, ◌≡�
 use Rattle.std.specs.Str.{is_utf8}
 use Rattle.std.specs.Int.{w32}
 use Rattle.std.specs.List.{AllByRecursion}
-use Rattle.message_fields.specs.declared.error.MessageError.{MessageError}
-use Rattle.message_fields.specs.Results.{◌>>=◌}
-use Rattle.message_fields.specs.Record.{Record}
-use Rattle.message_fields.specs.Fields.{string, octets, int32, repeated_values}
-use Rattle.message_fields.specs.Parts.{string_field, int32_field, repeated_field}
-use Rattle.message_fields.specs.Writing.{bytes_field}
+use Rattle.protobuf_wire.specs.declared.error.MessageError.{MessageError}
+use Rattle.protobuf_wire.specs.Results.{◌>>=◌}
+use Rattle.protobuf_wire.specs.Record.{Record}
+use Rattle.protobuf_wire.specs.Fields.{string, octets, int32, repeated_values}
+use Rattle.protobuf_wire.specs.Parts.{string_field, int32_field, repeated_field}
+use Rattle.protobuf_wire.specs.Writing.{bytes_field}
 use Rattle.reapi_messages.specs.declared.status.Any.{Any}
 use Rattle.reapi_messages.specs.declared.status.Status.{Status}
 

@@ -4,7 +4,7 @@ ghost use Rattle.std.specs.Prelude.{◌≡◌};
 
 use crate::digest::Digest;
 use crate::status::Status;
-use message_fields::{
+use protobuf_wire::{
     Field, Message, MessageError, Pieces, Writer, embedded, int32, octets, put_embedded, put_int32,
     put_octets, put_pieces, put_repeated, put_string, repeated, string,
 };

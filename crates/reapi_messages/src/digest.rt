@@ -2,7 +2,7 @@
 
 ghost use Rattle.std.specs.Prelude.{◌≡◌};
 
-use message_fields::{Field, Message, MessageError, Writer, int64, put_int64, put_string, string};
+use protobuf_wire::{Field, Message, MessageError, Writer, int64, put_int64, put_string, string};
 use std::alloc::{AllocError, Global};
 
 /// `build.bazel.remote.execution.v2.Digest`, as it was sent: neither field is checked.

@@ -3,7 +3,7 @@
 ghost use Rattle.std.specs.Prelude.{◌≡◌};
 
 use crate::digest::Digest;
-use message_fields::{
+use protobuf_wire::{
     Field, Message, MessageError, Writer, int32, put_int32, put_repeated, put_string, repeated,
     string,
 };

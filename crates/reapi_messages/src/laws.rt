@@ -1,7 +1,7 @@
 //! What reading and writing messages have to do with each other: a message that is written means
 //! what it was written for.
 
-ghost use Rattle.message_fields.specs.Again.{AreReadAgain};
+ghost use Rattle.protobuf_wire.specs.Again.{AreReadAgain};
 ghost use Rattle.reapi_messages.specs.Capabilities.{FitsGetCapabilitiesRequest, FitsServerCapabilities, get_capabilities_request_of, get_capabilities_request_records, server_capabilities_of, server_capabilities_records};
 ghost use Rattle.reapi_messages.specs.Digests.{FitsDigest, digest_of, digest_records};
 ghost use Rattle.reapi_messages.specs.FindMissing.{FitsFindMissingBlobsRequest, FitsFindMissingBlobsResponse, find_missing_blobs_request_of, find_missing_blobs_request_records, find_missing_blobs_response_of, find_missing_blobs_response_records};

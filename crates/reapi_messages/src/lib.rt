@@ -34,5 +34,5 @@ pub use laws::{
     capabilities_are_read_again, digests_are_read_again, find_missing_blobs_is_read_again,
     statuses_are_read_again,
 };
-pub use message_fields::{Field, Message, MessageError, Pieces, WireError, Writer};
+pub use protobuf_wire::{Field, Message, MessageError, Pieces, WireError, Writer};
 pub use status::{Any, Status};

@@ -2,7 +2,7 @@
 
 ghost use Rattle.std.specs.Prelude.{◌≡◌};
 
-use message_fields::{
+use protobuf_wire::{
     Field, Message, MessageError, Writer, int32, octets, put_int32, put_octets, put_repeated,
     put_string, repeated, string,
 };

@@ -2,7 +2,7 @@
 
 use hpack::{Field, Position, encode_into};
 use http2_frames::{CLIENT_PREFACE, Frame, MAX_FRAME_SIZE, Octets, SettingsList, write_frame};
-use message_fields::Message;
+use protobuf_wire::Message;
 use reapi_messages::GetCapabilitiesRequest;
 use rpc::Method;
 use std::alloc::{AllocError, Global};

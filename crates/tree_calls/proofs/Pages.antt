@@ -5,10 +5,10 @@ use Rattle.std.specs.Fmt.{decimal}
 use Rattle.std.proofs.lemmas.Bool.{and_parts}
 use Rattle.std.proofs.lemmas.Bool.Decides.{nat_tests}
 use Rattle.std.proofs.lemmas.List.{length-append}
-use Rattle.message_fields.specs.Record.{Record}
-use Rattle.message_fields.specs.Writing.{records_text}
-use Rattle.message_fields.specs.Parts.{repeated_octets_field}
-use Rattle.message_fields.proofs.Tools.{bind_ok}
+use Rattle.protobuf_wire.specs.Record.{Record}
+use Rattle.protobuf_wire.specs.Writing.{records_text}
+use Rattle.protobuf_wire.specs.Parts.{repeated_octets_field}
+use Rattle.protobuf_wire.proofs.Tools.{bind_ok}
 use Rattle.digest.specs.declared.Digest.{Digest}
 use Rattle.instance_view.specs.Visible.{Blob}
 use Rattle.tree_messages.specs.GetTree.{GetTreeResponseValue}

@@ -6,10 +6,10 @@ use Rattle.std.specs.List.{AllByRecursion, concat, flat_map}
 use Rattle.std.specs.Map.{lookup, remove_entry}
 use Rattle.std.proofs.lemmas.Fmt.{length-decimal-le}
 use Rattle.std.proofs.lemmas.List.{length-append, length-drop}
-use Rattle.message_fields.specs.declared.error.MessageError.{MessageError}
-use Rattle.message_fields.specs.Fields.{value_of_text, payloads, embedded_value, sent_bytes, string, int32, joined_payloads}
-use Rattle.message_fields.specs.Parts.{repeated_octets_field, string_field}
-use Rattle.message_fields.proofs.Tools.{bind_ok, ok_is}
+use Rattle.protobuf_wire.specs.declared.error.MessageError.{MessageError}
+use Rattle.protobuf_wire.specs.Fields.{value_of_text, payloads, embedded_value, sent_bytes, string, int32, joined_payloads}
+use Rattle.protobuf_wire.specs.Parts.{repeated_octets_field, string_field}
+use Rattle.protobuf_wire.proofs.Tools.{bind_ok, ok_is}
 use Rattle.digest.specs.declared.Digest.{Digest}
 use Rattle.digest.specs.Naming.{same_digest}
 use Rattle.instance_view.specs.Visible.{Blob, with_match_first, blobs_length}

@@ -6,18 +6,18 @@ use Rattle.std.specs.List.{AllByRecursion}
 use Rattle.std.proofs.lemmas.Int.{of_z-to_z}
 use Rattle.std.proofs.lemmas.List.{length-append}
 use Rattle.std.proofs.lemmas.List.Concat.{flat_map-cons}
-use Rattle.message_fields.proofs.Groups.{some_groups}
-use Rattle.message_fields.specs.WireError.{WireError}
-use Rattle.message_fields.specs.Record.{Value, Number, Eight, Payload, Four, Record}
-use Rattle.message_fields.specs.Reading.{records_of}
-use Rattle.message_fields.specs.Spelling.{IsContent, IsRecord, Spells}
-use Rattle.message_fields.specs.Writing.{varint, record_text, records_text, number_field, bytes_field, message_field}
-use Rattle.message_fields.proofs.ProtobufWireTexts.{spells_read, varint_is}
-use Rattle.message_fields.proofs.Tools.{bind_ok, ok_is}
-use Rattle.message_fields.specs.declared.error.MessageError.{MessageError}
-use Rattle.message_fields.specs.Answers.{of_wire}
-use Rattle.message_fields.specs.Fields.{records_in, value_of_text, payloads, numbers, last_or, each_of, utf8, string, int64}
-use Rattle.message_fields.proofs.Texts.{text_append}
+use Rattle.protobuf_wire.proofs.Groups.{some_groups}
+use Rattle.protobuf_wire.specs.declared.field.WireError.{WireError}
+use Rattle.protobuf_wire.specs.Record.{Value, Number, Eight, Payload, Four, Record}
+use Rattle.protobuf_wire.specs.Reading.{records_of}
+use Rattle.protobuf_wire.specs.Spelling.{IsContent, IsRecord, Spells}
+use Rattle.protobuf_wire.specs.Writing.{varint, record_text, records_text, number_field, bytes_field, message_field}
+use Rattle.protobuf_wire.proofs.Texts.{spells_read, varint_is}
+use Rattle.protobuf_wire.proofs.Tools.{bind_ok, ok_is}
+use Rattle.protobuf_wire.specs.declared.error.MessageError.{MessageError}
+use Rattle.protobuf_wire.specs.Answers.{of_wire}
+use Rattle.protobuf_wire.specs.Fields.{records_in, value_of_text, payloads, numbers, last_or, each_of, utf8, string, int64}
+use Rattle.protobuf_wire.proofs.FieldTexts.{text_append}
 
 -- ---- what is read
 
@@ -141,7 +141,7 @@ last_size default (p ∷ ps) = let ih = last_size p ps in omega arith
 
 utf8_ok : (b t : List ℕ) → utf8 b ≡ Ok t → t ≡ b
 utf8_ok b t h = go (Rattle.std.specs.Str.is_utf8 b) h where
-  go : (c : Bool) → cond c (Ok b) (Err Rattle.message_fields.specs.declared.error.MessageError.TheVariants.NotUtf8) ≡ Ok t → t ≡ b
+  go : (c : Bool) → cond c (Ok b) (Err Rattle.protobuf_wire.specs.declared.error.MessageError.TheVariants.NotUtf8) ≡ Ok t → t ≡ b
   go true h = cc
   go false h = absurd (cc)
 

@@ -1,6 +1,6 @@
 -- What calls change: the uses of digests, one after another.
 use Rattle.std.proofs.Common.{◌≡◌, ℕ, ℤ, List, [], ◌∷◌, map, Result, Ok, refl, sym, ap, subst, ◌∙◌, arith}
-use Rattle.message_fields.proofs.Tools.{bind_ok}
+use Rattle.protobuf_wire.proofs.Tools.{bind_ok}
 use Rattle.reapi_messages.specs.Results.{◌>>=◌}
 use Rattle.rpc.specs.declared.refusal.Refusal.{Refusal}
 use Rattle.digest.specs.declared.Digest.{Digest}

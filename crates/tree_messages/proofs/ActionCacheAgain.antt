@@ -3,13 +3,13 @@ use Rattle.std.proofs.Common.{List, ◌++◌, refl, arith}
 use Rattle.std.specs.Int.{w64, cast_unsigned}
 use Rattle.std.specs.List.{AllByRecursion}
 use Rattle.std.proofs.lemmas.Bool.{eqb-false}
-use Rattle.message_fields.specs.Record.{Record}
-use Rattle.message_fields.specs.Parts.{embedded_field, int32_field, sent_field, string_field}
-use Rattle.message_fields.specs.Again.{HasField, AreReadAgain}
-use Rattle.message_fields.proofs.Places.{after, alone, before, lacks_both, lacks_bytes, lacks_embedded, lacks_number, lacks_sent}
-use Rattle.message_fields.proofs.ReadAgain.{int32_again, sent_again, string_again}
-use Rattle.message_fields.proofs.Lengths.{IsNumbered, bytes_numbered, embedded_numbered, first_shorter, int32_numbered, numbered_both, parsed_again, second_shorter, sent_numbered}
-use Rattle.message_fields.proofs.Fitting.{embedded_fits}
+use Rattle.protobuf_wire.specs.Record.{Record}
+use Rattle.protobuf_wire.specs.Parts.{embedded_field, int32_field, sent_field, string_field}
+use Rattle.protobuf_wire.specs.Again.{HasField, AreReadAgain}
+use Rattle.protobuf_wire.proofs.Places.{after, alone, before, lacks_both, lacks_bytes, lacks_embedded, lacks_number, lacks_sent}
+use Rattle.protobuf_wire.proofs.ReadAgain.{int32_again, sent_again, string_again}
+use Rattle.protobuf_wire.proofs.Lengths.{IsNumbered, bytes_numbered, embedded_numbered, first_shorter, int32_numbered, numbered_both, parsed_again, second_shorter, sent_numbered}
+use Rattle.protobuf_wire.proofs.Fitting.{embedded_fits}
 use Rattle.tree_messages.specs.ActionCache.{GetActionResultRequestValue, get_action_result_request_of, get_action_result_request_records, FitsGetActionResultRequest, UpdateActionResultRequestValue, update_action_result_request_of, update_action_result_request_records, FitsUpdateActionResultRequest}
 use Rattle.reapi_messages.specs.Digests.{digest_of, digest_records, FitsDigest}
 use Rattle.reapi_messages.proofs.DigestsAgain.{digest_again}

@@ -2,13 +2,13 @@
 use Rattle.std.proofs.Common.{List, ◌++◌, map, refl, arith, if◌then◌else◌}
 use Rattle.std.specs.List.{AllByRecursion}
 use Rattle.std.proofs.lemmas.Bool.{eqb-false}
-use Rattle.message_fields.specs.Record.{Record}
-use Rattle.message_fields.specs.Parts.{embedded_field, flag_field, repeated_field, string_field, text_for}
-use Rattle.message_fields.specs.Again.{HasField, AreReadAgain}
-use Rattle.message_fields.proofs.Places.{after, alone, before, lacks_both, lacks_bytes, lacks_each, lacks_embedded, lacks_number}
-use Rattle.message_fields.proofs.ReadAgain.{flag_again, string_again}
-use Rattle.message_fields.proofs.Lengths.{IsNumbered, bytes_numbered, each_numbered, embedded_numbered, first_shorter, flag_numbered, numbered_both, parsed_again, second_shorter}
-use Rattle.message_fields.proofs.Fitting.{embedded_fits, repeated_fits}
+use Rattle.protobuf_wire.specs.Record.{Record}
+use Rattle.protobuf_wire.specs.Parts.{embedded_field, flag_field, repeated_field, string_field, text_for}
+use Rattle.protobuf_wire.specs.Again.{HasField, AreReadAgain}
+use Rattle.protobuf_wire.proofs.Places.{after, alone, before, lacks_both, lacks_bytes, lacks_each, lacks_embedded, lacks_number}
+use Rattle.protobuf_wire.proofs.ReadAgain.{flag_again, string_again}
+use Rattle.protobuf_wire.proofs.Lengths.{IsNumbered, bytes_numbered, each_numbered, embedded_numbered, first_shorter, flag_numbered, numbered_both, parsed_again, second_shorter}
+use Rattle.protobuf_wire.proofs.Fitting.{embedded_fits, repeated_fits}
 use Rattle.tree_messages.specs.Directories.{FileNodeValue, file_node_of, file_node_records, FitsFileNode, DirectoryNodeValue, directory_node_of, directory_node_records, FitsDirectoryNode, SymlinkNodeValue, symlink_node_of, symlink_node_records, FitsSymlinkNode, DirectoryValue, directory_of, directory_records, FitsDirectory, TreeValue, tree_of, tree_records, FitsTree}
 use Rattle.reapi_messages.specs.Digests.{digest_of, digest_records, FitsDigest}
 use Rattle.reapi_messages.proofs.DigestsAgain.{digest_again}

@@ -2,11 +2,11 @@
 use Rattle.std.specs.Prelude.{◌≡◌, true, ℕ, ℤ, List, ◌++◌, option_map, Option, Result, Ok, IfSome, IsOk, FitsSigned}
 use Rattle.std.specs.Str.{is_utf8}
 use Rattle.std.specs.Int.{w32}
-use Rattle.message_fields.specs.declared.error.MessageError.{MessageError}
-use Rattle.message_fields.specs.Results.{◌>>=◌}
-use Rattle.message_fields.specs.Record.{Record}
-use Rattle.message_fields.specs.Fields.{value_of_text, embedded_value, int32, sent_bytes, string}
-use Rattle.message_fields.specs.Parts.{embedded_field, int32_field, sent_field, string_field}
+use Rattle.protobuf_wire.specs.declared.error.MessageError.{MessageError}
+use Rattle.protobuf_wire.specs.Results.{◌>>=◌}
+use Rattle.protobuf_wire.specs.Record.{Record}
+use Rattle.protobuf_wire.specs.Fields.{value_of_text, embedded_value, int32, sent_bytes, string}
+use Rattle.protobuf_wire.specs.Parts.{embedded_field, int32_field, sent_field, string_field}
 use Rattle.tree_messages.specs.declared.action_cache.GetActionResultRequest.{GetActionResultRequest}
 use Rattle.tree_messages.specs.declared.action_cache.UpdateActionResultRequest.{UpdateActionResultRequest}
 use Rattle.tree_messages.specs.Results.{action_result_of}

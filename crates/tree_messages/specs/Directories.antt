@@ -2,11 +2,11 @@
 use Rattle.std.specs.Prelude.{◌≡◌, true, Bool, ℕ, List, ◌++◌, map, option_map, Option, Result, Ok, IfSome}
 use Rattle.std.specs.Str.{is_utf8}
 use Rattle.std.specs.List.{AllByRecursion}
-use Rattle.message_fields.specs.declared.error.MessageError.{MessageError}
-use Rattle.message_fields.specs.Results.{◌>>=◌}
-use Rattle.message_fields.specs.Record.{Record}
-use Rattle.message_fields.specs.Fields.{embedded_value, flag, repeated_values, string}
-use Rattle.message_fields.specs.Parts.{embedded_field, flag_field, repeated_field, string_field}
+use Rattle.protobuf_wire.specs.declared.error.MessageError.{MessageError}
+use Rattle.protobuf_wire.specs.Results.{◌>>=◌}
+use Rattle.protobuf_wire.specs.Record.{Record}
+use Rattle.protobuf_wire.specs.Fields.{embedded_value, flag, repeated_values, string}
+use Rattle.protobuf_wire.specs.Parts.{embedded_field, flag_field, repeated_field, string_field}
 use Rattle.tree_messages.specs.declared.directories.FileNode.{FileNode}
 use Rattle.tree_messages.specs.declared.directories.DirectoryNode.{DirectoryNode}
 use Rattle.tree_messages.specs.declared.directories.SymlinkNode.{SymlinkNode}

@@ -2,11 +2,11 @@
 use Rattle.std.specs.Prelude.{◌≡◌, true, ℕ, ℤ, List, ◌++◌, map, option_map, Option, Result, Ok, IfSome, FitsSigned}
 use Rattle.std.specs.Str.{is_utf8}
 use Rattle.std.specs.Int.{w32}
-use Rattle.message_fields.specs.declared.error.MessageError.{MessageError}
-use Rattle.message_fields.specs.Results.{◌>>=◌}
-use Rattle.message_fields.specs.Record.{Record}
-use Rattle.message_fields.specs.Fields.{embedded_value, int32, repeated_octets, string}
-use Rattle.message_fields.specs.Parts.{embedded_field, int32_field, repeated_octets_field, string_field}
+use Rattle.protobuf_wire.specs.declared.error.MessageError.{MessageError}
+use Rattle.protobuf_wire.specs.Results.{◌>>=◌}
+use Rattle.protobuf_wire.specs.Record.{Record}
+use Rattle.protobuf_wire.specs.Fields.{embedded_value, int32, repeated_octets, string}
+use Rattle.protobuf_wire.specs.Parts.{embedded_field, int32_field, repeated_octets_field, string_field}
 use Rattle.tree_messages.specs.declared.get_tree.GetTreeRequest.{GetTreeRequest}
 use Rattle.tree_messages.specs.declared.get_tree.GetTreeResponse.{GetTreeResponse}
 use Rattle.reapi_messages.specs.Digests.{DigestValue, FitsDigest, digest_shown, digest_of, digest_records}

@@ -3,12 +3,12 @@ use Rattle.std.specs.Prelude.{◌≡◌, true, Bool, ℕ, ℤ, List, ◌++◌, m
 use Rattle.std.specs.Str.{is_utf8}
 use Rattle.std.specs.Int.{w32}
 use Rattle.std.specs.List.{AllByRecursion}
-use Rattle.message_fields.specs.declared.error.MessageError.{MessageError}
-use Rattle.message_fields.specs.Results.{◌>>=◌}
-use Rattle.message_fields.specs.Record.{Record}
-use Rattle.message_fields.specs.Fields.{embedded_value, flag, int32, octets, repeated_values, string}
-use Rattle.message_fields.specs.Parts.{embedded_field, flag_field, int32_field, repeated_field, string_field}
-use Rattle.message_fields.specs.Writing.{bytes_field}
+use Rattle.protobuf_wire.specs.declared.error.MessageError.{MessageError}
+use Rattle.protobuf_wire.specs.Results.{◌>>=◌}
+use Rattle.protobuf_wire.specs.Record.{Record}
+use Rattle.protobuf_wire.specs.Fields.{embedded_value, flag, int32, octets, repeated_values, string}
+use Rattle.protobuf_wire.specs.Parts.{embedded_field, flag_field, int32_field, repeated_field, string_field}
+use Rattle.protobuf_wire.specs.Writing.{bytes_field}
 use Rattle.tree_messages.specs.declared.results.OutputFile.{OutputFile}
 use Rattle.tree_messages.specs.declared.results.OutputDirectory.{OutputDirectory}
 use Rattle.tree_messages.specs.declared.results.ActionResult.{ActionResult}

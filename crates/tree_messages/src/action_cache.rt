@@ -3,7 +3,7 @@
 ghost use Rattle.std.specs.Prelude.{◌≡◌};
 
 use crate::results::ActionResult;
-use message_fields::{
+use protobuf_wire::{
     Field, Message, MessageError, Writer, embedded, int32, put_embedded, put_int32, put_sent,
     put_string, sent, string,
 };

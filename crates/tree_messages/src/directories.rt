@@ -2,7 +2,7 @@
 
 ghost use Rattle.std.specs.Prelude.{◌≡◌};
 
-use message_fields::{
+use protobuf_wire::{
     Field, Message, MessageError, Writer, embedded, flag, put_embedded, put_flag, put_repeated,
     put_string, repeated, string,
 };

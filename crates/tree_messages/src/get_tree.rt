@@ -2,7 +2,7 @@
 
 ghost use Rattle.std.specs.Prelude.{◌≡◌};
 
-use message_fields::{
+use protobuf_wire::{
     Field, Message, MessageError, Writer, embedded, int32, put_embedded, put_int32,
     put_repeated_octets, put_string, repeated_octets, string,
 };

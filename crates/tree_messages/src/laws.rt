@@ -1,7 +1,7 @@
 //! What reading and writing messages have to do with each other: a message that is written means
 //! what it was written for.
 
-ghost use Rattle.message_fields.specs.Again.{AreReadAgain};
+ghost use Rattle.protobuf_wire.specs.Again.{AreReadAgain};
 ghost use Rattle.tree_messages.specs.Directories.{FitsDirectory, FitsTree, directory_of, directory_records, tree_of, tree_records};
 ghost use Rattle.tree_messages.specs.Results.{FitsActionResult, action_result_of, action_result_records};
 ghost use Rattle.tree_messages.specs.GetTree.{FitsGetTreeRequest, FitsGetTreeResponse, get_tree_request_of, get_tree_request_records, get_tree_response_of, get_tree_response_records};

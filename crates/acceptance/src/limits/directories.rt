@@ -1,7 +1,7 @@
 //! Directories of a wanted number or size, and the digests that name them.
 
 use digest::Digest;
-use message_fields::Message;
+use protobuf_wire::Message;
 use reapi_messages::Digest as WrittenDigest;
 use tool_programs::Output;
 use tree_messages::{Directory, DirectoryNode, SymlinkNode};

@@ -1,7 +1,7 @@
 //! The bytes of requests.
 
 use crate::limits::directories::Blob;
-use message_fields::Message;
+use protobuf_wire::Message;
 use reapi_messages::{BatchUpdateBlobsRequest, UpdateBlobRequest};
 use tool_programs::Output;
 use tree_messages::{

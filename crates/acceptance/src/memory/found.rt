@@ -2,7 +2,7 @@
 
 use crate::limits::client::Client;
 use crate::numbers::number;
-use message_fields::Message;
+use protobuf_wire::Message;
 use reapi_messages::{Digest, FindMissingBlobsRequest};
 use script::{lines, words};
 use server_core::Server;

@@ -1,6 +1,6 @@
 //! Fields of messages as they are read and written.
 
-use message_fields::*;
+use protobuf_wire::*;
 use std::alloc::{AllocError, Global};
 use std::test::*;
 
@@ -104,9 +104,9 @@ struct Size {
 
 impl<'a> Message<'a> for Size {
     ghost use Rattle.std.specs.Prelude.{ℤ, List, Ok, Result};
-    ghost use Rattle.message_fields.specs.Record.{Record};
-    ghost use Rattle.message_fields.specs.Fields.{int64};
-    ghost use Rattle.message_fields.specs.Parts.{int64_field};
+    ghost use Rattle.protobuf_wire.specs.Record.{Record};
+    ghost use Rattle.protobuf_wire.specs.Fields.{int64};
+    ghost use Rattle.protobuf_wire.specs.Parts.{int64_field};
 
     ghost Value = { ℤ };
 

@@ -1,5 +1,5 @@
 use Rattle.std.proofs.Common.{◌≡◌, Some, Ok, arith, rules}
-use Rattle.message_fields.specs.Shown.{record_shown}
+use Rattle.protobuf_wire.specs.Shown.{record_shown}
 use Rattle.protobuf_wire.specs.Reading.{record_at, step}
 use Rattle.action_cache.proofs.Looks.{step_left}
 use Rattle.action_cache.proofs.TreeRecords.{read_next}

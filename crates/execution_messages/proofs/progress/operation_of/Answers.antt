@@ -1,5 +1,5 @@
 use Rattle.std.proofs.Common.{◌≡◌, List, ℕ, Bool, Option, Some, IfOk, option_map, ap, subst, ◌∙◌}
-use Rattle.message_fields.specs.Parts.{text_for}
+use Rattle.protobuf_wire.specs.Parts.{text_for}
 use Rattle.reapi_messages.specs.Statuses.{AnyValue, any_shown}
 use Rattle.execution_messages.specs.Operations.{operation_records}
 use Rattle.execution_messages.specs.Progress.{operation_of, metadata_url, response_any}

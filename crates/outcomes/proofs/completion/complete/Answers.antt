@@ -1,6 +1,6 @@
 use Rattle.std.proofs.Common.{rules, ◌≡◌, ◌++◌, true, map, subst, ap, ◌∙◌}
 use Rattle.std.specs.Global.{Vec}
-use Rattle.message_fields.specs.Parts.{text_for}
+use Rattle.protobuf_wire.specs.Parts.{text_for}
 use Rattle.tree_messages.specs.Results.{action_result_records}
 use Rattle.run_calls.specs.declared.outcome.Output.{Output}
 use Rattle.run_calls.specs.declared.outcome.Streams.{Streams}

@@ -1,8 +1,8 @@
 use Rattle.std.proofs.Common.{◌≡◌, List, ◌++◌, OnOk, rules}
 use Rattle.std.proofs.lemmas.Result.{on_ok_weaker}
-use Rattle.message_fields.specs.Record.{Record}
-use Rattle.message_fields.specs.Writing.{followed_by_records}
-use Rattle.message_fields.specs.Parts.{embedded_field, int32_field, int64_field, repeated_enum_field}
+use Rattle.protobuf_wire.specs.Record.{Record}
+use Rattle.protobuf_wire.specs.Writing.{followed_by_records}
+use Rattle.protobuf_wire.specs.Parts.{embedded_field, int32_field, int64_field, repeated_enum_field}
 use Rattle.reapi_messages.specs.Capabilities.{action_cache_update_capabilities_records, cache_capabilities_shown}
 use Rattle.reapi_messages.proofs.Steps.{written_next}
 use Rattle.reapi_messages.proofs.capabilities.CacheCapabilitiesMessage.write.Goals as goal

@@ -1,8 +1,8 @@
 use Rattle.std.proofs.Common.{◌≡◌, List, ◌++◌, OnOk, rules}
 use Rattle.std.proofs.lemmas.Result.{on_ok_weaker}
-use Rattle.message_fields.specs.Record.{Record}
-use Rattle.message_fields.specs.Writing.{followed_by_records}
-use Rattle.message_fields.specs.Parts.{embedded_field, int32_field, string_field}
+use Rattle.protobuf_wire.specs.Record.{Record}
+use Rattle.protobuf_wire.specs.Writing.{followed_by_records}
+use Rattle.protobuf_wire.specs.Parts.{embedded_field, int32_field, string_field}
 use Rattle.reapi_messages.specs.Digests.{digest_records}
 use Rattle.tree_messages.specs.GetTree.{get_tree_request_shown}
 use Rattle.tree_messages.proofs.Texts.{written_next}

@@ -1,0 +1,11 @@
+use Rattle.std.proofs.Common.{◌≡◌, map, length}
+use Rattle.protobuf_wire.specs.Writing.{followed_by_records}
+use Rattle.protobuf_wire.specs.Parts.{repeated_octets_field}
+use Rattle.protobuf_wire.proofs.parts.put_repeated_octets.Given as goal
+
+abbrev pub invariant-values : goal.invariant-values
+invariant-values l = followed_by_records l.writer (repeated_octets_field l.field (map (λ b. b.now) l.left))
+    ≡ followed_by_records l.fn.writer (repeated_octets_field l.field (map (λ b. b.now) l.values))
+
+abbrev pub decreases-values : goal.decreases-values
+decreases-values l = length l.left

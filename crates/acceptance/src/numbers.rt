@@ -1,6 +1,6 @@
 //! Numbers in the lines of cases.
 
-use decimals::decimal;
+use numerals::decimal;
 use tool_programs::{Fault, Output};
 
 /// The number that a word is; where it is none, that is remembered.

@@ -7,8 +7,8 @@ use Rattle.std.specs.Result.{result_ok}
 use Rattle.std.specs.Str.Parse.{AllDigits, ParsesUnsigned, without_leading_plus}
 use Rattle.std.proofs.lemmas.Bool.{lt-ltb, ltb-true}
 use Rattle.std.proofs.lemmas.Bool.Decides.{nat_tests}
-use Rattle.decimals.specs.Number.{decimal_value, is_decimal, is_decimal_digit}
-use Rattle.decimals.proofs.NumberLemmas.{AllDigits-from_list_all}
+use Rattle.numerals.specs.Number.{decimal_value, is_decimal, is_decimal_digit}
+use Rattle.numerals.proofs.NumberLemmas.{AllDigits-from_list_all}
 use Rattle.clap.specs.Words.{App, Text, is_simple, one_text, rows_of, subcommand_of, subcommand_rows_of, HasMatchesOf}
 use Rattle.clap.specs.Matches.{ReadsOne}
 use Rattle.clap.proofs.WalkLemmas.{both, one_text-rows}

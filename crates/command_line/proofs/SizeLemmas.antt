@@ -4,7 +4,7 @@ use Rattle.std.proofs.lemmas.Bool.Decides.{nat_tests}
 use Rattle.std.proofs.Math.Seq.{take-append_seam}
 use Rattle.std.specs.Option.{SomeIff}
 use Rattle.std.specs.Prelude.{nat_lt, option_and_then, slice_get}
-use Rattle.decimals.specs.Number.{decimal_of}
+use Rattle.numerals.specs.Number.{decimal_of}
 use Rattle.command_line.specs.Size.{in_units, last_unit, size_of, unit_of}
 
 last_item : (rest : List ℕ) (letter : ℕ) → slice_get (rest ++ (letter ∷ [])) (length rest) ≡ Some letter

@@ -5,7 +5,7 @@ use Rattle.std.proofs.lemmas.Bool.Decides.{nat_tests}
 use Rattle.std.proofs.lemmas.List.{length-append}
 use Rattle.std.specs.List.{list_all}
 use Rattle.std.specs.Prelude.{nat_lt, option_and_then, slice_get}
-use Rattle.decimals.specs.Number.{is_decimal, is_decimal_digit, decimal_of, decimal_value}
+use Rattle.numerals.specs.Number.{is_decimal, is_decimal_digit, decimal_of, decimal_value}
 use Rattle.command_line.specs.Size.{IsPlainSize, IsSize, IsUnitSize, in_units, last_unit, size_of, unit_of}
 use Rattle.command_line.proofs.SizeLemmas.{size_of-unit}
 

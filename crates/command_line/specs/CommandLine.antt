@@ -2,7 +2,7 @@
 use Rattle.std.specs.Prelude.{ℕ, pos, Bool, true, false, ◌&&◌, ◌||◌, ◌==◌, ◌^◌, nat_le, nat_lt, List, [], ◌∷◌, Option, Some, None, codes, if◌then◌else◌, is_none, is_some, option_map, option_and_then}
 use Rattle.std.specs.Str.{bytes_eq}
 use Rattle.std.specs.Str.Parse.{without_leading_plus}
-use Rattle.decimals.specs.Number.{decimal_value, is_decimal}
+use Rattle.numerals.specs.Number.{decimal_value, is_decimal}
 use Rattle.command_line.specs.Size.{size_of}
 use Rattle.instance_limits.specs.Limits.{LimitsValue, usual_limits}
 use Rattle.clap.specs.Words.{App, Row, Rule, Shape, Text, all_of, first_of, new_app, new_rule, one_of, with_rule, with_subcommand}

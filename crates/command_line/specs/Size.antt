@@ -1,6 +1,6 @@
 -- Numbers of bytes, as options write them: `1000`, `500M`, `8G`.
 use Rattle.std.specs.Prelude.{◌≡◌, ◌⊎◌, ◌*◌, ◌^◌, ◌-◌, ◌==◌, ◌++◌, ℕ, true, nat_lt, if◌then◌else◌, List, [], ◌∷◌, length, take, Option, Some, None, option_and_then, slice_get}
-use Rattle.decimals.specs.Number.{decimal_of, decimal_value, is_decimal}
+use Rattle.numerals.specs.Number.{decimal_of, decimal_value, is_decimal}
 
 -- how many bytes are in the unit of a letter: in `K`, `M`, `G` and `T` (75, 77, 71, 84) the first
 -- four powers of 1,024

@@ -3,7 +3,7 @@
 ghost use Rattle.std.specs.Prelude.{◌≡◌};
 ghost use Rattle.command_line.specs.Size.{size_of, unit_of};
 
-use decimals::decimal;
+use numerals::decimal;
 
 /// How many bytes are in the unit of a letter: a power of 1,024.
 fn unit(letter: u8) -> Option<u64>

@@ -4,7 +4,7 @@ use Rattle.std.specs.Prelude.{ℕ, Bool, true, List, [], ◌∷◌, drop, nat_eq
 use Rattle.std.specs.List.{starts_with}
 use Rattle.rpc.specs.declared.refusal.Refusal.{Refusal}
 use Rattle.rpc.specs.declared.refusal.Refusal.TheVariants.{UnknownOperation}
-use Rattle.decimals.specs.Number.{decimal_of}
+use Rattle.numerals.specs.Number.{decimal_of}
 use Rattle.job_queue.specs.Jobs.{Jobs, StageValue, waits, runs, has_ended, stage_of}
 use Rattle.execution_messages.specs.Progress.{queued_text, executing_text}
 use Rattle.execution.specs.Job.{JobValue}

@@ -12,10 +12,10 @@ ghost use Rattle.execution.specs.Waiting.{begins_with_zero, number_of_digits, nu
 use crate::answer::WaitAnswer;
 use crate::job::Job;
 use cas_service::CallError;
-use decimals::decimal;
 use digest::Digest;
 use execution_messages::{ExecutionStage, unfinished};
 use job_queue::{Queue, Stage};
+use numerals::decimal;
 use rpc::Refusal;
 use std::alloc::{AllocError, Global};
 

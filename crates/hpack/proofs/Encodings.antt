@@ -6,7 +6,7 @@ use Rattle.std.proofs.lemmas.Slice.Eq.{bytes_eq-Decides}
 use Rattle.std.proofs.lemmas.List.Concat.{flat_map-cons}
 use Rattle.std.specs.List.{flat_map}
 use Rattle.std.specs.Str.{bytes_eq}
-use Rattle.base128.proofs.Groups.{groups_are, groups_few}
+use Rattle.numerals.proofs.Groups.{groups_are, groups_few}
 use Rattle.hpack.specs.Header.{Header, size_of, total_size}
 use Rattle.hpack.specs.Integer.{AreGroups, IsInteger, groups, integer_text}
 use Rattle.hpack.specs.StringLiteral.{IsString, string_text}

@@ -1,7 +1,7 @@
 -- Integers: what is read is spelled so, and what is spelled so is read.
 use Rattle.std.proofs.Common.{◌≡◌, ℕ, ◌+◌, ◌-◌, ◌*◌, ◌^◌, ◌<◌, ◌≤◌, true, false, cond, ltb, leb, List, [], ◌∷◌, ◌++◌, length, Ok, Err, refl, sym, ap, subst, arith, inl, inr}
 use Rattle.std.proofs.lemmas.Bool.{ltb-true, ltb-false, lt-ltb, le-ltb, leb-false, lt-leb}
-use Rattle.base128.proofs.Groups.{more_groups}
+use Rattle.numerals.proofs.Groups.{more_groups}
 use Rattle.hpack.specs.declared.error.HpackError.TheVariants.{Integer}
 use Rattle.hpack.specs.Results.{◌>>=◌}
 use Rattle.hpack.specs.Integer.{AreGroups, IsInteger, below_limit, groups_at, integer_at}

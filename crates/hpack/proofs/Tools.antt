@@ -1,7 +1,7 @@
 -- Steps that succeeded, and tests that were passed.
 use Rattle.std.proofs.Common.{◌≡◌, Bool, true, false, cond, Option, Some, None, Result, Ok, Err, refl}
-pub use Rattle.base128.proofs.Steps.{bind_ok, bind_err, chosen, passed, ok_is}
-pub use Rattle.base128.proofs.Fronts.{Fronts}
+pub use Rattle.numerals.proofs.Steps.{bind_ok, bind_err, chosen, passed, ok_is}
+pub use Rattle.numerals.proofs.Fronts.{Fronts}
 use Rattle.hpack.specs.Representation.{entry_or_fault}
 
 -- a test that had to be met

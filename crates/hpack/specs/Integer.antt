@@ -1,7 +1,7 @@
 -- Integers: RFC 7541, section 5.1.
 use Rattle.std.specs.Prelude.{◌≡◌, ℕ, ◌+◌, ◌-◌, ◌*◌, ◌^◌, ◌<◌, ◌≤◌, List, [], ◌∷◌, length, Result, Ok, Err, nat_lt, nat_le, if◌then◌else◌}
-pub use Rattle.base128.specs.Groups.{AreGroups}
-unfoldable pub use Rattle.base128.specs.Groups.{groups_in, groups}
+pub use Rattle.numerals.specs.Groups.{AreGroups}
+unfoldable pub use Rattle.numerals.specs.Groups.{groups_in, groups}
 use Rattle.hpack.specs.declared.error.HpackError.{HpackError}
 use Rattle.hpack.specs.declared.error.HpackError.TheVariants.{Integer}
 use Rattle.hpack.specs.Results.{◌>>=◌}

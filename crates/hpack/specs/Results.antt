@@ -1,6 +1,6 @@
 -- Steps of reading that may fail, where running out of memory says nothing of the octets.
 use Rattle.std.specs.Prelude.{◌≡◌, Result, Ok, Err}
-pub use Rattle.base128.specs.Results.{◌>>=◌, Gives}
+pub use Rattle.numerals.specs.Results.{◌>>=◌, Gives}
 use Rattle.hpack.specs.declared.error.HpackError.{HpackError}
 use Rattle.hpack.specs.declared.error.HpackError.TheVariants.{NoMemory}
 

@@ -6,7 +6,7 @@ ghost use Rattle.hpack.specs.Integer as spec;
 ghost use Rattle.hpack.specs.Integer.{groups_at, integer_at, integer_text};
 
 use crate::error::HpackError;
-use base128::push_groups;
+use numerals::push_groups;
 use std::alloc::AllocError;
 
 /// Refuses a number of 2^32 or more.

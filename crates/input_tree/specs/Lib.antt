@@ -7,7 +7,7 @@ pub mod Answers
 pub mod Texts
 pub mod Pages
 pub mod Uses
-pub use Rattle.decimals.specs.Number
+pub use Rattle.numerals.specs.Number
 pub mod NodeTexts
 pub mod Taking
 pub mod Work

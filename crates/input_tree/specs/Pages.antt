@@ -5,7 +5,7 @@ use Rattle.protobuf_wire.specs.Results.{◌>>=◌}
 use Rattle.protobuf_wire.specs.Writing.{records_text}
 use Rattle.protobuf_wire.specs.Parts.{text_for, repeated_octets_field}
 use Rattle.digest.specs.declared.Digest.{Digest}
-use Rattle.decimals.specs.Number.{decimal_of}
+use Rattle.numerals.specs.Number.{decimal_of}
 use Rattle.tree_messages.specs.GetTree.{GetTreeResponseValue, get_tree_response_records}
 use Rattle.input_tree.specs.Listing.{Lookup, tree_list}
 use Rattle.input_tree.specs.declared.error.TreeRefusal.{TreeRefusal}

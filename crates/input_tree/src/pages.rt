@@ -8,9 +8,9 @@ ghost use Rattle.input_tree.specs.Work.{texts_length};
 ghost use Rattle.instance_view.specs.Texts.{look_of};
 
 use crate::directory::text_or_none;
-use decimals::decimal;
 use digest::Digest;
 use instance_view::{Sight, Texts, Work};
+use numerals::decimal;
 use protobuf_wire::{Message, Writer};
 use std::alloc::{AllocError, Global};
 use tree_messages::GetTreeResponse;

@@ -1,6 +1,6 @@
 -- What words say of instances: `NAME:PORT:QUOTA:SLOTS[:PARENT]`.
 use Rattle.std.specs.Prelude.{◌≡◌, ℕ, List, [], ◌∷◌, ◌++◌, Option, Some, None, codes, ⊤}
-use Rattle.decimals.specs.Number.{decimal_of}
+use Rattle.numerals.specs.Number.{decimal_of}
 use Rattle.server_events.specs.Limits.{LimitsValue}
 use Rattle.server_events.specs.Configs.{ConfigValue}
 

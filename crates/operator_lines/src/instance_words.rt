@@ -3,14 +3,14 @@
 mod mistakes;
 
 ghost use Rattle.std.specs.Prelude.{◌≡◌, ◌++◌, ◌+◌, IfNone, IfOk, IfSome, Some, codes, map, option_map, string_bytes};
-ghost use Rattle.decimals.specs.Number.{decimal_of};
+ghost use Rattle.numerals.specs.Number.{decimal_of};
 ghost use Rattle.server_events.specs.LimitsShown.{limits_value};
 ghost use Rattle.server_events.specs.Shown.{config_value};
 ghost use Rattle.operator_lines.specs.Mistakes.{colons};
 ghost use Rattle.operator_lines.specs.Words.{AreWordsOf, IsWordOf, parent_part, written};
 
-use decimals::decimal;
 pub(crate) use mistakes::{Mistake, mistake_of, parent_mistake_of};
+use numerals::decimal;
 use server_events::{ConfigFault, Configs, InstanceConfig, Limits};
 use std::alloc::{AllocError, Global};
 use thiserror::Error;

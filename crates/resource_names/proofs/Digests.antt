@@ -15,8 +15,8 @@ use Rattle.digest.specs.Text.{hash_text, hash_in, is_lower_hex_digit}
 use Rattle.digest.proofs.Writings.{hash_found, hash_read}
 use Rattle.resource_names.specs.declared.name.NameError.TheVariants as Fault
 use Rattle.resource_names.specs.Names.{◌>>=◌, or_fault, digest_of_segments}
-use Rattle.decimals.specs.Number.{is_decimal_digit}
-use Rattle.decimals.proofs.NumberLemmas.{AllDigits-from_list_all}
+use Rattle.numerals.specs.Number.{is_decimal_digit}
+use Rattle.numerals.proofs.NumberLemmas.{AllDigits-from_list_all}
 use Rattle.resource_names.specs.Size.{is_numeral, size_in}
 use Rattle.resource_names.specs.Written.{HasNoSlash, IsNameable, digest_text}
 use Rattle.resource_names.proofs.SizeLemmas.{numeral_digits}

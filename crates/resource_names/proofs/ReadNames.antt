@@ -3,7 +3,7 @@ use Rattle.std.proofs.Common.{◌≡◌, ℕ, ◌||◌, Bool, true, false, cond,
 use Rattle.std.specs.Prelude.{codes}
 use Rattle.std.specs.Fmt.{decimal}
 use Rattle.std.specs.List.{AllByRecursion}
-use Rattle.base128.proofs.Steps.{bind_ok}
+use Rattle.numerals.proofs.Steps.{bind_ok}
 use Rattle.digest.specs.declared.Digest.{Digest}
 use Rattle.digest.specs.Text.{hash_text}
 use Rattle.resource_names.specs.declared.name.NameError.TheVariants.{Form, Compressed}

@@ -6,8 +6,8 @@ use Rattle.std.specs.Prelude.{nat_lt, nat_eq, codes}
 use Rattle.std.specs.Str.{bytes_eq}
 use Rattle.std.proofs.lemmas.Slice.Eq.{bytes_eq-Decides}
 use Rattle.std.specs.Str.Parse.{ParsesUnsigned, digits_value}
-use Rattle.decimals.specs.Number.{is_decimal_digit}
-use Rattle.decimals.proofs.NumberLemmas.{AllDigits-from_list_all, without_leading_plus-digits}
+use Rattle.numerals.specs.Number.{is_decimal_digit}
+use Rattle.numerals.proofs.NumberLemmas.{AllDigits-from_list_all, without_leading_plus-digits}
 use Rattle.resource_names.specs.Size.{is_numeral, size_in}
 
 some_digits : (text : List ℕ) (zero some first all : Bool) → (zero ≡ true → text ≡ codes "0")

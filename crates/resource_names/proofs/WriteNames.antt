@@ -6,7 +6,7 @@ use Rattle.std.proofs.lemmas.List.{append-nil}
 use Rattle.std.specs.List.{AllByRecursion, join_with_byte}
 use Rattle.std.proofs.lemmas.Bool.Decides.{nat_tests}
 use Rattle.std.proofs.lemmas.Slice.Eq.{bytes_eq-Decides}
-use Rattle.base128.proofs.Steps.{bind_ok}
+use Rattle.numerals.proofs.Steps.{bind_ok}
 use Rattle.digest.specs.Text.{hash_text}
 use Rattle.resource_names.specs.declared.name.NameError.TheVariants.{Form}
 use Rattle.resource_names.specs.Names.{WriteNameValue, or_fault, is_blobs, divides_write, upload_compression_check, instance_of, uuid_of, blobs_place, digest_of_segments, upload_named, write_name}

@@ -3,7 +3,7 @@ use Rattle.std.specs.Prelude.{ℕ, ◌^◌, Bool, ◌&&◌, ◌||◌, not, nat_e
 use Rattle.std.specs.List.{list_all, starts_with}
 use Rattle.std.specs.Str.{bytes_eq}
 use Rattle.std.specs.Str.Parse.{digits_value}
-use Rattle.decimals.specs.Number.{is_decimal_digit}
+use Rattle.numerals.specs.Number.{is_decimal_digit}
 
 -- `0`, or decimal digits of which the first is not `0`
 abbrev pub is_numeral : List ℕ → Bool

@@ -4,7 +4,7 @@ ghost use Rattle.std.specs.Prelude.{◌≡◌, ◌<◌, IfSome};
 ghost use Rattle.resource_names.specs.Size as sizes;
 ghost use Rattle.resource_names.specs.Size.{size_in, size_limit};
 
-use decimals::are_digits;
+use numerals::are_digits;
 
 /// Whether a text is `0`, or decimal digits of which the first is not `0`.
 fn is_numeral(text: &str) -> bool
@@ -15,7 +15,7 @@ fn is_numeral(text: &str) -> bool
 }
 
 /// The size that a segment writes: at most 2^63 - 1, as `size_bytes` of a digest. A numeral has no
-/// leading zeros, so that a size is written in one way, which `decimals::decimal` does not ask for.
+/// leading zeros, so that a size is written in one way, which `numerals::decimal` does not ask for.
 pub(crate) fn size(text: &str) -> Option<u64>
     ensures value { result ≡ size_in text.now }
     ensures most { IfSome result (λ size. size < size_limit) }

@@ -2,10 +2,10 @@
 
 ghost use Rattle.std.specs.Prelude.{◌≡◌, Ok, Some, true, IfOk, IfSome, IsTrue};
 ghost use Rattle.std.specs.List.{after_first, after_last, before_first};
-ghost use Rattle.decimals.specs.Number.{decimal_of};
+ghost use Rattle.numerals.specs.Number.{decimal_of};
 ghost use Rattle.system.specs.Processes.{ShowsSession, WasIn, is_bracket, is_space, word};
 
-use decimals::decimal;
+use numerals::decimal;
 use std::alloc::Global;
 use std::io::{self, ErrorKind};
 use std::str;

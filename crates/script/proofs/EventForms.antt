@@ -4,7 +4,7 @@ use Rattle.std.proofs.lemmas.Slice.Eq.{bytes_eq-Decides}
 use Rattle.std.specs.Prelude.{option_map, option_and_then}
 use Rattle.std.specs.Str.{bytes_eq}
 use Rattle.script.specs.Hexadecimal.{bytes_of_hex, hex_word}
-use Rattle.decimals.specs.Number.{decimal_of}
+use Rattle.numerals.specs.Number.{decimal_of}
 use Rattle.script.proofs.HexadecimalLemmas.{IsBytes-bytes_of_hex, bytes_of_hex-hex_word, hex_word-bytes_of_hex}
 use Rattle.run_calls.specs.Outcomes.{exited, failed}
 use Rattle.server_events.specs.Events.{WhatValue, opened, received, took, closed, tick, ended}

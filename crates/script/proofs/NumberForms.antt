@@ -4,8 +4,8 @@ use Rattle.std.proofs.lemmas.Bool.{and_parts}
 use Rattle.std.proofs.lemmas.Bool.Decides.{nat_tests}
 use Rattle.std.specs.List.{list_all}
 use Rattle.std.specs.Prelude.{nat_lt, option_map, option_and_then}
-use Rattle.decimals.specs.Number.{decimal_of, is_decimal_digit}
-use Rattle.decimals.proofs.NumberLemmas.{digits-decimal_of}
+use Rattle.numerals.specs.Number.{decimal_of, is_decimal_digit}
+use Rattle.numerals.proofs.NumberLemmas.{digits-decimal_of}
 use Rattle.script.specs.Arguments.{decimal_below, exit_code_of}
 use Rattle.script.specs.ReplayLines.{IsNumber, IsExitCode}
 use Rattle.script.proofs.Somes.{mapped, chained, chosen}

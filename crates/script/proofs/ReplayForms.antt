@@ -11,7 +11,7 @@ use Rattle.std.specs.List.{All, AllPass, find, list_all}
 use Rattle.std.specs.Option.{option_map_or}
 use Rattle.std.specs.Prelude.{◌↔◌, ◌⊎◌, Option, IfSome, nat_lt, is_none, option_map, option_and_then}
 use Rattle.std.specs.Str.{bytes_eq}
-use Rattle.decimals.specs.Number.{decimal_of}
+use Rattle.numerals.specs.Number.{decimal_of}
 use Rattle.script.specs.Parts.{words_of}
 use Rattle.script.proofs.SplitLemmas.{Lacks-parts_of, parts_of-join}
 use Rattle.server_events.specs.Configs.{ConfigValue, instance_limit, own_fault}

@@ -9,10 +9,10 @@ use Rattle.std.proofs.lemmas.Slice.Eq.{bytes_eq-Decides}
 use Rattle.std.specs.List.{All, position_or_len}
 use Rattle.std.specs.Str.{bytes_eq}
 use Rattle.script.specs.Hexadecimal.{bytes_of_hex, hex_word}
-use Rattle.decimals.specs.Number.{decimal_of, is_decimal_digit}
+use Rattle.numerals.specs.Number.{decimal_of, is_decimal_digit}
 use Rattle.script.specs.Parts.{spaced_line, words_of}
 use Rattle.script.proofs.HexadecimalLemmas.{IsBytes-bytes_of_hex, Lacks_space-hex_word, bytes_of_hex-hex_word, hex_word-bytes_of_hex}
-use Rattle.decimals.proofs.NumberLemmas.{digits-decimal_of}
+use Rattle.numerals.proofs.NumberLemmas.{digits-decimal_of}
 use Rattle.script.proofs.SplitLemmas.{Lacks, Lacks-passing, parts_of-join}
 use Rattle.server_events.specs.Instance.{IsInstanceName, is_instance_name_byte, quota_limit}
 use Rattle.server_events.proofs.NameLemmas.{is_instance_name-true}

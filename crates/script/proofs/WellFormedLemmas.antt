@@ -17,7 +17,7 @@ use Rattle.script.specs.declared.unary.parser.UnaryLines.{UnaryLines}
 use Rattle.script.specs.UnaryShown.{command_value, entry_value, instance_value}
 use Rattle.script.specs.UnaryLinesRead.{lines_value}
 use Rattle.script.specs.Hexadecimal.{bytes_of_hex}
-use Rattle.decimals.specs.Number.{decimal_of}
+use Rattle.numerals.specs.Number.{decimal_of}
 use Rattle.script.specs.Parts.{words_of, lines_of}
 use Rattle.server_events.specs.Instance.{IsInstanceName, is_instance_name, quota_limit}
 use Rattle.server_events.proofs.NameLemmas.{IsInstanceName-from_test}

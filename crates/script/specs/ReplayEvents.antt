@@ -5,7 +5,7 @@ use Rattle.std.specs.List.{list_all}
 use Rattle.std.specs.Option.{option_or}
 use Rattle.std.specs.Str.{bytes_eq}
 use Rattle.script.specs.Hexadecimal.{bytes_of_hex}
-use Rattle.decimals.specs.Number.{decimal_of}
+use Rattle.numerals.specs.Number.{decimal_of}
 use Rattle.run_calls.specs.Outcomes.{OutcomeValue, OutputValue, exited, failed, output_file}
 use Rattle.server_events.specs.Events.{WhatValue, opened, received, took, closed, tick, ended, EventValue}
 use Rattle.script.specs.Arguments.{number_of, exit_code_of, only_number_of}

@@ -4,7 +4,7 @@ use Rattle.std.specs.Char.{is_ascii}
 use Rattle.std.specs.List.{All, AllPass}
 use Rattle.std.specs.Option.{option_to_list}
 use Rattle.script.specs.Hexadecimal.{IsBytes, hex_word}
-use Rattle.decimals.specs.Number.{decimal_of}
+use Rattle.numerals.specs.Number.{decimal_of}
 use Rattle.script.specs.Arguments.{number_limit, exit_code_limit}
 use Rattle.script.specs.Parts.{spaced_line}
 use Rattle.server_events.specs.Configs.{ConfigValue, instance_limit}

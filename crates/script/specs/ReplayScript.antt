@@ -4,7 +4,7 @@ use Rattle.std.specs.List.{find}
 use Rattle.std.specs.Option.{option_map_or, option_to_list}
 use Rattle.std.specs.Str.{bytes_eq}
 use Rattle.script.specs.FirstBadLine.{after_lines}
-use Rattle.decimals.specs.Number.{decimal_of}
+use Rattle.numerals.specs.Number.{decimal_of}
 use Rattle.script.specs.Parts.{lines_of, words_of}
 use Rattle.server_events.specs.Configs.{ConfigValue, instance_limit, own_fault}
 use Rattle.server_events.specs.Events.{EventValue}

@@ -2,7 +2,7 @@
 use Rattle.std.specs.Prelude.{◌≡◌, ◌≢◌, ℕ, ◌<◌, ◌≤◌, ◌⊎◌, List, [], ◌∷◌, length, codes, Some}
 use Rattle.std.specs.List.{All, AllPairs}
 use Rattle.script.specs.Hexadecimal.{IsBytes, hex_word}
-use Rattle.decimals.specs.Number.{decimal_of}
+use Rattle.numerals.specs.Number.{decimal_of}
 use Rattle.script.specs.Parts.{spaced_line}
 use Rattle.server_events.specs.Instance.{IsInstanceName, quota_limit}
 use Rattle.script.specs.declared.unary.method.Method.{Method}

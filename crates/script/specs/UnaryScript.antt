@@ -4,7 +4,7 @@ use Rattle.std.specs.List.{position}
 use Rattle.std.specs.Str.{bytes_eq}
 use Rattle.script.specs.Hexadecimal.{bytes_of_hex}
 use Rattle.script.specs.FirstBadLine.{after_lines}
-use Rattle.decimals.specs.Number.{decimal_of}
+use Rattle.numerals.specs.Number.{decimal_of}
 use Rattle.script.specs.Parts.{lines_of, words_of}
 use Rattle.server_events.specs.Instance.{is_instance_name, quota_limit}
 use Rattle.script.specs.declared.unary.method.Method.{Method}

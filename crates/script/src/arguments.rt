@@ -5,7 +5,7 @@ ghost use Rattle.std.specs.List.{list_all};
 ghost use Rattle.script.specs.Arguments.{one_of, two_of, three_of, three_or_four_of, number_of, exit_code_of, only_number_of, ascii_of};
 
 use crate::Parts;
-use decimals::decimal;
+use numerals::decimal;
 use std::str;
 
 /// The number below 2^32 that a word writes in decimal.

@@ -1,7 +1,7 @@
 //! What is wrong with the first bad line of a script, for whoever wrote it.
 
 use crate::hexadecimal::are_lower_digits;
-use decimals::decimal;
+use numerals::decimal;
 use server_events::{INSTANCE_LIMIT, is_instance_name, is_quota};
 use std::str;
 

@@ -3,7 +3,7 @@ ghost use Rattle.std.specs.Prelude.{◌≡◌, ◌≢◌, ◌^◌, ◌<◌, ℕ,
 ghost use Rattle.std.specs.Fmt.{decimal};
 ghost use Rattle.std.specs.List.{All, join_with_byte};
 ghost use Rattle.script.specs.Hexadecimal.{bytes_of_hex, hex_word};
-ghost use Rattle.decimals.specs.Number.{decimal_of};
+ghost use Rattle.numerals.specs.Number.{decimal_of};
 ghost use Rattle.script.specs.Parts.{parts_of};
 
 /// The parts of a text, with the separator between each two, give the text back, and no part has

@@ -1,7 +1,7 @@
 -- What the system shows of processes.
 use Rattle.std.specs.Prelude.{◌≡◌, ◌==◌, ℕ, zero, suc, Bool, List, Some}
 use Rattle.std.specs.List.{before_first, after_first, after_last}
-use Rattle.decimals.specs.Number.{decimal_of}
+use Rattle.numerals.specs.Number.{decimal_of}
 
 -- `)`, which ends the name of a program
 abbrev pub is_bracket : ℕ → Bool

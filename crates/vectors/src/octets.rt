@@ -1,6 +1,6 @@
 //! How bytes and words stand in the vectors.
 
-use decimals::decimal;
+use numerals::decimal;
 use script::{hex_bytes, words};
 use std::alloc::AllocError;
 use tool_programs::{Fault, Output};

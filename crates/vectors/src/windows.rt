@@ -3,8 +3,8 @@
 ghost use Rattle.std.specs.Prelude.{◌≤◌, IfSome};
 
 use crate::octets::{BAD_LINE, named};
-use decimals::decimal;
 use http2_flow::{FlowError, MAX_SIZE, Window};
+use numerals::decimal;
 use script::words;
 use tool_programs::Output;
 

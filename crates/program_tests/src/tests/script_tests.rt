@@ -1,7 +1,7 @@
 //! Lines, words, numbers and bytes of scripts.
 
 use crate::tests::cases::{Case, all_hold};
-use decimals::decimal;
+use numerals::decimal;
 use script::*;
 use std::alloc::Global;
 use std::test::*;

@@ -7,7 +7,7 @@ use crate::arguments::{exit_code, number, one, only_number, two};
 use crate::fault::LineFault;
 use crate::replay::output::{read_content, read_outputs};
 use crate::{Parts, hex_bytes};
-use decimals::decimal;
+use numerals::decimal;
 use run_calls::{Exited, Outcome, Streams};
 use server_events::{Event, What};
 use std::alloc::Global;

@@ -8,7 +8,7 @@ ghost use Rattle.script.specs.ReplayShown.{form_value};
 
 use crate::arguments::{ascii_text, number, three_or_four};
 use crate::{Parts, lines, words};
-use decimals::decimal;
+use numerals::decimal;
 use server_events::Limits;
 use std::alloc::{AllocError, Global};
 

@@ -1,7 +1,7 @@
 use Rattle.std.proofs.Common.{arith}
 use Rattle.std.specs.Fmt.{decimal}
 use Rattle.std.proofs.lemmas.Fmt.{decimal_is_IsNumeral}
-use Rattle.decimals.proofs.NumberLemmas.{decimal_of-numeral}
+use Rattle.numerals.proofs.NumberLemmas.{decimal_of-numeral}
 use Rattle.script.proofs.laws.decimal_is_read_back.Goals as goal
 
 pub returns : goal.returns

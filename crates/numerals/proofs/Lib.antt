@@ -1,0 +1,4 @@
+pub mod Steps
+pub mod Fronts
+pub mod Groups
+pub mod NumberLemmas

@@ -51,7 +51,7 @@ pub trait Message<'a>: Sized + Drop {
     }
 
     /// The canonical text of the message, in a vector that is made with the room for it.
-    #[tactic(auto, using(protobuf_wire::proofs::Written::from_nothing))]
+    #[tactic(auto, using(crate::proofs::Written::from_nothing))]
     final fn encode(&self, alloc: Global) -> Result<Vec<u8>, AllocError>
         ensures { IfOk result (λ text. text.items ≡ text_for records_for (shown self.now)) }
     {
@@ -155,7 +155,7 @@ pub fn repeated<'a, M: Message<'a>>(
     Ok(messages)
 }
 
-#[tactic(auto, using(protobuf_wire::proofs::Written::payload_behind_head))]
+#[tactic(auto, using(crate::proofs::Written::payload_behind_head))]
 fn put_message<'a, M: Message<'a>>(
     writer: &mut Writer,
     field: u32,
@@ -172,7 +172,7 @@ fn put_message<'a, M: Message<'a>>(
 }
 
 /// Adds an embedded message where it is set, also one of length 0.
-#[tactic(auto, using(protobuf_wire::proofs::Written::followed_by_none))]
+#[tactic(auto, using(crate::proofs::Written::followed_by_none))]
 pub fn put_embedded<'a, M: Message<'a>>(
     writer: &mut Writer,
     field: u32,

@@ -95,7 +95,7 @@ pub fn put_repeated_octets(
 }
 
 /// Adds an embedded message by the bytes that were sent, where it is set.
-#[tactic(auto, using(protobuf_wire::proofs::Written::followed_by_none))]
+#[tactic(auto, using(crate::proofs::Written::followed_by_none))]
 pub fn put_sent(
     writer: &mut Writer,
     field: u32,
@@ -131,7 +131,7 @@ fn put_packed(writer: &mut Writer, values: &[i32]) -> Result<(), AllocError>
 }
 
 /// Adds a repeated enum, packed in one record.
-#[tactic(auto, using(protobuf_wire::proofs::Written::payload_behind_head, protobuf_wire::proofs::Written::followed_by_none))]
+#[tactic(auto, using(crate::proofs::Written::payload_behind_head, crate::proofs::Written::followed_by_none))]
 pub fn put_repeated_enum(writer: &mut Writer, field: u32, values: &[i32]) -> Result<(), AllocError>
     requires positive { 0 < field }
     requires small { field < field_number_limit }

@@ -29,7 +29,7 @@ fn put_each(writer: &mut Writer, pieces: &[&[u8]]) -> Result<(), AllocError>
     Ok(())
 }
 
-#[tactic(auto, using(protobuf_wire::proofs::Written::payload_behind_head, protobuf_wire::proofs::Written::followed_by_none))]
+#[tactic(auto, using(crate::proofs::Written::payload_behind_head, crate::proofs::Written::followed_by_none))]
 fn put_several(writer: &mut Writer, field: u32, pieces: &[&[u8]]) -> Result<(), AllocError>
     requires positive { 0 < field }
     requires small { field < field_number_limit }

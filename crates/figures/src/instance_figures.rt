@@ -393,7 +393,10 @@ fn refusal_metrics(metrics: &mut Metrics<'_>, refused: [u64; CAUSES]) -> Result<
         "Calls of Write and Execute that a limit ended, by cause.",
     )?;
     for (cause, count) in REFUSALS.iter().zip(refused.iter()) {
-        let labels = [label("method", cause.method), label("cause", cause.text)];
+        let labels = [
+            label("method", cause.method),
+            label("cause", cause.refusal.text()),
+        ];
         metrics.sample(&labels, Value::Whole(*count))?;
     }
     Ok(())

@@ -17,6 +17,6 @@ pub use in_words::tell_in_words;
 pub use instance_figures::ERROR_CODES;
 pub use jobs::{abandoned_jobs, open_jobs, watched_jobs};
 pub use prometheus::{InstanceMetrics, Kind, Label, Metrics, Value, metrics_text};
-pub use refusals::{CAUSES, MOST_UPLOADS, QUOTA, REFUSALS};
+pub use refusals::{CAUSES, QUOTA, REFUSALS};
 pub use server_figures::Figures;
 pub use turns::Turns;

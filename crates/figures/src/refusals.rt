@@ -3,17 +3,19 @@
 
 use crate::instance_figures::RESOURCE_EXHAUSTED;
 use instance_core::{CallCounts, Instance, InstanceSizes, MethodCounts};
-use rpc::Method;
+use job_queue::{MOST_RUNNING, MOST_WAITING};
+use rpc::{Method, Refusal};
+use uploads::MOST_UPLOADS;
 
 /// How many causes are told apart.
 pub const CAUSES: usize = 5;
 
-/// A cause: the method of the calls, the text of their status, and how a line says it; nothing
-/// where that is not the same at each instance.
+/// A cause: the method of the calls, why they are refused, and how a line says it; nothing where
+/// that is not the same at each instance.
 #[derive(Clone, Copy)]
 pub struct Cause {
     pub(crate) method: &'static str,
-    pub(crate) text: &'static str,
+    pub(crate) refusal: Refusal,
     pub line: &'static str,
 }
 
@@ -32,36 +34,33 @@ const REQUEST: usize = 4;
 pub const REFUSALS: [Cause; CAUSES] = [
     Cause {
         method: "Write",
-        text: "too many uploads",
+        refusal: Refusal::TooManyUploads,
         line: "uploads refused, 64 are unfinished, bound them in Bazel or in the proxy",
     },
     Cause {
         method: "Write",
-        text: "quota exceeded",
+        refusal: Refusal::QuotaExceeded,
         line: "",
     },
     Cause {
         method: "Write",
-        text: "message too large",
+        refusal: Refusal::MessageTooLarge,
         line: "uploads refused, their messages have more than 4194304 bytes",
     },
     Cause {
         method: "Execute",
-        text: "queue full",
+        refusal: Refusal::QueueFull,
         line: "actions refused, 1000 wait, use fewer --jobs or more slots",
     },
     Cause {
         method: "Execute",
-        text: "message too large",
+        refusal: Refusal::MessageTooLarge,
         line: "actions refused, their requests have more than 4194304 bytes",
     },
 ];
 
-/// The most uploads that are unfinished.
-pub const MOST_UPLOADS: u64 = 64;
-
 /// As many actions wait where the queue was full when the turn began, or more: each slot takes one.
-const FEWEST_QUEUED: usize = 1000 - 64;
+const FEWEST_QUEUED: usize = MOST_WAITING - MOST_RUNNING;
 
 /// What was refused at an instance, and what was counted there when it was looked last.
 #[derive(Clone, Copy)]
@@ -87,7 +86,7 @@ pub(crate) fn ended_of(counts: &MethodCounts) -> u64 {
 /// The place of what ended Writes: an upload that was unfinished then is so still, or its Write
 /// ended in the turn. Of a message that is too long nothing is counted as received.
 fn write_cause(sizes: &InstanceSizes, ended: u64, received: u64) -> usize {
-    if ended.saturating_add(sizes.uploads as u64) >= MOST_UPLOADS {
+    if ended.saturating_add(sizes.uploads as u64) >= MOST_UPLOADS as u64 {
         UPLOADS
     } else if received == 0 {
         MESSAGE

@@ -1,6 +1,6 @@
 //! Uploads that stand still.
 
-use figures::MOST_UPLOADS;
+use uploads::MOST_UPLOADS;
 
 /// For so many milliseconds uploads may stand still before that is told.
 const STILL: u64 = 60_000;
@@ -27,7 +27,7 @@ impl StillUploads {
     /// Notes how many there are, and how many bytes of all have come. Whether they are to be told
     /// now, once as long as they stand still.
     pub(super) fn take(&mut self, uploads: usize, received: u64, moment: u64) -> bool {
-        if (uploads as u64) < MOST_UPLOADS || received != self.received {
+        if uploads < MOST_UPLOADS || received != self.received {
             *self = StillUploads {
                 received,
                 since: moment,

@@ -10,7 +10,11 @@ use Rattle.protobuf_wire.proofs.Places.{after, alone, before, lacks_both, lacks_
 use Rattle.protobuf_wire.proofs.ReadAgain.{flag_again, int32_again, sent_again, string_again}
 use Rattle.protobuf_wire.proofs.Lengths.{IsNumbered, bytes_numbered, each_numbered, embedded_numbered, first_shorter, flag_numbered, int32_numbered, numbered_both, parsed_again, second_shorter, sent_numbered}
 use Rattle.protobuf_wire.proofs.Fitting.{embedded_fits, repeated_fits}
-use Rattle.execution_messages.specs.Operations.{ExecuteOperationMetadataValue, execute_operation_metadata_of, execute_operation_metadata_records, FitsExecuteOperationMetadata, ExecuteResponseValue, execute_response_of, execute_response_records, FitsExecuteResponse, OperationValue, operation_of, operation_records, FitsOperation, ViolationValue, violation_of, violation_records, FitsViolation, PreconditionFailureValue, precondition_failure_of, precondition_failure_records, FitsPreconditionFailure}
+use Rattle.execution_messages.specs.Operations.{ExecuteOperationMetadataValue, execute_operation_metadata_of, execute_operation_metadata_records}
+use Rattle.execution_messages.specs.Operations.{FitsExecuteOperationMetadata, ExecuteResponseValue, execute_response_of, execute_response_records}
+use Rattle.execution_messages.specs.Operations.{FitsExecuteResponse, OperationValue, operation_of, operation_records, FitsOperation, ViolationValue}
+use Rattle.execution_messages.specs.Operations.{violation_of, violation_records, FitsViolation, PreconditionFailureValue, precondition_failure_of}
+use Rattle.execution_messages.specs.Operations.{precondition_failure_records, FitsPreconditionFailure}
 use Rattle.tree_messages.specs.Results.{action_result_of}
 use Rattle.reapi_messages.specs.Statuses.{any_of, any_records, FitsAny, status_of, status_records, FitsStatus}
 use Rattle.reapi_messages.proofs.StatusesAgain.{any_again, status_again}

@@ -11,7 +11,15 @@ use Rattle.protobuf_wire.proofs.Places.{alone, after, before, lacks_both, lacks_
 use Rattle.protobuf_wire.proofs.ReadAgain.{string_again, octets_again, int32_again}
 use Rattle.protobuf_wire.proofs.Lengths.{IsNumbered, parsed_again, first_shorter, second_shorter, numbered_both, bytes_numbered, int32_numbered, each_numbered, embedded_numbered}
 use Rattle.protobuf_wire.proofs.Fitting.{repeated_fits, embedded_fits}
-use Rattle.reapi_messages.specs.Batches.{UpdateBlobRequestValue, update_blob_request_of, update_blob_request_records, FitsUpdateBlobRequest, BatchUpdateBlobsRequestValue, batch_update_blobs_request_of, batch_update_blobs_request_records, FitsBatchUpdateBlobsRequest, UpdateBlobResponseValue, update_blob_response_of, update_blob_response_records, FitsUpdateBlobResponse, BatchUpdateBlobsResponseValue, batch_update_blobs_response_of, batch_update_blobs_response_records, FitsBatchUpdateBlobsResponse, BatchReadBlobsRequestValue, batch_read_blobs_request_of, batch_read_blobs_request_records, FitsBatchReadBlobsRequest, ReadBlobResponseValue, read_blob_response_of, read_blob_response_records, FitsReadBlobResponse, BatchReadBlobsResponseValue, batch_read_blobs_response_of, batch_read_blobs_response_records, FitsBatchReadBlobsResponse}
+use Rattle.reapi_messages.specs.Batches.{UpdateBlobRequestValue, update_blob_request_of, update_blob_request_records, FitsUpdateBlobRequest}
+use Rattle.reapi_messages.specs.Batches.{BatchUpdateBlobsRequestValue, batch_update_blobs_request_of, batch_update_blobs_request_records}
+use Rattle.reapi_messages.specs.Batches.{FitsBatchUpdateBlobsRequest, UpdateBlobResponseValue, update_blob_response_of, update_blob_response_records}
+use Rattle.reapi_messages.specs.Batches.{FitsUpdateBlobResponse, BatchUpdateBlobsResponseValue, batch_update_blobs_response_of}
+use Rattle.reapi_messages.specs.Batches.{batch_update_blobs_response_records, FitsBatchUpdateBlobsResponse, BatchReadBlobsRequestValue}
+use Rattle.reapi_messages.specs.Batches.{batch_read_blobs_request_of, batch_read_blobs_request_records, FitsBatchReadBlobsRequest}
+use Rattle.reapi_messages.specs.Batches.{ReadBlobResponseValue, read_blob_response_of, read_blob_response_records, FitsReadBlobResponse}
+use Rattle.reapi_messages.specs.Batches.{BatchReadBlobsResponseValue, batch_read_blobs_response_of, batch_read_blobs_response_records}
+use Rattle.reapi_messages.specs.Batches.{FitsBatchReadBlobsResponse}
 use Rattle.reapi_messages.specs.Digests.{digest_of, digest_records, FitsDigest}
 use Rattle.reapi_messages.proofs.DigestsAgain.{digest_again}
 use Rattle.reapi_messages.specs.Statuses.{status_of, status_records, FitsStatus}

@@ -10,7 +10,12 @@ use Rattle.protobuf_wire.specs.Again.{HasField, AreReadAgain}
 use Rattle.protobuf_wire.proofs.Places.{after, alone, before, lacks_both, lacks_bytes, lacks_number}
 use Rattle.protobuf_wire.proofs.ReadAgain.{flag_again, int64_again, octets_again, string_again}
 use Rattle.protobuf_wire.proofs.Lengths.{IsNumbered, bytes_numbered, flag_numbered, int64_numbered, numbered_both, parsed_again}
-use Rattle.reapi_messages.specs.ByteStream.{ReadRequestValue, read_request_of, read_request_records, FitsReadRequest, ReadResponseValue, read_response_of, read_response_records, FitsReadResponse, WriteRequestValue, write_request_of, write_request_records, FitsWriteRequest, WriteResponseValue, write_response_of, write_response_records, FitsWriteResponse, QueryWriteStatusRequestValue, query_write_status_request_of, query_write_status_request_records, FitsQueryWriteStatusRequest, QueryWriteStatusResponseValue, query_write_status_response_of, query_write_status_response_records, FitsQueryWriteStatusResponse}
+use Rattle.reapi_messages.specs.ByteStream.{ReadRequestValue, read_request_of, read_request_records, FitsReadRequest, ReadResponseValue}
+use Rattle.reapi_messages.specs.ByteStream.{read_response_of, read_response_records, FitsReadResponse, WriteRequestValue, write_request_of}
+use Rattle.reapi_messages.specs.ByteStream.{write_request_records, FitsWriteRequest, WriteResponseValue, write_response_of, write_response_records}
+use Rattle.reapi_messages.specs.ByteStream.{FitsWriteResponse, QueryWriteStatusRequestValue, query_write_status_request_of}
+use Rattle.reapi_messages.specs.ByteStream.{query_write_status_request_records, FitsQueryWriteStatusRequest, QueryWriteStatusResponseValue}
+use Rattle.reapi_messages.specs.ByteStream.{query_write_status_response_of, query_write_status_response_records, FitsQueryWriteStatusResponse}
 
 read_request_numbered : (v : ReadRequestValue) → FitsReadRequest v → AllByRecursion IsNumbered (read_request_records v)
 read_request_numbered v h = numbered_both (string_field 1 v.resource_name ++ int64_field 2 v.read_offset) (int64_field 3 v.read_limit)

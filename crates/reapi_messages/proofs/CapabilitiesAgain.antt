@@ -11,7 +11,13 @@ use Rattle.protobuf_wire.proofs.Places.{alone, after, before, lacks_both, lacks_
 use Rattle.protobuf_wire.proofs.ReadAgain.{string_again, int64_again, int32_again, flag_again, repeated_enum_again}
 use Rattle.protobuf_wire.proofs.Lengths.{IsNumbered, parsed_again, first_shorter, second_shorter, numbered_both, bytes_numbered, int64_numbered, int32_numbered, flag_numbered, embedded_numbered}
 use Rattle.protobuf_wire.proofs.Fitting.{embedded_fits}
-use Rattle.reapi_messages.specs.Capabilities.{GetCapabilitiesRequestValue, get_capabilities_request_of, get_capabilities_request_records, FitsGetCapabilitiesRequest, SemVerValue, sem_ver_of, sem_ver_records, FitsSemVer, ActionCacheUpdateCapabilitiesValue, action_cache_update_capabilities_of, action_cache_update_capabilities_records, FitsActionCacheUpdateCapabilities, CacheCapabilitiesValue, cache_capabilities_of, cache_capabilities_records, FitsCacheCapabilities, ExecutionCapabilitiesValue, execution_capabilities_of, execution_capabilities_records, FitsExecutionCapabilities, ServerCapabilitiesValue, server_capabilities_of, server_capabilities_records, FitsServerCapabilities}
+use Rattle.reapi_messages.specs.Capabilities.{GetCapabilitiesRequestValue, get_capabilities_request_of, get_capabilities_request_records}
+use Rattle.reapi_messages.specs.Capabilities.{FitsGetCapabilitiesRequest, SemVerValue, sem_ver_of, sem_ver_records, FitsSemVer}
+use Rattle.reapi_messages.specs.Capabilities.{ActionCacheUpdateCapabilitiesValue, action_cache_update_capabilities_of}
+use Rattle.reapi_messages.specs.Capabilities.{action_cache_update_capabilities_records, FitsActionCacheUpdateCapabilities, CacheCapabilitiesValue}
+use Rattle.reapi_messages.specs.Capabilities.{cache_capabilities_of, cache_capabilities_records, FitsCacheCapabilities, ExecutionCapabilitiesValue}
+use Rattle.reapi_messages.specs.Capabilities.{execution_capabilities_of, execution_capabilities_records, FitsExecutionCapabilities}
+use Rattle.reapi_messages.specs.Capabilities.{ServerCapabilitiesValue, server_capabilities_of, server_capabilities_records, FitsServerCapabilities}
 
 get_capabilities_request_numbered : (v : GetCapabilitiesRequestValue) → FitsGetCapabilitiesRequest v →
     AllByRecursion IsNumbered (get_capabilities_request_records v)

@@ -47,7 +47,10 @@ use Rattle.client_reading.proofs.Choices.{choose, all_append, all_by}
 use Rattle.client_reading.proofs.Pasts.{frames_received}
 use Rattle.served_instance.proofs.Brought.{IsShortCall, short_on, frame_short}
 use Rattle.run_reading.proofs.Connections.{HasPast, ArePasts}
-use Rattle.run_reading.specs.Happenings.{Happening, MomentCame, EventOver, TimePassed, connection_place, call_happenings, due_happenings, answer_happenings, request_happenings, frame_happenings, happenings_of_frames, fault_happenings, end_happenings, reading_happenings, happenings_of_bytes, close_happenings, happenings_by, happenings_unless, step_happenings, family_happenings, happenings, place_of_call, turn_happenings}
+use Rattle.run_reading.specs.Happenings.{Happening, MomentCame, EventOver, TimePassed, connection_place, call_happenings, due_happenings}
+use Rattle.run_reading.specs.Happenings.{answer_happenings, request_happenings, frame_happenings, happenings_of_frames, fault_happenings}
+use Rattle.run_reading.specs.Happenings.{end_happenings, reading_happenings, happenings_of_bytes, close_happenings, happenings_by, happenings_unless}
+use Rattle.run_reading.specs.Happenings.{step_happenings, family_happenings, happenings, place_of_call, turn_happenings}
 use Rattle.run_reading.specs.Replies.{GivenItems, given_items_at, state_after_happening, given_items_from}
 use Rattle.run_reading.proofs.Chosen.{limits_after}
 use Rattle.run_reading.proofs.Lifts.{frame_made, fault_made, happened_made, acted_made, pumped_made, bytes_made, all_drop}

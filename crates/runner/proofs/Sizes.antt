@@ -18,7 +18,10 @@ use Rattle.runner.specs.declared.stage.Step.{Step}
 use Rattle.runner.specs.declared.stage.Step.TheVariants as steps
 use Rattle.run_calls.specs.Values.{PlaceValue}
 use Rattle.std.specs.declared.io.ErrorKind.{ErrorKind}
-use Rattle.run_calls.specs.Calls.{FolderQuestion, FolderAnswer, root_asked, node_asked, text_asked, directory_asked, parents_asked, look_asked, file_asked, list_asked, bytes_asked, removal_asked, done, found, facts, entries, file_bytes, gone, ProgramQuestion, ProgramAnswer, start_asked, end_asked, kill_asked, length_asked, read_asked, forget_asked, program_done, running, ended, killed, written, bytes, RunCall, of_folder, of_programs, folder_calls, program_calls}
+use Rattle.run_calls.specs.Calls.{FolderQuestion, FolderAnswer, root_asked, node_asked, text_asked, directory_asked, parents_asked, look_asked}
+use Rattle.run_calls.specs.Calls.{file_asked, list_asked, bytes_asked, removal_asked, done, found, facts, entries, file_bytes, gone, ProgramQuestion}
+use Rattle.run_calls.specs.Calls.{ProgramAnswer, start_asked, end_asked, kill_asked, length_asked, read_asked, forget_asked, program_done, running}
+use Rattle.run_calls.specs.Calls.{ended, killed, written, bytes, RunCall, of_folder, of_programs, folder_calls, program_calls}
 use Rattle.runner.specs.Made.{names_at}
 use Rattle.runner.specs.Gathered.{ItemValue, file_item, byte_at, end_item, found_item, directory_item, numbered, whole_file, node_items, nodes_items, above_after, kind_items, output_items, call_items, items_answered}
 use Rattle.runner.specs.Told.{ToldItem, code_item, killed_item, stream_byte, stream_end, stream_bytes, whole_stream, call_told, items_told}

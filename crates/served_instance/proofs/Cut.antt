@@ -12,14 +12,15 @@ use Rattle.instance_core.specs.declared.event.Reply.{Reply}
 use Rattle.served_instance.specs.declared.open_connection.OpenConnection.{OpenConnection}
 use Rattle.served_instance.specs.Connections.{LoneConnection, open_ones, with_closed}
 use Rattle.served_instance.specs.Present.{is_numbered}
-use Rattle.served_instance.specs.Ranges.{sources_at}
+use Rattle.served_instance.specs.Ranges.{KeepsRanges, sources_at}
 use Rattle.served_instance.specs.Shown.{connection_shown}
 use Rattle.served_instance.specs.StandsFor.{AreServed}
 use Rattle.served_instance.specs.Acts.{FindAlike}
-use Rattle.served_instance.specs.Cuts.{others_of, KeepsOthers, OthersFindAlike}
+use Rattle.served_instance.specs.Cuts.{others_of, KeepsOthers, OthersFindAlike, StepsAt}
 use Rattle.instance_core.specs.Apart.{AreRepliesTo}
 use Rattle.served_instance.proofs.Opens.{without_at, closed_at_is}
-use Rattle.served_instance.proofs.Places.{IsPlace, is_place, place_of, place_is}
+use Rattle.served_instance.proofs.Places.{IsPlace, is_place, place_of, place_is, places_kept}
+use Rattle.served_instance.proofs.Ranges.{alike_place}
 
 -- ---- one of them changes, or goes
 
@@ -135,3 +136,13 @@ given_others c rs rest r os ns xs is a k =
     let all : AreRepliesTo c (r ∷ rest) = subst (λ (ys : List Reply). AreRepliesTo c ys) is a.1 in
     let now : KeepsOthers c ns xs = subst (λ (n : ℕ). KeepsOthers n ns xs) all.0 k in
     (now ∙ a.0, all.1)
+
+-- ---- a step of the one at a place
+
+pub steps_at : (os : List OpenConnection) (k : ℕ) (d : OpenConnection) (w : ConnectionValue) → KeepsRanges (get_or os k d).connection w →
+    StepsAt k os (set os k (record { number = (get_or os k d).number; connection = w }))
+steps_at os k d w keeps = record {
+  holds = alike_place os k d w keeps;
+  others = λ c at. others_kept c os k d w at;
+  places = places_kept os k d w;
+}

@@ -1,6 +1,11 @@
 -- What replies owe, one after another.
 use Rattle.std.proofs.Common.{◌≡◌, refl, sym, ap, ◌∙◌, subst}
-use Rattle.std.specs.Prelude.{ℕ, List, [], ◌∷◌, map, Result, Ok, Err, OnOk}
+use Rattle.std.specs.Prelude.{ℕ, List, [], ◌∷◌, length, map, Result, Ok, Err, OnOk}
+use Rattle.blob_pool.specs.Slots.{Slots}
+use Rattle.instance_core.specs.Apart.{AreRepliesTo}
+use Rattle.instance_core.specs.ReplyHolders.{replies_holders}
+use Rattle.served_instance.specs.Cuts.{KeepsOthers}
+use Rattle.served_instance.specs.Present.{StayInPlace}
 use Rattle.grpc_sending.specs.StoredSending.{SourceTexts}
 use Rattle.conn_core.specs.Past.{Past, with_item}
 use Rattle.conn_core.specs.StandsFor.{ConnectionValue, Becomes, OwesRange}
@@ -11,7 +16,7 @@ use Rattle.instance_core.specs.declared.event.ReplyItem.TheVariants.{Gives}
 use Rattle.served_instance.specs.declared.open_connection.OpenConnection.{OpenConnection}
 use Rattle.served_instance.specs.Connections.{open_ones, at_open}
 use Rattle.served_instance.specs.Calls.{item_of}
-use Rattle.served_instance.specs.OwedReplies.{item_by, reply_by, with_owed}
+use Rattle.served_instance.specs.OwedReplies.{item_by, reply_by, with_owed, AllTakeRanges, RepliesEndWithin}
 use Rattle.served_instance.specs.Lone.{LoneInstance, after_replies}
 use Rattle.served_instance.specs.StandsFor.{AreServed}
 use Rattle.served_instance.specs.Shown.{connection_shown}
@@ -86,3 +91,13 @@ give_keeps c step os ns e = λ d. changed_keeps without_sending c d os ns (Owes 
 
 pub keeps_trans : (os ns xs : List OpenConnection) → Keeps os ns → Keeps ns xs → Keeps os xs
 keeps_trans os ns xs h k = λ d. k d ∙ h d
+
+-- ---- what became of all replies
+
+pub record HaveGiven {T E : Type 0} (r : Result T E) (rs : List Reply) (p q : Slots) (os ns : List OpenConnection) : Type 0 where
+  pub given : OnOk r (AreGiven rs os ns)
+  pub rest : OnOk r (Keeps os ns)
+  pub others : (c : ℕ) → AreRepliesTo c rs → KeepsOthers c os ns
+  pub places : StayInPlace os ns
+  pub takes : AllTakeRanges (replies_holders rs) (RepliesEndWithin rs) p (map connection_shown os) q (map connection_shown ns)
+  pub count : length ns ≡ length os

@@ -22,17 +22,19 @@ use Rattle.instance_core.specs.State.{InstanceState, IsInstanceWithin}
 use Rattle.served_instance.specs.declared.open_connection.OpenConnection.{OpenConnection}
 use Rattle.served_instance.specs.Connections.{LoneConnection, open_ones}
 use Rattle.served_instance.specs.OwedReplies.{item_by, reply_by, CanBeOwed, ReplyCanBeOwed, ItemsEndWithin, RepliesEndWithin, AllTakeRanges}
+use Rattle.served_instance.specs.Lent.{LentValue, GoesOn, IsKept, lent_slots}
 use Rattle.served_instance.specs.Lone.{LoneInstance, after_replies, after_call_event}
 use Rattle.served_instance.specs.Ranges.{seen_with, sources_at, range_holders}
 use Rattle.served_instance.specs.Shown.{connection_shown}
 use Rattle.served_instance.specs.Slots.{IsServedBeside, holders_of, IsServedInPool}
 use Rattle.served_instance.specs.StandsFor.{ServedConnection, AreServed}
-use Rattle.served_instance.specs.Acts.{ActsIn, StandsBy, slots_of}
+use Rattle.served_instance.specs.Acts.{ActsBy, StandsBy, slots_of}
 use Rattle.served_instance.proofs.Commutes.{given, replied_is}
 use Rattle.served_instance.proofs.Frames.{happened_is}
 use Rattle.served_instance.proofs.Gives.{AreGiven}
-use Rattle.served_instance.proofs.Kept.{own_same, slots_at}
+use Rattle.served_instance.proofs.Kept.{few_connections, own_same, slots_at}
 use Rattle.served_instance.proofs.Ranges.{served_agreed, fit_agreed_each}
+use Rattle.served_instance.proofs.Taking.{take_none}
 
 -- ---- what a reply says
 
@@ -177,7 +179,7 @@ pub happens : {T E : Type 0} (result : Result T E) (parent : ViewValue) (p q r :
     (map connection_shown ns) → IsServedBeside p parent (slots_of i os) →
     map (reply_shown q) rs ≡ (answer (state_beside p parent i) what).replies →
     state_beside q parent j ≡ state_after (state_beside p parent i) what → OnOk result (AreGiven rs os ns) →
-    OnOk result (ActsIn parent p i os r j ns (after_call_event what))
+    OnOk result (ActsBy (text_at p) (state_beside p parent i) os (text_at r) (state_beside r parent j) ns (after_call_event what))
 happens (Ok x) parent p q r i j os ns what rs a beside e f h = λ l st.
     let vs = map connection_shown os in
     let ws = map connection_shown ns in
@@ -199,3 +201,37 @@ happens (Ok x) parent p q r i j os ns what rs a beside e f h = λ l st.
     } in
     subst (λ (x : LoneInstance). StandsBy (text_at r) (state_beside r parent j) ns x) (sym (happened_is what l)) now
 happens (Err x) parent p q r i j os ns what rs a beside e f h = tt
+
+-- ---- what goes on
+
+pub answered_goes : (given : Holders) (IsGood : SourceTexts → Type 0) (a b : LentValue) (q : Slots) →
+    IsAnswered given IsGood a.pool q b.pool a.instance b.instance (map connection_shown a.connections) (map connection_shown b.connections) →
+    b.parent ≡ a.parent → length b.connections ≡ length a.connections → GoesOn a b
+answered_goes given IsGood a b q x same count =
+    let vs = map connection_shown a.connections in
+    let ws = map connection_shown b.connections in
+    record {
+      parent = same;
+      moves = answered_moves given IsGood a.pool q b.pool a.instance b.instance vs ws x;
+      kept = answered_kept given IsGood a.pool q b.pool a.instance b.instance vs ws x
+          (omega (
+            arith,
+            count,
+            few_connections a.pool (lent_slots a) x.kept,
+            length-map a.connections connection_shown,
+            length-map b.connections connection_shown,
+          ));
+    }
+
+-- nothing is given for want of memory
+pub refused_goes : (a : LentValue) (q : Slots) (j : InstanceSlots) → IsKept a →
+    Moves a.pool q (holders_of_instance a.instance) (λ k. holders_of_instance j k + no_holders k) → IsInstanceWithin (state_in q j) →
+    GoesOn a (record a { pool = q; instance = j })
+refused_goes a q j kept moves within =
+    answered_goes no_holders (λ texts. Unit {0}) a (record a { pool = q; instance = j }) q (record {
+      kept = kept;
+      moves = moves;
+      takes = take_none no_holders (λ texts. Unit {0}) q (map connection_shown a.connections) (λ k. refl);
+      within = within;
+      good = tt;
+    }) refl refl

@@ -13,7 +13,7 @@ pub mod Gives
 pub mod Closes
 pub mod Kept
 mod Besides
-mod Writes
+mod Lends
 mod Taking
 mod Happens
 mod Settling

@@ -1,11 +1,13 @@
 -- What was made ready is carried out: replies are owed, and then steps are taken.
-use Rattle.std.proofs.Common.{◌≡◌, ◌≤◌, ℕ, List, map, length, sym, ◌∙◌, arith}
+use Rattle.std.proofs.Common.{◌≡◌, ◌≤◌, ℕ, List, map, length, refl, sym, ◌∙◌, arith}
 use Rattle.std.specs.List.{AllByRecursion}
 use Rattle.std.proofs.lemmas.List.{length-map}
 use Rattle.blob_pool.specs.Slots.{Slots, text_at, count_at}
 use Rattle.blob_pool.specs.Moves.{Moves, no_holders}
 use Rattle.grpc_sending.specs.StoredSending.{AgreeOn}
 use Rattle.instance_core.specs.declared.event.Reply.{Reply}
+use Rattle.instance_core.specs.declared.turns.Turn.{Turn}
+use Rattle.instance_core.specs.Apart.{AreRepliesTo}
 use Rattle.instance_core.specs.ReplyHolders.{replies_holders}
 use Rattle.instance_core.specs.Replies.{IsShortReply}
 use Rattle.instance_core.specs.Shown.{reply_shown}
@@ -13,11 +15,16 @@ use Rattle.instance_core.specs.Slots.{InstanceSlots, state_in, holders_of_instan
 use Rattle.instance_core.specs.State.{IsInstanceWithin}
 use Rattle.served_instance.specs.declared.open_connection.OpenConnection.{OpenConnection}
 use Rattle.served_instance.specs.Acts.{FindAlike, slots_of}
+use Rattle.served_instance.specs.Cuts.{KeepsOthers}
+use Rattle.served_instance.specs.Lent.{LentValue}
 use Rattle.served_instance.specs.OwedReplies.{RepliesEndWithin, AllTakeRanges}
+use Rattle.served_instance.specs.Present.{StayInPlace}
 use Rattle.served_instance.specs.Ranges.{range_holders, seen_with, sources_at}
 use Rattle.served_instance.specs.Shown.{connection_shown}
 use Rattle.served_instance.specs.Slots.{holders_of, IsServedInPool}
 use Rattle.served_instance.specs.StandsFor.{ServedConnection}
+use Rattle.served_instance.specs.Turns.{TakesTurn}
+use Rattle.served_instance.proofs.Cut.{others_agree}
 use Rattle.served_instance.proofs.Happens.{replies_end}
 use Rattle.served_instance.proofs.Kept.{few_connections, own_same}
 use Rattle.served_instance.proofs.Ranges.{fit_agreed_each}
@@ -99,4 +106,27 @@ turned_kept p q r i j os ns rs o m within =
       fit = fit_agreed_each (text_at p) (text_at r) ws (turned_new p q r i j os ns rs o m)
           (o.takes.fit (text_at p) (replies_end p rs (o.short p)) o.kept.fit);
       few = o.takes.few o.kept.few;
+    }
+
+-- all that is said of it together
+pub turn_taken : (turn : Turn) (a : LentValue) (q r : Slots) (j : InstanceSlots) (ns : List OpenConnection) →
+    AreOwed a.pool q a.instance a.connections ns turn.replies.items →
+    ((c : ℕ) → AreRepliesTo c turn.replies.items → KeepsOthers c a.connections ns) → StayInPlace a.connections ns →
+    Moves q r (holders_of_instance a.instance) (holders_of_instance j) →
+    TakesTurn turn a (record { parent = a.parent; pool = r; instance = j; connections = ns })
+turn_taken turn a q r j ns o others places m =
+    let p = a.pool in
+    let i = a.instance in
+    let os = a.connections in
+    let rs = turn.replies.items in
+    record {
+      apart = λ c to. record {
+        others = others c to;
+        finds = others_agree c (text_at p) (text_at r) os (turned_old p q r i j os ns rs o m);
+        places = places;
+      };
+      texts = turned_new p q r i j os ns rs o m;
+      parent = refl;
+      moves = turned_moves p q r i j os ns rs o m;
+      kept = λ within. turned_kept p q r i j os ns rs o m within;
     }

@@ -9,9 +9,10 @@ use Rattle.instance_core.specs.Watching.{WatchAtRest}
 use Rattle.served_instance.specs.declared.open_connection.OpenConnection.{OpenConnection}
 use Rattle.served_instance.specs.Connections.{open_ones}
 use Rattle.served_instance.specs.Lone.{LoneInstance, lone_at_moment, lone_at_rest}
-use Rattle.served_instance.specs.Ranges.{Releases, RangesEndWithin, AreTidy}
+use Rattle.served_instance.specs.Lent.{LentValue, IsLent, LetsGo}
+use Rattle.served_instance.specs.Ranges.{RangesEndWithin, AreTidy}
 use Rattle.served_instance.specs.StandsFor.{IsServedInstance}
-use Rattle.served_instance.specs.Slots.{ServedSlots, served_state_in, StandsIn, IsServedInPool, IsServedBeside}
+use Rattle.served_instance.specs.Slots.{ServedSlots, served_state_in, StandsIn}
 use Rattle.served_instance.proofs.Besides.{released_beside}
 use Rattle.served_instance.specs.Shown.{connection_shown}
 use Rattle.served_instance.specs.Acts.{Acts, ActsIn, StandsBy, FindAlike, slots_of}
@@ -58,21 +59,19 @@ stands_for p q j ns l watched tidy fit find st =
     (record { state = st.state; connections = served_agreed (text_at p) (text_at q) vs (open_ones l.connections) find st.connections })
 
 -- what was done with the texts of the one pool stands in the other, where sources were released
-pub released_acts : (parent : ViewValue) (p q : Slots) (i j : InstanceSlots) (os ns : List OpenConnection)
-    (step : LoneInstance → LoneInstance) → IsServedInPool p (slots_of i os) → IsServedBeside p parent (slots_of i os) →
-    Releases p (map connection_shown os) q (map connection_shown ns) → Acts (state_beside q parent i) os (state_beside q parent j) ns step →
-    ActsIn parent p i os q j ns step
-released_acts parent p q i j os ns step kept beside r act = λ l st.
-    let done = act (text_at p) l (record {
-      state =
-          released_beside p q parent i (map connection_shown os) (map connection_shown ns) kept beside r ∙ st.state;
-      connections =
-          st.connections;
+pub released_acts : (a b : LentValue) (step : LoneInstance → LoneInstance) → IsLent a → LetsGo a b →
+    Acts (state_beside b.pool a.parent a.instance) a.connections (state_beside b.pool a.parent b.instance) b.connections step → ActsIn a b step
+released_acts a b step lent gone act = λ l st.
+    let vs = map connection_shown a.connections in
+    let ws = map connection_shown b.connections in
+    let done = act (text_at a.pool) l (record {
+      state = released_beside a.pool b.pool a.parent a.instance vs ws lent.kept lent.beside gone.releases ∙ st.state;
+      connections = st.connections;
     }) in
     record {
-      state = done.state;
-      connections = served_agreed (text_at p) (text_at q) (map connection_shown ns) (open_ones (step l).connections)
-          (release_finds p q i (map connection_shown os) (map connection_shown ns) kept r) done.connections;
+      state = ap (λ (v : ViewValue). state_beside b.pool v b.instance) gone.parent ∙ done.state;
+      connections = served_agreed (text_at a.pool) (text_at b.pool) ws (open_ones (step l).connections)
+          (release_finds a.pool b.pool a.instance vs ws lent.kept gone.releases) done.connections;
     }
 
 -- behind an event the parent's texts are not seen any more

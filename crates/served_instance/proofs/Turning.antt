@@ -5,12 +5,13 @@ use Rattle.std.specs.declared.alloc.Global.{Global}
 use Rattle.std.specs.declared.vec.Vec.{Vec}
 use Rattle.blob_pool.specs.Slots.{Slots, text_at}
 use Rattle.blob_pool.specs.Moves.{Moves, no_holders}
+use Rattle.blob_pool.proofs.Moves.{moves_none, moves_trans}
 use Rattle.job_queue.specs.Jobs.{Jobs, running_job}
 use Rattle.execution.specs.declared.orders.Order.{Order}
 use Rattle.execution.specs.Job.{JobValue}
 use Rattle.execution.specs.Orders.{orders_of}
 use Rattle.execution.specs.Steps.{StepValue, ending_of, jobs_after_steps, timings_out}
-use Rattle.execution.specs.Taking.{CanTake}
+use Rattle.execution.specs.Taking.{CanTake, steps_shown}
 use Rattle.execution.proofs.Timings.{nothing-ends, outcome-ends, tick-ends}
 use Rattle.execution.proofs.Turns.{turn-can}
 use Rattle.run_calls.specs.Outcomes.{OutcomeValue}
@@ -23,53 +24,43 @@ use Rattle.instance_core.specs.Changes.{InstanceChange, MadeInPart, Settles, sta
 use Rattle.instance_core.specs.InstanceViewShown.{ViewValue, visible_in}
 use Rattle.instance_core.specs.Replies.{ReplyValue}
 use Rattle.instance_core.specs.Shown.{reply_shown}
-use Rattle.instance_core.specs.Slots.{InstanceSlots, state_in, state_beside, holders_of_instance}
+use Rattle.instance_core.specs.Slots.{InstanceSlots, IsInstanceInPool, state_in, state_beside, holders_of_instance}
 use Rattle.instance_core.specs.State.{InstanceState, IsInstanceWithin, seeing}
-use Rattle.instance_core.specs.Turns.{AreOrders}
+use Rattle.instance_core.specs.declared.turns.Turn.{Turn}
+use Rattle.instance_core.specs.Turns.{AreOrders, IsReady}
 use Rattle.instance_core.specs.Visible.{Blob}
 use Rattle.instance_core.proofs.EndingJobs.{ending_keeps_jobs}
 use Rattle.instance_core.proofs.EventLimits.{after_keeps}
 use Rattle.instance_core.proofs.Sees.{after_seeing, parent_same}
 use Rattle.server_events.specs.Events.{received, tick, ended}
 use Rattle.served_instance.specs.declared.open_connection.OpenConnection.{OpenConnection}
-use Rattle.served_instance.specs.Acts.{ActsAtRest, ActsIn, FindAlike, HasOrdersOf, StandsBy, slots_of}
+use Rattle.served_instance.specs.Acts.{ActsIn, FindAlike, IsDone, LentStands, StandsBy}
 use Rattle.served_instance.specs.Connections.{LoneConnection, open_ones}
-use Rattle.served_instance.specs.Cuts.{CutsAct, CutsShort}
+use Rattle.served_instance.specs.Cuts.{IsCut, KeepsApart}
 use Rattle.served_instance.specs.Events.{bytes_events}
-use Rattle.served_instance.specs.Lone.{LoneInstance, after_bytes_on, after_call_event, effect_of}
+use Rattle.served_instance.specs.Lent.{LentValue, GoesOn, IsKept, IsLent, lent_slots, lent_state}
+use Rattle.served_instance.specs.Lone.{LoneInstance, after_bytes_on, after_call_event}
 use Rattle.served_instance.specs.OwedReplies.{reply_by}
 use Rattle.served_instance.specs.Short.{IsCutShort}
 use Rattle.served_instance.specs.Shown.{connection_shown}
-use Rattle.served_instance.specs.Slots.{holders_of, IsServedBeside, IsServedInPool}
+use Rattle.served_instance.specs.Slots.{holders_of}
+use Rattle.served_instance.specs.Turns.{TakesTurn}
 use Rattle.served_instance.specs.StandsFor.{AreServed}
-use Rattle.served_instance.proofs.Besides.{moved_beside}
 use Rattle.served_instance.proofs.Closes.{tick_acts}
 use Rattle.served_instance.proofs.Commutes.{given}
 use Rattle.served_instance.proofs.Frames.{happened_is}
 use Rattle.served_instance.proofs.Gives.{AreGiven}
-use Rattle.served_instance.proofs.Happens.{IsAnswered, answered_kept, answered_moves, asked_finds, replied_at, replies_same}
-use Rattle.served_instance.proofs.Kept.{few_connections}
+use Rattle.served_instance.proofs.Happens.{asked_finds, refused_goes, replied_at, replies_same}
+use Rattle.served_instance.proofs.Kept.{moment_keeps}
+use Rattle.served_instance.proofs.Lends.{still_lent}
 use Rattle.served_instance.proofs.Ranges.{served_agreed}
-use Rattle.served_instance.proofs.Taking.{take_none}
 use Rattle.served_instance.proofs.Watches.{all_done, told_alone}
 
 -- ---- the cases of a result
 
-pub ok_both : {T E A B C : Type 0} (r : Result T E) → (A → B → C) → OnOk r A → OnOk r B → OnOk r C
-ok_both (Ok x) f a b = f a b
-ok_both (Err x) f a b = tt
-
 pub ok_map : {T E A B : Type 0} (r : Result T E) → (A → B) → OnOk r A → OnOk r B
 ok_map (Ok x) f a = f a
 ok_map (Err x) f a = tt
-
-pub ok_if : {T E A : Type 0} (r : Result T E) (P Q : T → Type 0) → ((x : T) → A → P x → Q x) → OnOk r A → IfOk r P → IfOk r Q
-ok_if (Ok x) P Q f a h = f x a h
-ok_if (Err x) P Q f a h = tt
-
-pub if_map : {T E : Type 0} (r : Result T E) (P Q : T → Type 0) → ((x : T) → P x → Q x) → IfOk r P → IfOk r Q
-if_map (Ok x) P Q f h = f x h
-if_map (Err x) P Q f h = tt
 
 pub within_turn : {T E : Type 0} (r : Result T E) (s t u : InstanceState) → OnOk r (u ≡ t) → OnErr r (u ≡ s) → IsInstanceWithin s →
     IsInstanceWithin t → IsInstanceWithin u
@@ -78,10 +69,9 @@ within_turn (Err x) s t u done short w v = subst IsInstanceWithin (sym short) w
 
 -- ---- beside its parent
 
-pub within_seeing : (p : Slots) (parent : ViewValue) (i : InstanceSlots) (os : List OpenConnection) → IsServedInPool p (slots_of i os) →
-    IsServedBeside p parent (slots_of i os) → IsInstanceWithin (state_beside p parent i)
-within_seeing p parent i os kept beside =
-    let w = kept.within.instance in
+within_seeing : (a : LentValue) → IsLent a → IsInstanceWithin (lent_state a)
+within_seeing a h =
+    let w = h.kept.within.instance in
     record {
       quota = w.quota;
       limits = w.limits;
@@ -95,21 +85,19 @@ within_seeing p parent i os kept beside =
       told = w.told;
       calls = w.calls;
       messages = w.messages;
-      parent = beside.named;
+      parent = h.beside.named;
     }
 
-parent_after : (parent : ViewValue) (p q : Slots) (i j : InstanceSlots) (os ns : List OpenConnection) →
-    Moves p q (holders_of (slots_of i os)) (holders_of (slots_of j ns)) → IsServedBeside p parent (slots_of i os) →
-    visible_in q parent ≡ visible_in p parent
-parent_after parent p q i j os ns m beside = parent_same p q parent (holders_of (slots_of i os))
-    (holders_of (slots_of j ns)) m beside.counted
-
 -- the instance came to this
-pub beside_at : (parent : ViewValue) (p q : Slots) (i j : InstanceSlots) (os ns : List OpenConnection) (s : InstanceState) →
-    Moves p q (holders_of (slots_of i os)) (holders_of (slots_of j ns)) → IsServedBeside p parent (slots_of i os) → state_in q j ≡ s →
-    state_beside q parent j ≡ seeing (visible_in p parent) s
-beside_at parent p q i j os ns s m beside e =
-    ap (λ (bs : List Blob). seeing bs (state_in q j)) (parent_after parent p q i j os ns m beside) ∙ ap (seeing (visible_in p parent)) e
+beside_at : (a b : LentValue) (s : InstanceState) → b.parent ≡ a.parent →
+    Moves a.pool b.pool (holders_of (lent_slots a)) (holders_of (lent_slots b)) → IsLent a → state_in b.pool b.instance ≡ s →
+    lent_state b ≡ seeing (visible_in a.pool a.parent) s
+beside_at a b s same m h e =
+    let t = state_in b.pool b.instance in
+    ap (λ (v : ViewValue). seeing (visible_in b.pool v) t) same
+    ∙ ap (λ (bs : List Blob). seeing bs t)
+    (parent_same a.pool b.pool a.parent (holders_of (lent_slots a)) (holders_of (lent_slots b)) m h.beside.counted)
+    ∙ ap (seeing (visible_in a.pool a.parent)) e
 
 seeing_after : (bs : List Blob) (s : InstanceState) (what : CallEventValue) →
     (answer (seeing bs s) what).changes ≡ (answer s what).changes → seeing bs (state_after s what) ≡ state_after (seeing bs s) what
@@ -193,63 +181,67 @@ turns what parent p q j os ns rs m served gives find replies after =
     } in
     subst (λ (x : LoneInstance). StandsBy (text_at q) (state_beside q parent j) ns x) (sym (happened_is what m)) now
 
+-- ---- by a result
+
+pub turn_goes : (turn : Turn) (a b : LentValue) → TakesTurn turn a b → IsInstanceWithin (state_in b.pool b.instance) → GoesOn a b
+turn_goes turn a b t within = record { parent = t.parent; moves = t.moves; kept = t.kept within }
+
+-- the instance alone is another, in another pool
+abbrev pub with_instance : LentValue → Slots → InstanceSlots → LentValue
+with_instance a q j = record a { pool = q; instance = j }
+
 -- ---- received bytes, and then jobs start
 
--- what stood before, and behind the bytes
-pub record HaveCome (c : ℕ) (bytes : List ℕ) (parent : ViewValue) (p q : Slots) (i j : InstanceSlots)
-    (os ns : List OpenConnection) : Type 0 where
-  pub kept : IsServedInPool p (slots_of i os)
-  pub beside : IsServedBeside p parent (slots_of i os)
-  pub moves : Moves p q (holders_of (slots_of i os)) (holders_of (slots_of j ns))
-  pub after : IsServedInPool q (slots_of j ns)
-  pub acts : ActsIn parent p i os q j ns (after_bytes_on c bytes)
+-- behind the bytes
+pub record HaveCome (c : ℕ) (bytes : List ℕ) (a b : LentValue) : Type 0 where
+  pub lent : IsLent a
+  pub goes : GoesOn a b
+  pub acts : ActsIn a b (after_bytes_on c bytes)
 
-come_beside : (c : ℕ) (bytes : List ℕ) (parent : ViewValue) (p q : Slots) (i j : InstanceSlots) (os ns : List OpenConnection) →
-    HaveCome c bytes parent p q i j os ns → IsServedBeside q parent (slots_of j ns)
-come_beside c bytes parent p q i j os ns h = moved_beside p q parent (slots_of i os) (slots_of j ns) h.moves h.beside
+pub starts_done : {E : Type 0} (x : Result (Vec Order Global) E) (c : ℕ) (bytes : List ℕ) (a b d : LentValue) (turn : Turn) →
+    HaveCome c bytes a b → (let s = state_in b.pool b.instance in
+    IsReady b.pool s start_jobs (replies_on c (answer s start_jobs).replies) turn) → TakesTurn turn b d →
+    OnOk x (AreGiven turn.replies.items b.connections d.connections) →
+    OnOk x (state_in d.pool d.instance ≡ state_after_change (Settles (steps_shown turn.steps.items)) (state_in b.pool b.instance)) →
+    IfOk x (λ orders. orders ≡ turn.orders) → IfOk x (IsDone (received c bytes) a d)
+starts_done (Err e) c bytes a b d turn h ready t gives done same = tt
+starts_done (Ok orders) c bytes a b d turn h ready t gives done same =
+    let s = state_in b.pool b.instance in
+    let ss = steps_shown turn.steps.items in
+    record {
+      acts = λ l rest st.
+          let m = after_bytes_on c bytes l in
+          let came : LentStands b m = h.acts l st in
+          let first : IsInstanceWithin l.state = subst IsInstanceWithin st.state (within_seeing a h.lent) in
+          let all : map (reply_shown b.pool) turn.replies.items ≡ (answer m.state start_jobs).replies =
+          ready.replies ∙ ap (λ (t : InstanceState). replies_on c (answer t start_jobs).replies) came.state
+          ∙ told_alone c bytes l first.jobs rest in
+          let own : state_in d.pool d.instance ≡ state_after s start_jobs =
+          done ∙ ap (λ (ys : List StepValue). state_after_change (Settles ys) s) ready.steps in
+          let after : lent_state d ≡ state_after m.state start_jobs =
+          beside_at b d (state_after s start_jobs) t.parent t.moves (still_lent a b h.lent h.goes) own
+          ∙ seeing_after (visible_in b.pool b.parent) s start_jobs refl
+          ∙ ap (λ (t : InstanceState). state_after t start_jobs) came.state in
+          turns start_jobs d.parent b.pool d.pool d.instance b.connections d.connections turn.replies.items m came.connections gives
+          t.texts all after;
+      orders = λ l st.
+          let came = h.acts l st in
+          orders_are s start_jobs ss (state_in d.pool d.instance).jobs turn.orders orders same ready.orders ready.steps
+          (ap (λ (t : InstanceState). t.jobs) done)
+          ∙ ap (λ (t : InstanceState). map Some (orders_at t start_jobs)) came.state;
+    }
 
-pub starts_act : {T E : Type 0} (x : Result T E) (c : ℕ) (bytes : List ℕ) (parent : ViewValue) (p q r : Slots) (i j k : InstanceSlots)
-    (os ns xs : List OpenConnection) (rs : List Reply) (ss : List StepValue) → HaveCome c bytes parent p q i j os ns →
-    map (reply_shown q) rs ≡ replies_on c (answer (state_in q j) start_jobs).replies → ss ≡ steps_at (state_in q j) start_jobs →
-    Moves q r (holders_of (slots_of j ns)) (holders_of (slots_of k xs)) → FindAlike q r xs →
-    OnOk x (AreGiven rs ns xs) → OnOk x (state_in r k ≡ state_after_change (Settles ss) (state_in q j)) →
-    OnOk x (ActsAtRest parent p i os r k xs (effect_of (received c bytes)))
-starts_act x c bytes parent p q r i j k os ns xs rs ss h replies is moves find = ok_both x (λ gives done l rest st.
-    let m = after_bytes_on c bytes l in
-    let came : StandsBy (text_at q) (state_beside q parent j) ns m = h.acts l st in
-    let beside = come_beside c bytes parent p q i j os ns h in
-    let first : IsInstanceWithin l.state = subst IsInstanceWithin st.state (within_seeing p parent i os h.kept h.beside) in
-    let all : map (reply_shown q) rs ≡ (answer m.state start_jobs).replies =
-    replies ∙ ap (λ (s : InstanceState). replies_on c (answer s start_jobs).replies) came.state ∙ told_alone c bytes l first.jobs rest in
-    let own : state_in r k ≡ state_after (state_in q j) start_jobs =
-    done ∙ ap (λ (ys : List StepValue). state_after_change (Settles ys) (state_in q j)) is in
-    let after : state_beside r parent k ≡ state_after m.state start_jobs =
-    beside_at parent q r j k ns xs (state_after (state_in q j) start_jobs) moves beside own
-    ∙ seeing_after (visible_in q parent) (state_in q j) start_jobs refl
-    ∙ ap (λ (s : InstanceState). state_after s start_jobs) came.state in
-    turns start_jobs parent q r k ns xs rs m came.connections gives find all after)
-
-pub starts_ordered : {E : Type 0} (x : Result (Vec Order Global) E) (c : ℕ) (bytes : List ℕ) (parent : ViewValue) (p q r : Slots)
-    (i j k : InstanceSlots) (os ns : List OpenConnection) (ss : List StepValue) (made : Vec Order Global) →
-    ActsIn parent p i os q j ns (after_bytes_on c bytes) →
-    AreOrders (jobs_after_steps (steps_at (state_in q j) start_jobs) (state_in q j).jobs) made.items (orders_at (state_in q j) start_jobs) →
-    ss ≡ steps_at (state_in q j) start_jobs →
-    OnOk x (state_in r k ≡ state_after_change (Settles ss) (state_in q j)) → IfOk x (λ orders. orders ≡ made) →
-    IfOk x (HasOrdersOf parent p i os r k (received c bytes))
-starts_ordered x c bytes parent p q r i j k os ns ss made acts h is =
-    ok_if x (λ orders. orders ≡ made) (HasOrdersOf parent p i os r k (received c bytes)) (λ orders done same l st.
-    let came = acts l st in
-    orders_are (state_in q j) start_jobs ss (state_in r k).jobs made orders same h is (ap (λ (s : InstanceState). s.jobs) done)
-    ∙ ap (λ (s : InstanceState). map Some (orders_at s start_jobs)) came.state)
-
-pub starts_cut : (c : ℕ) (bytes : List ℕ) (parent : ViewValue) (p q r : Slots) (i j k : InstanceSlots) (os ns xs : List OpenConnection) →
-    HaveCome c bytes parent p q i j os ns → Moves q r (holders_of (slots_of j ns)) (holders_of (slots_of k xs)) →
-    state_in r k ≡ state_in q j → CutsShort parent p i os r k (bytes_events c bytes)
-starts_cut c bytes parent p q r i j k os ns xs h moves same = λ l st.
-    let came = h.acts l st in
-    let still : state_beside r parent k ≡ (after_bytes_on c bytes l).state =
-    beside_at parent q r j k ns xs (state_in q j) moves (come_beside c bytes parent p q i j os ns h) same ∙ came.state in
-    subst (λ (s : InstanceState). IsCutShort (bytes_events c bytes l) l.state s) (sym still) (all_done c bytes l)
+pub starts_cut : (c : ℕ) (bytes : List ℕ) (a b d : LentValue) → HaveCome c bytes a b → GoesOn b d → KeepsApart c a d →
+    state_in d.pool d.instance ≡ state_in b.pool b.instance → IsCut (received c bytes) a d
+starts_cut c bytes a b d h goes apart same = record {
+  acts = λ l st.
+      let came = h.acts l st in
+      let still : lent_state d ≡ (after_bytes_on c bytes l).state =
+      beside_at b d (state_in b.pool b.instance) goes.parent goes.moves (still_lent a b h.lent h.goes) same ∙ came.state in
+      subst (λ (s : InstanceState). IsCutShort (bytes_events c bytes l) l.state s) (sym still) (all_done c bytes l);
+  others = apart.others;
+  finds = apart.finds;
+}
 
 pub starts_within : {T E : Type 0} (x : Result T E) (s t : InstanceState) (ss : List StepValue) → IsInstanceWithin s →
     ss ≡ steps_at s start_jobs → OnOk x (t ≡ state_after_change (Settles ss) s) → OnErr x (t ≡ s) → IsInstanceWithin t
@@ -262,52 +254,64 @@ starts_within x s t ss w is done short =
 abbrev pub IsTicked : Slots → InstanceSlots → InstanceSlots → Type 0
 IsTicked p i j = (parent : List Blob) → seeing parent (state_in p j) ≡ state_after (seeing parent (state_in p i)) time_passes
 
-ticked_beside : (p : Slots) (parent : ViewValue) (i j : InstanceSlots) (os : List OpenConnection) →
-    ((k : ℕ) → holders_of_instance j k ≡ holders_of_instance i k) → IsServedBeside p parent (slots_of i os) →
-    IsServedBeside p parent (slots_of j os)
-ticked_beside p parent i j os same h = record { counted = λ k. omega (arith, same k, h.counted k); named = h.named }
+pub ticked_goes : (a : LentValue) (j : InstanceSlots) → ((k : ℕ) → holders_of_instance j k ≡ holders_of_instance a.instance k) →
+    IsInstanceInPool a.pool j → IsKept a → GoesOn a (with_instance a a.pool j)
+ticked_goes a j same own kept = record {
+  parent = refl;
+  moves = moves_none a.pool (holders_of (lent_slots a)) (holders_of (lent_slots (with_instance a a.pool j)))
+      (λ n. omega (arith, same n));
+  kept = moment_keeps a.pool a.instance j (map connection_shown a.connections) kept same own;
+}
 
-pub late_ends_act : {T E : Type 0} (x : Result T E) (p q : Slots) (i j k : InstanceSlots) (os ns : List OpenConnection) (rs : List Reply)
-    (ss : List StepValue) → ((n : ℕ) → holders_of_instance j n ≡ holders_of_instance i n) → IsTicked p i j →
-    map (reply_shown p) rs ≡ (answer (state_in p j) end_late_jobs).replies → ss ≡ steps_at (state_in p j) end_late_jobs →
-    Moves p q (holders_of (slots_of j os)) (holders_of (slots_of k ns)) → FindAlike p q ns →
-    OnOk x (AreGiven rs os ns) → OnOk x (state_in q k ≡ state_after_change (Settles ss) (state_in p j)) →
-    OnOk x ((parent : ViewValue) → IsServedBeside p parent (slots_of i os) → ActsAtRest parent p i os q k ns (effect_of tick))
-late_ends_act x p q i j k os ns rs ss same ticked replies is moves find = ok_both x (λ gives done parent first l rest st.
-    let m = after_call_event time_passes l in
-    let came : StandsBy (text_at p) (state_beside p parent j) os m =
-    tick_acts (state_beside p parent i) (state_beside p parent j) os (ticked (visible_in p parent)) (text_at p) l st in
-    let beside = ticked_beside p parent i j os same first in
-    let all : map (reply_shown p) rs ≡ (answer m.state end_late_jobs).replies =
-    replies ∙ ap (λ (s : InstanceState). (answer s end_late_jobs).replies) came.state in
-    let own : state_in q k ≡ state_after (state_in p j) end_late_jobs =
-    done ∙ ap (λ (ys : List StepValue). state_after_change (Settles ys) (state_in p j)) is in
-    let after : state_beside q parent k ≡ state_after m.state end_late_jobs =
-    beside_at parent p q j k os ns (state_after (state_in p j) end_late_jobs) moves beside own
-    ∙ seeing_after (visible_in p parent) (state_in p j) end_late_jobs refl
-    ∙ ap (λ (s : InstanceState). state_after s end_late_jobs) came.state in
-    turns end_late_jobs parent p q k os ns rs m came.connections gives find all after)
+-- what stood before
+pub record HasTicked (a : LentValue) (j : InstanceSlots) : Type 0 where
+  pub lent : IsLent a
+  pub goes : GoesOn a (with_instance a a.pool j)
+  pub ticked : IsTicked a.pool a.instance j
 
-pub late_ends_ordered : {E : Type 0} (x : Result (Vec Order Global) E) (p q : Slots) (i j k : InstanceSlots) (os : List OpenConnection)
-    (ss : List StepValue) (made : Vec Order Global) → IsTicked p i j →
-    AreOrders (jobs_after_steps (steps_at (state_in p j) end_late_jobs) (state_in p j).jobs) made.items
-    (orders_at (state_in p j) end_late_jobs) → ss ≡ steps_at (state_in p j) end_late_jobs →
-    OnOk x (state_in q k ≡ state_after_change (Settles ss) (state_in p j)) → IfOk x (λ orders. orders ≡ made) →
-    IfOk x (λ orders. (parent : ViewValue) → HasOrdersOf parent p i os q k tick orders)
-late_ends_ordered x p q i j k os ss made ticked h is =
-    ok_if x (λ orders. orders ≡ made) (λ orders. (parent : ViewValue) → HasOrdersOf parent p i os q k tick orders)
-    (λ orders done same parent l st.
-    let came : state_beside p parent j ≡ state_after l.state time_passes =
-    ticked (visible_in p parent) ∙ ap (λ (s : InstanceState). state_after s time_passes) st.state in
-    orders_are (state_in p j) end_late_jobs ss (state_in q k).jobs made orders same h is (ap (λ (s : InstanceState). s.jobs) done)
-    ∙ ap (λ (s : InstanceState). map Some (orders_at s end_late_jobs)) came)
+pub late_ends_done : {E : Type 0} (x : Result (Vec Order Global) E) (a d : LentValue) (j : InstanceSlots) (turn : Turn) →
+    HasTicked a j → (let s = state_in a.pool j in IsReady a.pool s end_late_jobs (answer s end_late_jobs).replies turn) →
+    TakesTurn turn (with_instance a a.pool j) d → OnOk x (AreGiven turn.replies.items a.connections d.connections) →
+    OnOk x (state_in d.pool d.instance ≡ state_after_change (Settles (steps_shown turn.steps.items)) (state_in a.pool j)) →
+    IfOk x (λ orders. orders ≡ turn.orders) → IfOk x (IsDone tick a d)
+late_ends_done (Err e) a d j turn h ready t gives done same = tt
+late_ends_done (Ok orders) a d j turn h ready t gives done same =
+    let b = with_instance a a.pool j in
+    let s = state_in a.pool j in
+    let ss = steps_shown turn.steps.items in
+    let seen = visible_in a.pool a.parent in
+    record {
+      acts = λ l rest st.
+          let m = after_call_event time_passes l in
+          let came : LentStands b m = tick_acts (lent_state a) (lent_state b) a.connections (h.ticked seen) (text_at a.pool) l st in
+          let all : map (reply_shown a.pool) turn.replies.items ≡ (answer m.state end_late_jobs).replies =
+          ready.replies ∙ ap (λ (t : InstanceState). (answer t end_late_jobs).replies) came.state in
+          let own : state_in d.pool d.instance ≡ state_after s end_late_jobs =
+          done ∙ ap (λ (ys : List StepValue). state_after_change (Settles ys) s) ready.steps in
+          let after : lent_state d ≡ state_after m.state end_late_jobs =
+          beside_at b d (state_after s end_late_jobs) t.parent t.moves (still_lent a b h.lent h.goes) own
+          ∙ seeing_after seen s end_late_jobs refl
+          ∙ ap (λ (t : InstanceState). state_after t end_late_jobs) came.state in
+          turns end_late_jobs d.parent a.pool d.pool d.instance a.connections d.connections turn.replies.items m came.connections gives
+          t.texts all after;
+      orders = λ l st.
+          let came : lent_state b ≡ state_after l.state time_passes =
+          h.ticked seen ∙ ap (λ (t : InstanceState). state_after t time_passes) st.state in
+          orders_are s end_late_jobs ss (state_in d.pool d.instance).jobs turn.orders orders same ready.orders ready.steps
+          (ap (λ (t : InstanceState). t.jobs) done)
+          ∙ ap (λ (t : InstanceState). map Some (orders_at t end_late_jobs)) came;
+    }
 
-pub late_ends_cut : (p q : Slots) (i j k : InstanceSlots) (os ns : List OpenConnection) →
-    ((n : ℕ) → holders_of_instance j n ≡ holders_of_instance i n) → IsTicked p i j →
-    Moves p q (holders_of (slots_of j os)) (holders_of (slots_of k ns)) → state_in q k ≡ state_in p j →
-    (parent : ViewValue) → IsServedBeside p parent (slots_of i os) → CutsAct tick parent p i os q k
-late_ends_cut p q i j k os ns same ticked moves still parent first =
-    beside_at parent p q j k os ns (state_in p j) moves (ticked_beside p parent i j os same first) still ∙ ticked (visible_in p parent)
+pub late_ends_cut : (a d : LentValue) (j : InstanceSlots) → HasTicked a j → GoesOn (with_instance a a.pool j) d →
+    state_in d.pool d.instance ≡ state_in a.pool j → IsCut tick a d
+late_ends_cut a d j h goes same =
+    let b = with_instance a a.pool j in
+    record {
+      acts = beside_at b d (state_in a.pool j) goes.parent goes.moves (still_lent a b h.lent h.goes) same
+          ∙ h.ticked (visible_in a.pool a.parent);
+      others = refl;
+      finds = λ k some. absurd (omega (arith, some));
+    }
 
 pub late_ends_within : {T E : Type 0} (x : Result T E) (s t : InstanceState) (ss : List StepValue) → IsInstanceWithin s →
     ss ≡ steps_at s end_late_jobs → OnOk x (t ≡ state_after_change (Settles ss) s) → OnErr x (t ≡ s) → IsInstanceWithin t
@@ -318,44 +322,17 @@ late_ends_within x s t ss w is done short =
 
 -- ---- what the run of a job left is admitted, and then it ends
 
--- the instance admitted it, and gave nothing to its connections
-pub admitted : (p q : Slots) (i j : InstanceSlots) (os : List OpenConnection) → IsServedInPool p (slots_of i os) →
-    Moves p q (holders_of_instance i) (holders_of_instance j) → IsInstanceWithin (state_in q j) →
-    IsAnswered no_holders (λ texts. Unit {0}) p q q i j (map connection_shown os) (map connection_shown os)
-admitted p q i j os kept m within = record {
-  kept = kept;
-  moves = record { counts = λ k. omega (arith, m.counts k); texts = m.texts };
-  takes = take_none no_holders (λ texts. Unit {0}) q (map connection_shown os) (λ k. refl);
-  within = within;
-  good = tt;
-}
+pub admitted_goes : (a : LentValue) (q : Slots) (j : InstanceSlots) → IsKept a →
+    Moves a.pool q (holders_of_instance a.instance) (holders_of_instance j) → IsInstanceWithin (state_in q j) →
+    GoesOn a (with_instance a q j)
+admitted_goes a q j kept m within =
+    refused_goes a q j kept (record { counts = λ k. omega (arith, m.counts k); texts = m.texts }) within
 
-pub admitted_kept : (p q : Slots) (i j : InstanceSlots) (os : List OpenConnection) → IsServedInPool p (slots_of i os) →
-    Moves p q (holders_of_instance i) (holders_of_instance j) → IsInstanceWithin (state_in q j) → IsServedInPool q (slots_of j os)
-admitted_kept p q i j os kept m within =
-    let vs = map connection_shown os in
-    answered_kept no_holders (λ texts. Unit {0}) p q q i j vs vs (admitted p q i j os kept m within)
-    (omega (arith, few_connections p (slots_of i os) kept))
-
-pub admitted_moves : (p q : Slots) (i j : InstanceSlots) (os : List OpenConnection) → IsServedInPool p (slots_of i os) →
-    Moves p q (holders_of_instance i) (holders_of_instance j) → IsInstanceWithin (state_in q j) →
-    Moves p q (holders_of (slots_of i os)) (holders_of (slots_of j os))
-admitted_moves p q i j os kept m within =
-    let vs = map connection_shown os in
-    answered_moves no_holders (λ texts. Unit {0}) p q q i j vs vs (admitted p q i j os kept m within)
-
-pub admitted_finds : (p q : Slots) (i j : InstanceSlots) (os : List OpenConnection) → IsServedInPool p (slots_of i os) →
-    Moves p q (holders_of_instance i) (holders_of_instance j) → IsInstanceWithin (state_in q j) → FindAlike p q os
-admitted_finds p q i j os kept m within =
-    let a = admitted p q i j os kept m within in
-    asked_finds no_holders p q i j (map connection_shown os) kept a.moves
-
-admitted_served : (p q : Slots) (i j : InstanceSlots) (os : List OpenConnection) (l : LoneInstance) → IsServedInPool p (slots_of i os) →
-    Moves p q (holders_of_instance i) (holders_of_instance j) → IsInstanceWithin (state_in q j) →
-    AreServed (text_at p) (map connection_shown os) (open_ones l.connections) →
-    AreServed (text_at q) (map connection_shown os) (open_ones l.connections)
-admitted_served p q i j os l kept m within s =
-    served_agreed (text_at p) (text_at q) (map connection_shown os) (open_ones l.connections) (admitted_finds p q i j os kept m within) s
+pub admitted_finds : (a : LentValue) (q : Slots) (j : InstanceSlots) → IsKept a →
+    Moves a.pool q (holders_of_instance a.instance) (holders_of_instance j) → FindAlike a.pool q a.connections
+admitted_finds a q j kept m =
+    asked_finds no_holders a.pool q a.instance j (map connection_shown a.connections) kept
+    (record { counts = λ k. omega (arith, m.counts k); texts = m.texts })
 
 -- nothing of it reads what the parent has
 changes_seeing : (bs : List Blob) (s : InstanceState) (outcome : OutcomeValue) (o : Option JobValue) →
@@ -380,67 +357,67 @@ orders_seeing : (bs : List Blob) (s : InstanceState) (n : ℕ) (outcome : Outcom
     orders_at (seeing bs s) (end_job n outcome) ≡ orders_at s (end_job n outcome)
 orders_seeing bs s n outcome = ap (λ (xs : List StepValue). orders_of xs s.jobs) (steps_seeing bs s n outcome (running_job n s.jobs))
 
--- what stood before and behind that
-pub record HasAdmitted (n : ℕ) (outcome : OutcomeValue) (p q : Slots) (i j : InstanceSlots) (os : List OpenConnection) : Type 0 where
-  pub kept : IsServedInPool p (slots_of i os)
-  pub moves : Moves p q (holders_of_instance i) (holders_of_instance j)
-  pub within : IsInstanceWithin (state_in q j)
-  pub after : IsAdmitted (state_in p i) n outcome (state_in q j)
+-- what stood before
+pub record HasAdmitted (n : ℕ) (outcome : OutcomeValue) (a : LentValue) (q : Slots) (j : InstanceSlots) : Type 0 where
+  pub lent : IsLent a
+  pub goes : GoesOn a (with_instance a q j)
+  pub finds : FindAlike a.pool q a.connections
+  pub after : IsAdmitted (state_in a.pool a.instance) n outcome (state_in q j)
 
-pub end_acts : {T E : Type 0} (x : Result T E) (n : ℕ) (outcome : OutcomeValue) (p q r : Slots) (i j k : InstanceSlots)
-    (os ns : List OpenConnection) (rs : List Reply) (ss : List StepValue) → HasAdmitted n outcome p q i j os →
-    map (reply_shown q) rs ≡ (answer (state_in p i) (end_job n outcome)).replies → ss ≡ steps_at (state_in p i) (end_job n outcome) →
-    Moves p r (holders_of (slots_of i os)) (holders_of (slots_of k ns)) → FindAlike q r ns →
-    OnOk x (AreGiven rs os ns) → OnOk x (state_in r k ≡ state_after_change (Settles ss) (state_in q j)) →
-    OnOk x ((parent : ViewValue) → IsServedBeside p parent (slots_of i os) →
-    ActsAtRest parent p i os r k ns (effect_of (ended n outcome)))
-end_acts x n outcome p q r i j k os ns rs ss h replies is moves find = ok_both x (λ gives done parent beside l rest st.
+pub end_done : {E : Type 0} (x : Result (Vec Order Global) E) (n : ℕ) (outcome : OutcomeValue) (a d : LentValue) (q : Slots)
+    (j : InstanceSlots) (turn : Turn) → HasAdmitted n outcome a q j → (let s = state_in a.pool a.instance in
+    IsReady q s (end_job n outcome) (answer s (end_job n outcome)).replies turn) → TakesTurn turn (with_instance a q j) d →
+    OnOk x (AreGiven turn.replies.items a.connections d.connections) →
+    OnOk x (state_in d.pool d.instance ≡ state_after_change (Settles (steps_shown turn.steps.items)) (state_in q j)) →
+    IfOk x (λ orders. orders ≡ turn.orders) → IfOk x (IsDone (ended n outcome) a d)
+end_done (Err e) n outcome a d q j turn h ready t gives done same = tt
+end_done (Ok orders) n outcome a d q j turn h ready t gives done same =
     let what = end_job n outcome in
-    let s = state_in p i in
-    let own : state_in r k ≡ state_after s what = after_ending s (state_in q j) (state_in r k) n outcome ss h.after is done in
-    let after : state_beside r parent k ≡ state_after l.state what =
-    beside_at parent p r i k os ns (state_after s what) moves beside own
-    ∙ seeing_after (visible_in p parent) s what (ap (λ (a : Answer). a.changes) (answer_seeing (visible_in p parent) s n outcome))
-    ∙ ap (λ (t : InstanceState). state_after t what) st.state in
-    let all : map (reply_shown q) rs ≡ (answer l.state what).replies =
-    replies ∙ sym (ap (λ (a : Answer). a.replies) (answer_seeing (visible_in p parent) s n outcome))
-    ∙ ap (λ (t : InstanceState). (answer t what).replies) st.state in
-    turns what parent q r k os ns rs l (admitted_served p q i j os l h.kept h.moves h.within st.connections) gives find all after)
-
-pub end_ordered : {E : Type 0} (x : Result (Vec Order Global) E) (n : ℕ) (outcome : OutcomeValue) (p q r : Slots) (i j k : InstanceSlots)
-    (os : List OpenConnection) (ss : List StepValue) (made : Vec Order Global) → IsAdmitted (state_in p i) n outcome (state_in q j) →
-    AreOrders (jobs_after_steps (steps_at (state_in p i) (end_job n outcome)) (state_in p i).jobs) made.items
-    (orders_at (state_in p i) (end_job n outcome)) → ss ≡ steps_at (state_in p i) (end_job n outcome) →
-    OnOk x (state_in r k ≡ state_after_change (Settles ss) (state_in q j)) → IfOk x (λ orders. orders ≡ made) →
-    IfOk x (λ orders. (parent : ViewValue) → HasOrdersOf parent p i os r k (ended n outcome) orders)
-end_ordered x n outcome p q r i j k os ss made e h is =
-    ok_if x (λ orders. orders ≡ made) (λ orders. (parent : ViewValue) → HasOrdersOf parent p i os r k (ended n outcome) orders)
-    (λ orders done same parent l st.
-    let s = state_in p i in
-    let after : (state_in r k).jobs ≡ jobs_after_steps ss s.jobs =
-    ap (λ (t : InstanceState). t.jobs) done ∙ ap (jobs_after_steps ss) (same_jobs s (state_in q j) n outcome e) in
-    orders_are s (end_job n outcome) ss (state_in r k).jobs made orders same h is after
-    ∙ ap (map Some) (sym (orders_seeing (visible_in p parent) s n outcome))
-    ∙ ap (λ (t : InstanceState). map Some (orders_at t (end_job n outcome))) st.state)
+    let s = state_in a.pool a.instance in
+    let ss = steps_shown turn.steps.items in
+    let seen = visible_in a.pool a.parent in
+    let b = with_instance a q j in
+    let moves = moves_trans a.pool q d.pool (holders_of (lent_slots a)) (holders_of (lent_slots b)) (holders_of (lent_slots d))
+    h.goes.moves t.moves in
+    record {
+      acts = λ l rest st.
+          let own : state_in d.pool d.instance ≡ state_after s what =
+          after_ending s (state_in q j) (state_in d.pool d.instance) n outcome ss h.after ready.steps done in
+          let after : lent_state d ≡ state_after l.state what =
+          beside_at a d (state_after s what) t.parent moves h.lent own
+          ∙ seeing_after seen s what (ap (λ (x : Answer). x.changes) (answer_seeing seen s n outcome))
+          ∙ ap (λ (t : InstanceState). state_after t what) st.state in
+          let all : map (reply_shown q) turn.replies.items ≡ (answer l.state what).replies =
+          ready.replies ∙ sym (ap (λ (x : Answer). x.replies) (answer_seeing seen s n outcome))
+          ∙ ap (λ (t : InstanceState). (answer t what).replies) st.state in
+          let served = served_agreed (text_at a.pool) (text_at q) (map connection_shown a.connections) (open_ones l.connections)
+          h.finds st.connections in
+          turns what d.parent q d.pool d.instance a.connections d.connections turn.replies.items l served gives t.texts all after;
+      orders = λ l st.
+          let after : (state_in d.pool d.instance).jobs ≡ jobs_after_steps ss s.jobs =
+          ap (λ (t : InstanceState). t.jobs) done ∙ ap (jobs_after_steps ss) (same_jobs s (state_in q j) n outcome h.after) in
+          orders_are s what ss (state_in d.pool d.instance).jobs turn.orders orders same ready.orders ready.steps after
+          ∙ ap (map Some) (sym (orders_seeing seen s n outcome))
+          ∙ ap (λ (t : InstanceState). map Some (orders_at t what)) st.state;
+    }
 
 -- a front was made, and what the parent has stays
-front_beside : (parent : ViewValue) (p q : Slots) (i j : InstanceSlots) (os ns : List OpenConnection) (n : ℕ) (outcome : OutcomeValue) →
-    Moves p q (holders_of (slots_of i os)) (holders_of (slots_of j ns)) → IsServedBeside p parent (slots_of i os) →
-    MadeInPart (ending_changes (state_in p i) outcome (running_job n (state_in p i).jobs)) (state_in p i) (state_in q j) →
-    CutsAct (ended n outcome) parent p i os q j
-front_beside parent p q i j os ns n outcome m beside part = record {
-  made = part.made;
-  left = part.left;
-  front = changes_seeing (visible_in p parent) (state_in p i) outcome (running_job n (state_in p i).jobs) ∙ part.front;
-  so_far = beside_at parent p q i j os ns (state_after_changes part.made (state_in p i)) m beside part.so_far
-      ∙ sym (after_seeing (visible_in p parent) part.made (state_in p i));
-}
-
-pub end_cut : (n : ℕ) (outcome : OutcomeValue) (p r : Slots) (i k : InstanceSlots) (os ns : List OpenConnection) →
-    Moves p r (holders_of (slots_of i os)) (holders_of (slots_of k ns)) →
-    MadeInPart (ending_changes (state_in p i) outcome (running_job n (state_in p i).jobs)) (state_in p i) (state_in r k) →
-    (parent : ViewValue) → IsServedBeside p parent (slots_of i os) → CutsAct (ended n outcome) parent p i os r k
-end_cut n outcome p r i k os ns moves part parent beside = front_beside parent p r i k os ns n outcome moves beside part
+pub end_cut : (n : ℕ) (outcome : OutcomeValue) (a d : LentValue) → IsLent a → GoesOn a d → (let s = state_in a.pool a.instance in
+    MadeInPart (ending_changes s outcome (running_job n s.jobs)) s (state_in d.pool d.instance)) → IsCut (ended n outcome) a d
+end_cut n outcome a d lent goes part =
+    let s = state_in a.pool a.instance in
+    let seen = visible_in a.pool a.parent in
+    record {
+      acts = record {
+        made = part.made;
+        left = part.left;
+        front = changes_seeing seen s outcome (running_job n s.jobs) ∙ part.front;
+        so_far = beside_at a d (state_after_changes part.made s) goes.parent goes.moves lent part.so_far
+            ∙ sym (after_seeing seen part.made s);
+      };
+      others = refl;
+      finds = λ k some. absurd (omega (arith, some));
+    }
 
 pub all_made : (s t u : InstanceState) (n : ℕ) (outcome : OutcomeValue) → IsAdmitted s n outcome t → u ≡ t →
     MadeInPart (ending_changes s outcome (running_job n s.jobs)) s u

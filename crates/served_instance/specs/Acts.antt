@@ -10,7 +10,7 @@ use Rattle.grpc_sending.specs.StoredSending.{SourceTexts, AgreeOn, new_stored_se
 use Rattle.instance_core.specs.State.{InstanceState}
 use Rattle.served_instance.specs.declared.open_connection.OpenConnection.{OpenConnection}
 use Rattle.served_instance.specs.Connections.{open_at, open_ones}
-use Rattle.served_instance.specs.Lone.{LoneInstance, after_reading_on, orders_of_what}
+use Rattle.served_instance.specs.Lone.{LoneInstance, after_reading_on, effect_of, orders_of_what}
 use Rattle.served_instance.specs.StandsFor.{AreServed}
 use Rattle.served_instance.specs.Places.{connection_at}
 use Rattle.served_instance.specs.Ranges.{AllKeepRanges, sources_at}
@@ -18,12 +18,12 @@ use Rattle.served_instance.specs.Slots.{ServedSlots}
 use Rattle.std.specs.declared.alloc.Global.{Global}
 use Rattle.std.specs.declared.vec.Vec.{Vec}
 use Rattle.execution.specs.declared.orders.Order.{Order}
-use Rattle.instance_core.specs.Slots.{InstanceSlots, state_beside, state_in}
+use Rattle.instance_core.specs.Slots.{InstanceSlots, state_in}
 use Rattle.instance_core.specs.Turns.{AreOrders}
 use Rattle.instance_core.specs.Watching.{WatchAtRest}
 use Rattle.server_events.specs.Events.{WhatValue}
-use Rattle.instance_core.specs.InstanceViewShown.{ViewValue}
 use Rattle.blob_pool.specs.Slots.{Slots, text_at}
+use Rattle.served_instance.specs.Lent.{LentValue, lent_state}
 use Rattle.served_instance.specs.Shown.{connection_shown}
 
 -- ---- one connection
@@ -101,27 +101,32 @@ abbrev pub Acts : InstanceState → List OpenConnection → InstanceState → Li
 Acts s os t ns step = (texts : SourceTexts) → ActsBy texts s os texts t ns step
 
 -- .. by those of a pool
-abbrev pub ActsIn : ViewValue → Slots → InstanceSlots → List OpenConnection → Slots →
-    InstanceSlots → List OpenConnection → (LoneInstance → LoneInstance) → Type 0
-ActsIn parent p i os q j ns step =
-    ActsBy (text_at p) (state_beside p parent i) os (text_at q) (state_beside q parent j) ns step
+abbrev pub ActsIn : LentValue → LentValue → (LoneInstance → LoneInstance) → Type 0
+ActsIn a b step =
+    ActsBy (text_at a.pool) (lent_state a) a.connections
+    (text_at b.pool) (lent_state b) b.connections step
+
+abbrev pub LentStands : LentValue → LoneInstance → Type 0
+LentStands a l = StandsBy (text_at a.pool) (lent_state a) a.connections l
 
 abbrev pub without_sending : ConnectionValue → ConnectionValue
 without_sending v = record v { sending = new_stored_sending }
 
 -- .. behind an event, before which nobody watched a job that waits though it could run
-abbrev pub ActsAtRest : ViewValue → Slots → InstanceSlots → List OpenConnection → Slots →
-    InstanceSlots → List OpenConnection → (LoneInstance → LoneInstance) → Type 0
-ActsAtRest parent p i os q j ns step =
-    (l : LoneInstance) → WatchAtRest l.state → StandsBy (text_at p) (state_beside p parent i) os l →
-    StandsBy (text_at q) (state_beside q parent j) ns (step l)
+abbrev pub ActsAtRest : LentValue → LentValue → (LoneInstance → LoneInstance) → Type 0
+ActsAtRest a b step =
+    (l : LoneInstance) → WatchAtRest l.state → LentStands a l → LentStands b (step l)
 
 -- the orders are those of an event of this kind
-abbrev pub HasOrdersOf : ViewValue → Slots → InstanceSlots → List OpenConnection → Slots →
-    InstanceSlots → WhatValue → Vec Order Global → Type 0
-HasOrdersOf parent p i os q j what orders =
-    (l : LoneInstance) → StandsBy (text_at p) (state_beside p parent i) os l →
-    AreOrders (state_in q j).jobs orders.items (orders_of_what what l)
+abbrev pub HasOrdersOf : LentValue → LentValue → WhatValue → Vec Order Global → Type 0
+HasOrdersOf a b what orders =
+    (l : LoneInstance) → LentStands a l →
+    AreOrders (state_in b.pool b.instance).jobs orders.items (orders_of_what what l)
+
+-- an event of this kind was carried out
+pub record IsDone (what : WhatValue) (a b : LentValue) (given : Vec Order Global) : Type 0 where
+  pub acts : ActsAtRest a b (effect_of what)
+  pub orders : HasOrdersOf a b what given
 
 -- an instance with its connections, as the code keeps it
 abbrev pub slots_of : InstanceSlots → List OpenConnection → ServedSlots
@@ -155,12 +160,11 @@ abbrev pub LeadsOn : InstanceState → List OpenConnection → InstanceState →
 LeadsOn s os t ns before after = (texts : SourceTexts) → LeadsBy texts s os texts t ns before after
 
 -- .. by those of a pool
-abbrev pub LeadsIn : ViewValue → Slots → InstanceSlots → List OpenConnection → Slots →
-    InstanceSlots → List OpenConnection → (LoneInstance → LoneInstance) →
+abbrev pub LeadsIn : LentValue → LentValue → (LoneInstance → LoneInstance) →
     (LoneInstance → LoneInstance) → Type 0
-LeadsIn parent p i os q j ns before after =
-    LeadsBy (text_at p) (state_beside p parent i) os (text_at q) (state_beside q parent j) ns
-    before after
+LeadsIn a b before after =
+    LeadsBy (text_at a.pool) (lent_state a) a.connections
+    (text_at b.pool) (lent_state b) b.connections before after
 
 -- all that was received on connection c and not read yet is read
 abbrev pub after_rest_on : ℕ → LoneInstance → LoneInstance

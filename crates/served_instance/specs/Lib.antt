@@ -10,6 +10,7 @@ pub mod OwedReplies
 pub mod Slots
 pub mod Shown
 pub mod Present
+pub mod Lent
 pub mod Acts
 pub mod Events
 pub mod Short
@@ -17,6 +18,7 @@ pub mod Narrow
 pub mod Losses
 pub mod Room
 pub mod Cuts
+pub mod Turns
 pub use Rattle.conn_core.specs.Writing
 pub use Rattle.conn_core.specs.History
 pub use Rattle.grpc_sending.specs.Bytes

@@ -14,9 +14,10 @@ ghost use Rattle.served_instance.specs.Refusals.{NeedsNoMemory, refusal_of, lone
 ghost use Rattle.served_instance.specs.StandsFor.{IsServedInstance, IsServedWithin, AreServed, AreSettled};
 ghost use Rattle.served_instance.specs.Present.{IsPlaceFor, IsPlaceOf, refusal_by, refusal_by_what, refusal_to_open, unless_present, unless_running, refusal_to_take};
 ghost use Rattle.served_instance.specs.Short.{IsServedShort};
-ghost use Rattle.served_instance.specs.Cuts.{CutsAct, others_by, others_than, state_without};
+ghost use Rattle.served_instance.specs.Cuts.{IsCut, LosesBroken};
+ghost use Rattle.served_instance.specs.Lent.{GoesOn, IsKept, IsLent, IsSameLoan, lent_value};
 ghost use Rattle.served_instance.specs.Shown.{connection_shown};
-ghost use Rattle.served_instance.specs.Acts.{Acts, ActsAtRest, HasOrdersOf, HoldAlike, FindAlike, slots_of};
+ghost use Rattle.served_instance.specs.Acts.{Acts, IsDone, HoldAlike, slots_of};
 ghost use Rattle.grpc_sending.specs.StoredSending.{SourceTexts};
 ghost use Rattle.job_queue.specs.declared.queue.TheConstants.{MOST_RUNNING};
 ghost use Rattle.execution.specs.InPool.{task_in};
@@ -33,9 +34,8 @@ ghost use Rattle.blob_pool.specs.Alone.{bytes_alone, holders_at};
 ghost use Rattle.instance_core.specs.Within.{most_stored_bytes};
 
 use crate::broken::Broken;
-use crate::calls::{break_off, break_off_all, close};
 use crate::held::range_sources;
-use crate::jobs::{end_run, pass_time, receive_and_start};
+use crate::lent::Lent;
 use crate::open_connection::{OpenConnection, connection_at, connection_near, find, take};
 use crate::pool_parts::PoolParts;
 use crate::refusal::EventRefusal;
@@ -196,19 +196,17 @@ impl ServedInstance {
             Err(refusal) => return Err(refusal),
         };
         self.instance.set_moment(event.moment);
-        let alloc = *self.connections.allocator();
         let broken = Broken::by(&event.what);
-        match act(
-            alloc,
+        let mut lent = Lent {
+            alloc: *self.connections.allocator(),
             parent,
-            pool,
-            &mut self.instance,
-            &mut self.connections,
-            place,
-            event.what,
-        ) {
+            pool: &mut *pool,
+            instance: &mut self.instance,
+            connections: &mut self.connections,
+        };
+        match lent.act(place, event.what) {
             Err(_) => {
-                break_off_by(pool, &mut self.instance, &mut self.connections, broken);
+                lent.break_off_by(broken);
                 Err(EventRefusal::NoMemory)
             }
             Ok(orders) => {
@@ -334,94 +332,56 @@ fn accept(
     }
 }
 
-/// Lets go of what want of memory breaks off. This takes no memory.
-fn break_off_by(
-    pool: &mut Pool,
-    instance: &mut Instance,
-    connections: &mut Vec<OpenConnection>,
-    broken: Broken,
-)
-    requires { IsServedInPool pool.old (slots_of instance.old connections.old.items) }
-    ensures left { connections.new.items ≡ others_by broken connections.old.items }
-    ensures forgotten { state_in pool.new instance.new
-        ≡ state_without broken (state_in pool.old instance.old) }
-    ensures finds { FindAlike pool.old pool.new connections.new.items }
-    ensures moves { Moves pool.old pool.new
-        (holders_of (slots_of instance.old connections.old.items))
-        (holders_of (slots_of instance.new connections.new.items)) }
-    ensures kept { IsServedInPool pool.new (slots_of instance.new connections.new.items) }
-{
-    match broken {
-        Broken::Nothing => {}
-        Broken::One(number) => break_off(pool, instance, connections, number),
-        Broken::All => break_off_all(pool, instance, connections),
-        Broken::AllAndJob(job) => {
-            break_off_all(pool, instance, connections);
-            instance.forget_job(pool, job);
+impl<'a> Lent<'a> {
+    /// Does what the event asks for. The connection that it is about stands at this place.
+    fn act(&mut self, place: usize, what: What) -> Result<Vec<Order>, AllocError>
+        requires place { IsPlaceFor (what_value what) place self.old.connections.now.items }
+        requires accepted { refusal_by_what (what_value what) self.old.instance.now.jobs
+            (map connection_shown self.old.connections.now.items)
+            ≡ None }
+        requires lent { IsLent (lent_value self.old) }
+        ensures done { IfOk result (IsDone (what_value what)
+            (lent_value self.old) (lent_value self.new)) }
+        ensures memory_free { OnErr result (NeedsNoMemory (what_value what) → ⊥) }
+        ensures cut { OnErr result (IsCut (what_value what)
+            (lent_value self.old) (lent_value self.new)) }
+        ensures goes { GoesOn (lent_value self.old) (lent_value self.new) }
+        ensures same { IsSameLoan self.old self.new }
+    {
+        match what {
+            What::Open(number) => {
+                open(self.alloc, self.instance.limits().window(), self.connections, number)?;
+                Ok(Vec::new(self.alloc))
+            }
+            What::Bytes(number, bytes) => self.receive_and_start(place, number, bytes),
+            What::Took(_, count) => {
+                take(self.connections, place, count as usize);
+                Ok(Vec::new(self.alloc))
+            }
+            What::Closed(number) => {
+                self.close(place, number);
+                Ok(Vec::new(self.alloc))
+            }
+            What::Tick => self.pass_time(),
+            What::Outcome(job, outcome) => self.end_run(job, outcome),
         }
     }
-}
 
-/// Does what the event asks for. The connection that it is about stands at this place.
-fn act(
-    alloc: Global,
-    parent: &View,
-    pool: &mut Pool,
-    instance: &mut Instance,
-    connections: &mut Vec<OpenConnection>,
-    place: usize,
-    what: What,
-) -> Result<Vec<Order>, AllocError>
-    requires place { IsPlaceFor (what_value what) place connections.old.items }
-    requires accepted { refusal_by_what (what_value what) instance.old.jobs
-        (map connection_shown connections.old.items)
-        ≡ None }
-    requires kept { IsServedInPool pool.old (slots_of instance.old connections.old.items) }
-    requires beside { IsServedBeside pool.old parent.now
-        (slots_of instance.old connections.old.items) }
-    ensures acted { OnOk result (ActsAtRest parent.now pool.old instance.old connections.old.items
-        pool.new instance.new connections.new.items (effect_of (what_value what))) }
-    ensures orders { IfOk result (HasOrdersOf parent.now pool.old instance.old
-        connections.old.items pool.new instance.new (what_value what)) }
-    ensures memory_free { OnErr result (NeedsNoMemory (what_value what) → ⊥) }
-    ensures memory { OnErr result (CutsAct (what_value what) parent.now pool.old instance.old
-        connections.old.items pool.new instance.new) }
-    ensures others { OnErr result (others_than (what_value what) connections.new.items
-        ≡ others_than (what_value what) connections.old.items) }
-    ensures finds { OnErr result (FindAlike pool.old pool.new
-        (others_than (what_value what) connections.old.items)) }
-    ensures moves { Moves pool.old pool.new
-        (holders_of (slots_of instance.old connections.old.items))
-        (holders_of (slots_of instance.new connections.new.items)) }
-    ensures kept { IsServedInPool pool.new (slots_of instance.new connections.new.items) }
-{
-    match what {
-        What::Open(number) => {
-            open(alloc, instance.limits().window(), connections, number)?;
-            Ok(Vec::new(alloc))
+    /// Lets go of what want of memory breaks off. This takes no memory.
+    fn break_off_by(&mut self, broken: Broken)
+        requires { IsKept (lent_value self.old) }
+        ensures lost { LosesBroken broken (lent_value self.old) (lent_value self.new) }
+        ensures same { IsSameLoan self.old self.new }
+    {
+        match broken {
+            Broken::Nothing => {}
+            Broken::One(number) => self.break_off(number),
+            Broken::All => self.break_off_all(),
+            Broken::AllAndJob(job) => {
+                self.break_off_all();
+                self.instance.forget_job(self.pool, job);
+            }
         }
-        What::Bytes(number, bytes) => {
-            receive_and_start(
-                alloc,
-                parent,
-                pool,
-                instance,
-                connections,
-                place,
-                number,
-                bytes,
-            )
-        }
-        What::Took(_, count) => {
-            take(connections, place, count as usize);
-            Ok(Vec::new(alloc))
-        }
-        What::Closed(number) => {
-            close(pool, instance, connections, place, number);
-            Ok(Vec::new(alloc))
-        }
-        What::Tick => pass_time(alloc, pool, instance, connections),
-        What::Outcome(job, outcome) => { end_run(alloc, pool, instance, connections, job, outcome) }
     }
 }
 

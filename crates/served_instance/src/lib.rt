@@ -8,6 +8,7 @@ mod held;
 mod instance;
 mod jobs;
 mod laws;
+mod lent;
 mod limits;
 mod open_connection;
 mod pool_parts;

@@ -3,10 +3,10 @@
 ghost use Rattle.std.specs.Prelude.{◌≡◌, ◌++◌, ◌<◌, ◌≤◌, ℕ, List, map, option_map, position, IfOk, OnOk, length, slice_index_or};
 ghost use Rattle.grpc_sending.specs.StoredSending.{SourceTexts};
 ghost use Rattle.conn_core.specs.Past.{Past, with_taken};
-ghost use Rattle.served_instance.specs.Acts.{BecomesAt, TakesStep, Pops, ReadsFrame, HoldAlike};
-ghost use Rattle.served_instance.specs.Cuts.{KeepsOthers};
+ghost use Rattle.served_instance.specs.Acts.{BecomesAt, TakesStep, Pops, ReadsFrame};
+ghost use Rattle.served_instance.specs.Cuts.{StepsAt};
 ghost use Rattle.served_instance.specs.Shown.{connection_shown};
-ghost use Rattle.served_instance.specs.Present.{is_numbered, IsPlaceOf, StayInPlace};
+ghost use Rattle.served_instance.specs.Present.{is_numbered, IsPlaceOf};
 ghost use Rattle.served_instance.specs.Connections.{LoneConnection, AreApart, open_ones};
 ghost use Rattle.served_instance.specs.StandsFor.{AreServed};
 ghost use Rattle.served_instance.specs.Places.{connection_at};
@@ -69,10 +69,7 @@ pub(crate) fn feed(
     ensures fed { OnOk result ((c : ℕ) → IsPlaceOf c place connections.old
         → BecomesAt c connections.old connections.new
         (TakesStep (λ p. record p { text = p.text ++ bytes.items }))) }
-    ensures holds { HoldAlike connections.old connections.new }
-    ensures others { (c : ℕ) → IsPlaceOf c place connections.old
-        → KeepsOthers c connections.old connections.new }
-    ensures places { StayInPlace connections.old connections.new }
+    ensures steps { StepsAt place connections.old connections.new }
 {
     connections[place].connection.feed(bytes)
 }
@@ -85,10 +82,7 @@ pub(crate) fn read_frame(
     requires { place < length connections.old }
     ensures read { IfOk result (λ more. (c : ℕ) → IsPlaceOf c place connections.old
         → BecomesAt c connections.old connections.new (ReadsFrame more)) }
-    ensures holds { HoldAlike connections.old connections.new }
-    ensures others { (c : ℕ) → IsPlaceOf c place connections.old
-        → KeepsOthers c connections.old connections.new }
-    ensures places { StayInPlace connections.old connections.new }
+    ensures steps { StepsAt place connections.old connections.new }
 {
     connections[place].connection.read_frame()
 }
@@ -98,10 +92,7 @@ pub(crate) fn pop_event(connections: &mut [OpenConnection], place: usize) -> Opt
     requires { place < length connections.old }
     ensures event { (c : ℕ) → IsPlaceOf c place connections.old
         → BecomesAt c connections.old connections.new (Pops result) }
-    ensures holds { HoldAlike connections.old connections.new }
-    ensures others { (c : ℕ) → IsPlaceOf c place connections.old
-        → KeepsOthers c connections.old connections.new }
-    ensures places { StayInPlace connections.old connections.new }
+    ensures steps { StepsAt place connections.old connections.new }
 {
     connections[place].connection.pop_event()
 }
@@ -113,7 +104,7 @@ pub(crate) fn take(connections: &mut [OpenConnection], place: usize, count: usiz
         → count ≤ length (slice_index_or connections.old place o).connection.sending.pending }
     ensures taken { (c : ℕ) → IsPlaceOf c place connections.old
         → BecomesAt c connections.old connections.new (TakesStep (λ p. with_taken p count)) }
-    ensures holds { HoldAlike connections.old connections.new }
+    ensures steps { StepsAt place connections.old connections.new }
 {
     connections[place].connection.took(count)
 }

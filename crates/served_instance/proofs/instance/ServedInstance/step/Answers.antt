@@ -10,7 +10,7 @@ use Rattle.served_instance.proofs.Watches.{accepted_watched, short_watched}
 use Rattle.std.specs.Prelude.{map, None, Some}
 use Rattle.served_instance.specs.declared.open_connection.OpenConnection.{OpenConnection}
 use Rattle.instance_core.specs.Slots.{state_in}
-use Rattle.served_instance.specs.Cuts.{others_by, state_without}
+use Rattle.served_instance.specs.Cuts.{LosesBroken, others_by}
 use Rattle.blob_pool.specs.Slots.{text_at}
 use Rattle.served_instance.specs.Acts.{slots_of}
 use Rattle.served_instance.specs.Ranges.{AreTidy}
@@ -18,6 +18,7 @@ use Rattle.served_instance.specs.Shown.{connection_shown}
 use Rattle.server_events.specs.Shown.{event_value}
 use Rattle.served_instance.specs.declared.refusal.EventRefusal.TheVariants.{NoSuchInstance, NoMemory}
 use Rattle.served_instance.specs.Present.{IsPlaceFor, refusal_by}
+use Rattle.served_instance.specs.Lent.{LentValue, lent_value}
 use Rattle.served_instance.specs.Lone.{lone_at_moment, lone_at_rest, after_pump, effect_of, orders_of_what}
 use Rattle.instance_core.specs.InstanceViewShown.{visible_in}
 use Rattle.served_instance.specs.Slots.{ServedSlots, served_state_in, StandsIn, IsServedInPool, IsServedBeside}
@@ -60,13 +61,14 @@ returns-in-Ok-act-clause-stands c = λ l s n.
     let came = came_by parent p c.self.inside.instance c.set_moment.new.self c.self.inside.connections.items c.args.self.now e.moment l
     c.self.view_is (c.set_moment.ensures.changed p) c.requires.kept.fit s in
     let rest : WatchAtRest m.state = record { given = s.watched.given; busy = s.watched.busy } in
-    let q = c.act.new.pool in
-    let j = c.act.new.instance in
-    let ns = c.act.new.connections.items in
-    let acts = c.in-Ok-act.ensures.acted m rest came in
+    let b = lent_value c.act.new.self in
+    let q = b.pool in
+    let j = b.instance in
+    let ns = b.connections in
+    let acts = c.in-Ok-act.ensures.done.acts m rest came in
     let jobs : AreJobs l.state.jobs = subst (λ (x : InstanceState). AreJobs x.jobs) s.state c.requires.kept.within.instance.jobs in
     let k = lone_at_rest (effect_of e.what m) in
-    let rested = at_rest parent q j ns (effect_of e.what m) acts in
+    let rested = at_rest b.parent q j ns (effect_of e.what m) acts in
     let pumped = c.pump.ensures.stands k (record { state = rested.state; connections = rested.connections }) in
     let here = served_by c.pump.new.pool c.pump.new.self (after_pump k)
     (accepted_watched seen e l jobs s.watched) c.pump.ensures.tidy c.pump.ensures.kept.fit pumped in
@@ -84,13 +86,12 @@ returns-in-Ok-act-clause-settled c = λ l s.
     let came = came_by parent p c.self.inside.instance c.set_moment.new.self c.self.inside.connections.items c.args.self.now e.moment l
     c.self.view_is (c.set_moment.ensures.changed p) c.requires.kept.fit s in
     let rest : WatchAtRest m.state = record { given = s.watched.given; busy = s.watched.busy } in
-    let q = c.act.new.pool in
-    let ns = c.act.new.connections.items in
-    let acts = c.in-Ok-act.ensures.acted m rest came in
+    let b = lent_value c.act.new.self in
+    let acts = c.in-Ok-act.ensures.done.acts m rest came in
     settled_accepted seen p e c.args.self.now l (seen_refusal
     (event_value c.args.event).lone c.self.inside.instance c.deref.result.now c.self.inside.connections.items c.args.self.now None
     c.deref.ensures.value c.self.view_is c.in-Ok.ensures.refused) c.requires.kept.fit s
-    (pump_settles (text_at q) (map connection_shown ns) (effect_of e.what m).connections acts.connections)
+    (pump_settles (text_at b.pool) (map connection_shown b.connections) (effect_of e.what m).connections acts.connections)
 
 pub returns-in-Ok-act-clause-orders : goal.returns-in-Ok-act-clause-orders
 returns-in-Ok-act-clause-orders c = λ l s.
@@ -102,20 +103,21 @@ returns-in-Ok-act-clause-orders c = λ l s.
     let came = came_by parent p c.self.inside.instance c.set_moment.new.self c.self.inside.connections.items c.args.self.now e.moment l
     c.self.view_is (c.set_moment.ensures.changed p) c.requires.kept.fit s in
     let rest : WatchAtRest m.state = record { given = s.watched.given; busy = s.watched.busy } in
-    let q = c.act.new.pool in
-    let j = c.act.new.instance in
-    let ns = c.act.new.connections.items in
-    let acts = c.in-Ok-act.ensures.acted m rest came in
+    let b = lent_value c.act.new.self in
+    let q = b.pool in
+    let j = b.instance in
+    let ns = b.connections in
+    let acts = c.in-Ok-act.ensures.done.acts m rest came in
     let jobs : AreJobs l.state.jobs = subst (λ (x : InstanceState). AreJobs x.jobs) s.state c.requires.kept.within.instance.jobs in
     let k = lone_at_rest (effect_of e.what m) in
-    let rested = at_rest parent q j ns (effect_of e.what m) acts in
+    let rested = at_rest b.parent q j ns (effect_of e.what m) acts in
     let here : StandsIn q (slots_of j ns) k = record { state = rested.state; connections = rested.connections } in
     let after = c.pump.ensures.stands k here in
     let same : (state_in c.pump.new.pool c.pump.new.self.instance).jobs ≡ (state_in q j).jobs =
     ap (λ (x : InstanceState). x.jobs) after.state ∙ sym (ap (λ (x : InstanceState). x.jobs) here.state) in
     let orders = c.in-Ok-act.orders.items in
     let are : AreOrders (state_in c.pump.new.pool c.pump.new.self.instance).jobs orders (orders_of_what e.what m) =
-    subst (λ (js : Jobs JobValue). AreOrders js orders (orders_of_what e.what m)) (sym same) (c.in-Ok-act.ensures.orders m came) in
+    subst (λ (js : Jobs JobValue). AreOrders js orders (orders_of_what e.what m)) (sym same) (c.in-Ok-act.ensures.done.orders m came) in
     orders_accepted seen p e c.args.self.now l (state_in c.pump.new.pool c.pump.new.self.instance).jobs orders
     (seen_refusal (event_value c.args.event).lone c.self.inside.instance c.deref.result.now c.self.inside.connections.items
     c.args.self.now None c.deref.ensures.value c.self.view_is c.in-Ok.ensures.refused) c.requires.kept.fit s are
@@ -137,12 +139,14 @@ act-requires c =
       accepted = same_what e.what c.self.inside.instance.jobs c.set_moment.new.self.jobs vs
           (λ q. ap (λ (x : InstanceState). x.jobs) (c.set_moment.ensures.changed q))
           ∙ accepted_what e at (subst P (sym c.self.view_is) none);
-      kept = moment_keeps p c.self.inside.instance c.set_moment.new.self vs kept c.set_moment.ensures.holders
-          (c.set_moment.ensures.kept p (instance_kept p at at refl kept));
-      beside =
-          let B : ServedSlots → Type 0 = λ v. IsServedBeside p c.args.parent.now v in
-          let here : IsServedBeside p c.args.parent.now at = subst B (sym c.self.view_is) c.requires.beside in
-          record { counted = λ k. omega (arith, here.counted k, c.set_moment.ensures.holders k); named = here.named };
+      lent = record {
+        kept = moment_keeps p c.self.inside.instance c.set_moment.new.self vs kept c.set_moment.ensures.holders
+            (c.set_moment.ensures.kept p (instance_kept p at at refl kept));
+        beside =
+            let B : ServedSlots → Type 0 = λ v. IsServedBeside p c.args.parent.now v in
+            let here : IsServedBeside p c.args.parent.now at = subst B (sym c.self.view_is) c.requires.beside in
+            record { counted = λ k. omega (arith, here.counted k, c.set_moment.ensures.holders k); named = here.named };
+      };
     }
 
 pub returns-in-Err-clause-here : goal.returns-in-Err-clause-here
@@ -160,7 +164,10 @@ returns-in-Err-clause-memory_free c = λ free h.
     c.args.self.now (Some c.in-Err.refusal) c.deref.ensures.value c.self.view_is c.in-Err.ensures.refused) same
 
 pub break_off_by-requires : goal.break_off_by-requires
-break_off_by-requires c = c.act.ensures.kept
+break_off_by-requires c = c.act.ensures.goes.kept
+
+pub pump-requires : goal.pump-requires
+pump-requires c = c.act.ensures.goes.kept
 
 pub returns-in-Err-act-clause-short : goal.returns-in-Err-act-clause-short
 returns-in-Err-act-clause-short c = λ memory l s.
@@ -172,27 +179,18 @@ returns-in-Err-act-clause-short c = λ memory l s.
     let came = came_by parent p c.self.inside.instance c.set_moment.new.self c.self.inside.connections.items c.args.self.now e.moment l
     c.self.view_is (c.set_moment.ensures.changed p) c.requires.kept.fit s in
     let jobs : AreJobs l.state.jobs = subst (λ (x : InstanceState). AreJobs x.jobs) s.state c.requires.kept.within.instance.jobs in
-    let q = c.act.new.pool in
-    let r = c.break_off_by.new.pool in
-    let i = c.set_moment.new.self in
-    let j = c.act.new.instance in
-    let k = c.break_off_by.new.instance in
     let os = c.self.inside.connections.items in
-    let ns = c.act.new.connections.items in
-    let xs = c.break_off_by.new.connections.items in
-    let broken : IsBroken parent e.what p q r i j k os ns xs = record {
-      cuts = c.in-Err-act.ensures.memory;
-      others = c.in-Err-act.ensures.others;
-      finds = c.in-Err-act.ensures.finds;
-      left = c.break_off_by.ensures.left ∙ ap (λ (b : Broken). others_by b ns) c.by-broken.ensures;
-      still = c.break_off_by.ensures.finds;
+    let a : LentValue = record { parent = parent; pool = p; instance = c.set_moment.new.self; connections = os } in
+    let b = lent_value c.act.new.self in
+    let d = lent_value c.break_off_by.new.self in
+    let broken : IsBroken e.what a b d = record {
+      cut = c.in-Err-act.ensures.cut;
+      lost = subst (λ (x : Broken). LosesBroken x b d) c.by-broken.ensures c.break_off_by.ensures.lost;
       tidy =
           let T : ServedSlots → Type 0 = λ v. AreTidy v.connections in
           subst T (sym c.self.view_is) c.requires.tidy;
-      fit = c.break_off_by.ensures.kept.fit;
-      forgotten = c.break_off_by.ensures.forgotten ∙ ap (λ (b : Broken). state_without b (state_in q j)) c.by-broken.ensures;
     } in
-    let left = is_left parent e.what p q r i j k os ns xs m c.in-Err-act.ensures.memory_free
+    let left = is_left e.what a b d m c.in-Err-act.ensures.memory_free
     (λ n cut. short_watched seen e l n cut jobs s.watched) broken came in
     record { left = left.0; short = left.1; stands = left.2 }
 
@@ -201,7 +199,7 @@ returns-in-Err-act-clause-tidy c =
     let e = (event_value c.args.event).lone in
     let T : ServedSlots → Type 0 = λ v. AreTidy v.connections in
     let os = c.self.inside.connections.items in
-    let ns = c.act.new.connections.items in
-    let left = c.break_off_by.ensures.left ∙ ap (λ (b : Broken). others_by b ns) c.by-broken.ensures in
-    still_tidy e.what os ns c.break_off_by.new.connections.items left c.in-Err-act.ensures.others
-    (subst T (sym c.self.view_is) c.requires.tidy)
+    let ns = (lent_value c.act.new.self).connections in
+    let xs = (lent_value c.break_off_by.new.self).connections in
+    let left = c.break_off_by.ensures.lost.left ∙ ap (λ (b : Broken). others_by b ns) c.by-broken.ensures in
+    still_tidy e.what os ns xs left c.in-Err-act.ensures.cut.others (subst T (sym c.self.view_is) c.requires.tidy)

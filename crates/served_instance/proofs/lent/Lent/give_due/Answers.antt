@@ -1,0 +1,189 @@
+use Rattle.std.proofs.Common.{◌≡◌, ◌<◌, ◌∙◌, sym, subst, refl, ℕ, List, length, arith}
+use Rattle.std.proofs.lemmas.Grind.{common_steps}
+use Rattle.std.specs.Prelude.{Option, Some, None}
+use Rattle.conn_core.specs.declared.event.CallEvent.{CallEvent}
+use Rattle.blob_pool.specs.Slots.{text_at}
+use Rattle.instance_core.specs.Apart.{IsCallOn}
+use Rattle.instance_core.specs.Calls.{CallEventValue}
+use Rattle.instance_core.specs.Shown.{event_shown}
+use Rattle.served_instance.specs.declared.open_connection.OpenConnection.{OpenConnection}
+use Rattle.served_instance.specs.Acts.{BecomesAt, Pops, due_count, present_at}
+use Rattle.served_instance.specs.Events.{due_events}
+use Rattle.served_instance.specs.Lent.{lent_state, lent_value}
+use Rattle.served_instance.specs.Lone.{after_due_on}
+use Rattle.served_instance.specs.Present.{IsPlaceOf}
+use Rattle.served_instance.proofs.Answered.{event_on}
+use Rattle.served_instance.proofs.BrokenOff.{on_err}
+use Rattle.served_instance.proofs.Changes.{changed_fewer, keeps_due, keeps_unread}
+use Rattle.served_instance.proofs.CutEvents.{cut_leads_here, due_answered, due_refused}
+use Rattle.served_instance.proofs.Leads.{leads_here, leads_acts_by, due_leads, popped_all, popped_unread}
+use Rattle.served_instance.proofs.Lends.{apart_here, apart_step, apart_trans, goes_here, goes_step, goes_trans, still_lent, stepped, through, with_connections, written}
+use Rattle.served_instance.proofs.Places.{place_there, place_within}
+use Rattle.served_instance.proofs.lent.Lent.give_due.Goals as goal
+
+pub events-init : goal.events-init
+events-init c =
+    let n = c.args.number in
+    let a = lent_value c.args.self.now in
+    record {
+      same = record { pool = refl; instance = refl; connections = refl };
+      leads = leads_here (lent_state a) a.connections (after_due_on n) (text_at a.pool);
+      unread = refl;
+      cuts = cut_leads_here (text_at a.pool) (lent_state a) a.connections (due_events n);
+      apart = apart_here n a;
+      goes = goes_here a c.requires.lent.kept;
+    }
+
+pub pop_event-requires : goal.pop_event-requires
+pop_event-requires c =
+    let n = c.args.number in
+    let d = lent_value c.events.self in
+    subst (λ (ys : List OpenConnection). c.args.place < length ys) (sym c.deref_mut.ensures.value)
+    (place_within n c.args.place d.connections (c.events.invariant.apart.places n ∙ c.requires.there))
+
+pub happen-requires : goal.happen-requires
+happen-requires c =
+    let n = c.args.number in
+    let a = lent_value c.args.self.now in
+    let d = lent_value c.events.self in
+    let all = c.events.self.connections.now in
+    let f = with_connections d (written all.len all.items c.pop_event.new.connections) in
+    let at = c.events.invariant.apart.places n ∙ c.requires.there in
+    let steps = stepped c.args.place all.len all.items c.deref_mut.result.now c.pop_event.new.connections c.deref_mut.ensures.value
+    (grind (arith, common_steps)) c.pop_event.auto.connections c.pop_event.ensures.steps in
+    let goes = goes_trans a d f c.events.invariant.goes
+    (goes_step c.args.place d f.connections steps c.events.invariant.goes.kept) in
+    record { short = c.call_event_on-event.ensures.short; lent = still_lent a f c.requires.lent goes }
+
+pub events-smaller : goal.events-smaller
+events-smaller c =
+    let n = c.args.number in
+    let a = lent_value c.args.self.now in
+    let d = lent_value c.events.self in
+    let all = c.events.self.connections.now in
+    let f = with_connections d (written all.len all.items c.pop_event.new.connections) in
+    let at = c.events.invariant.apart.places n ∙ c.requires.there in
+    let steps = stepped c.args.place all.len all.items c.deref_mut.result.now c.pop_event.new.connections c.deref_mut.ensures.value
+    (grind (arith, common_steps)) c.pop_event.auto.connections c.pop_event.ensures.steps in
+    let popped = through (λ ys zs. (k : ℕ) → IsPlaceOf k c.args.place ys → BecomesAt k ys zs (Pops (Some c.in-Some.event)))
+    all.len all.items c.deref_mut.result.now c.pop_event.new.connections c.deref_mut.ensures.value
+    (grind (arith, common_steps)) c.pop_event.auto.connections c.in-Some.ensures.event n at in
+    let there : present_at n d.connections ≡ None → ⊥ = place_there n c.args.place d.connections at in
+    let g = lent_value c.happen.new.self in
+    let fewer : due_count n f.connections < due_count n d.connections =
+    changed_fewer (λ v. length v.due) n d.connections f.connections (Pops (Some c.in-Some.event)) there popped (λ v w r. r.fewer) in
+    subst (λ (m : ℕ). m < due_count n d.connections) (sym (keeps_due n f.connections g.connections c.in_ok-happen.ensures.rest)) fewer
+
+pub events-preserved : goal.events-preserved
+events-preserved c =
+    let n = c.args.number in
+    let a = lent_value c.args.self.now in
+    let d = lent_value c.events.self in
+    let all = c.events.self.connections.now in
+    let f = with_connections d (written all.len all.items c.pop_event.new.connections) in
+    let at = c.events.invariant.apart.places n ∙ c.requires.there in
+    let steps = stepped c.args.place all.len all.items c.deref_mut.result.now c.pop_event.new.connections c.deref_mut.ensures.value
+    (grind (arith, common_steps)) c.pop_event.auto.connections c.pop_event.ensures.steps in
+    let goes = goes_trans a d f c.events.invariant.goes
+    (goes_step c.args.place d f.connections steps c.events.invariant.goes.kept) in
+    let popped = through (λ ys zs. (k : ℕ) → IsPlaceOf k c.args.place ys → BecomesAt k ys zs (Pops (Some c.in-Some.event)))
+    all.len all.items c.deref_mut.result.now c.pop_event.new.connections c.deref_mut.ensures.value
+    (grind (arith, common_steps)) c.pop_event.auto.connections c.in-Some.ensures.event n at in
+    let there : present_at n d.connections ≡ None → ⊥ = place_there n c.args.place d.connections at in
+    let on : IsCallOn n (event_shown c.call_event_on-event.result) =
+    subst (λ (e : CallEventValue). IsCallOn n e) (sym c.call_event_on-event.ensures.event) (event_on n c.in-Some.event) in
+    let g = lent_value c.happen.new.self in
+    let what = event_shown c.call_event_on-event.result in
+    record {
+      same = record {
+        pool = c.happen.ensures.same.pool ∙ c.events.invariant.same.pool;
+        instance = c.happen.ensures.same.instance ∙ c.events.invariant.same.instance;
+        connections = c.happen.ensures.same.connections ∙ c.events.invariant.same.connections;
+      };
+      leads = due_leads (text_at a.pool) (text_at d.pool) (text_at g.pool) n (lent_state a) (lent_state d) (lent_state g) a.connections
+          d.connections f.connections g.connections c.in-Some.event what c.events.invariant.leads popped there
+          c.call_event_on-event.ensures.event c.in_ok-happen.ensures.happened;
+      unread = keeps_unread n f.connections g.connections c.in_ok-happen.ensures.rest
+          ∙ popped_unread n d.connections f.connections (Some c.in-Some.event) popped ∙ c.events.invariant.unread;
+      cuts = due_answered (text_at a.pool) (text_at d.pool) (text_at g.pool) n (lent_state a) (lent_state d) (lent_state g) a.connections
+          d.connections f.connections g.connections c.in-Some.event what c.events.invariant.cuts popped there
+          c.call_event_on-event.ensures.event c.in_ok-happen.ensures.happened;
+      apart = apart_trans n a d g c.events.invariant.apart
+          (apart_trans n d f g (apart_step n c.args.place d f.connections steps at) (c.happen.ensures.apart n on));
+      goes = goes_trans a f g goes c.happen.ensures.goes;
+    }
+
+pub returns : goal.returns
+returns c =
+    let n = c.args.number in
+    let a = lent_value c.args.self.now in
+    let d = lent_value c.events.self in
+    let all = c.events.self.connections.now in
+    let f = with_connections d (written all.len all.items c.pop_event.new.connections) in
+    let at = c.events.invariant.apart.places n ∙ c.requires.there in
+    let steps = stepped c.args.place all.len all.items c.deref_mut.result.now c.pop_event.new.connections c.deref_mut.ensures.value
+    (grind (arith, common_steps)) c.pop_event.auto.connections c.pop_event.ensures.steps in
+    let goes = goes_trans a d f c.events.invariant.goes
+    (goes_step c.args.place d f.connections steps c.events.invariant.goes.kept) in
+    let popped = through (λ ys zs. (k : ℕ) → IsPlaceOf k c.args.place ys → BecomesAt k ys zs (Pops c.pop_event.result)) all.len all.items
+    c.deref_mut.result.now c.pop_event.new.connections c.deref_mut.ensures.value (grind (arith, common_steps))
+    c.pop_event.auto.connections c.pop_event.ensures.event n at in
+    let none : BecomesAt n d.connections f.connections (Pops None) =
+    subst (λ (o : Option CallEvent). BecomesAt n d.connections f.connections (Pops o)) c.in_default.is popped in
+    record {
+      due = leads_acts_by (text_at a.pool) (text_at d.pool) (text_at d.pool) (lent_state a) (lent_state d) (lent_state d) a.connections
+          d.connections f.connections (after_due_on n) (after_due_on n) c.events.invariant.leads
+          (popped_all n (lent_state d) d.connections f.connections none (text_at d.pool));
+      unread = popped_unread n d.connections f.connections None none ∙ c.events.invariant.unread;
+      memory = tt;
+      apart = apart_trans n a d f c.events.invariant.apart (apart_step n c.args.place d f.connections steps at);
+      goes = goes;
+      same = c.events.invariant.same;
+    }
+
+pub returns-in_err-happen-clause-memory : goal.returns-in_err-happen-clause-memory
+returns-in_err-happen-clause-memory c =
+    let n = c.args.number in
+    let a = lent_value c.args.self.now in
+    let d = lent_value c.events.self in
+    let all = c.events.self.connections.now in
+    let f = with_connections d (written all.len all.items c.pop_event.new.connections) in
+    let at = c.events.invariant.apart.places n ∙ c.requires.there in
+    let steps = stepped c.args.place all.len all.items c.deref_mut.result.now c.pop_event.new.connections c.deref_mut.ensures.value
+    (grind (arith, common_steps)) c.pop_event.auto.connections c.pop_event.ensures.steps in
+    let popped = through (λ ys zs. (k : ℕ) → IsPlaceOf k c.args.place ys → BecomesAt k ys zs (Pops (Some c.in-Some.event)))
+    all.len all.items c.deref_mut.result.now c.pop_event.new.connections c.deref_mut.ensures.value
+    (grind (arith, common_steps)) c.pop_event.auto.connections c.in-Some.ensures.event n at in
+    let there : present_at n d.connections ≡ None → ⊥ = place_there n c.args.place d.connections at in
+    on_err c.from_residual.result
+    (due_refused (text_at a.pool) (text_at d.pool) n (lent_state a) (lent_state d) (lent_state (lent_value c.happen.new.self)) a.connections
+    d.connections f.connections c.in-Some.event (event_shown c.call_event_on-event.result) c.events.invariant.cuts popped there
+    c.call_event_on-event.ensures.event c.in_err-happen.ensures.memory)
+
+pub returns-in_err-happen-clause-apart : goal.returns-in_err-happen-clause-apart
+returns-in_err-happen-clause-apart c =
+    let n = c.args.number in
+    let a = lent_value c.args.self.now in
+    let d = lent_value c.events.self in
+    let all = c.events.self.connections.now in
+    let f = with_connections d (written all.len all.items c.pop_event.new.connections) in
+    let at = c.events.invariant.apart.places n ∙ c.requires.there in
+    let steps = stepped c.args.place all.len all.items c.deref_mut.result.now c.pop_event.new.connections c.deref_mut.ensures.value
+    (grind (arith, common_steps)) c.pop_event.auto.connections c.pop_event.ensures.steps in
+    let on : IsCallOn n (event_shown c.call_event_on-event.result) =
+    subst (λ (e : CallEventValue). IsCallOn n e) (sym c.call_event_on-event.ensures.event) (event_on n c.in-Some.event) in
+    let g = lent_value c.happen.new.self in
+    apart_trans n a d g c.events.invariant.apart
+    (apart_trans n d f g (apart_step n c.args.place d f.connections steps at) (c.happen.ensures.apart n on))
+
+pub returns-in_err-happen-clause-goes : goal.returns-in_err-happen-clause-goes
+returns-in_err-happen-clause-goes c =
+    let a = lent_value c.args.self.now in
+    let d = lent_value c.events.self in
+    let all = c.events.self.connections.now in
+    let f = with_connections d (written all.len all.items c.pop_event.new.connections) in
+    let steps = stepped c.args.place all.len all.items c.deref_mut.result.now c.pop_event.new.connections c.deref_mut.ensures.value
+    (grind (arith, common_steps)) c.pop_event.auto.connections c.pop_event.ensures.steps in
+    let goes = goes_trans a d f c.events.invariant.goes
+    (goes_step c.args.place d f.connections steps c.events.invariant.goes.kept) in
+    goes_trans a f (lent_value c.happen.new.self) goes c.happen.ensures.goes

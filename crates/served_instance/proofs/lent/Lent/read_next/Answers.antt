@@ -1,0 +1,173 @@
+use Rattle.std.proofs.Common.{◌≡◌, ◌∙◌, List, length, refl, sym, subst, arith}
+use Rattle.std.proofs.lemmas.Grind.{common_steps}
+use Rattle.std.specs.Prelude.{Bool, true, false, None, ◌<◌}
+use Rattle.blob_pool.specs.Slots.{text_at}
+use Rattle.served_instance.specs.declared.open_connection.OpenConnection.{OpenConnection}
+use Rattle.served_instance.specs.Acts.{BecomesAt, ReadsFrame, present_at}
+use Rattle.served_instance.specs.Events.{rest_events}
+use Rattle.served_instance.specs.Lent.{lent_state, lent_value}
+use Rattle.served_instance.specs.Present.{IsPlaceOf}
+use Rattle.served_instance.proofs.BrokenOff.{on_err}
+use Rattle.served_instance.proofs.CutEvents.{nothing_cut, read_refused, read_cut_leads, done_cut_leads}
+use Rattle.served_instance.proofs.Leads.{read_leads, read_done, done_leads, read_fewer}
+use Rattle.served_instance.proofs.Lends.{apart_step, apart_trans, goes_step, goes_trans, still_lent, stepped, through, with_connections, written}
+use Rattle.served_instance.proofs.Places.{place_there, place_within}
+use Rattle.served_instance.proofs.lent.Lent.read_next.Goals as goal
+
+pub read_frame-requires : goal.read_frame-requires
+read_frame-requires c =
+    let os = c.args.self.now.connections.now.items in
+    subst (λ (ys : List OpenConnection). c.args.place < length ys) (sym c.deref_mut.ensures.value)
+    (place_within c.args.number c.args.place os c.requires.there)
+
+pub give_due-requires : goal.give_due-requires
+give_due-requires c =
+    let n = c.args.number in
+    let a = lent_value c.args.self.now in
+    let all = c.args.self.now.connections.now in
+    let xs = c.deref_mut.result.now in
+    let ns = c.read_frame.new.connections in
+    let f = with_connections a (written all.len all.items ns) in
+    let whole : all.len ≡ length all.items = grind (arith, common_steps) in
+    let count = c.read_frame.auto.connections in
+    let steps = stepped c.args.place all.len all.items xs ns c.deref_mut.ensures.value whole count c.read_frame.ensures.steps in
+    let apart = apart_step n c.args.place a f.connections steps c.requires.there in
+    let goes = goes_step c.args.place a f.connections steps c.requires.lent.kept in
+    record { there = apart.places n ∙ c.requires.there; lent = still_lent a f c.requires.lent goes }
+
+pub returns-in_ok-give_due : goal.returns-in_ok-give_due
+returns-in_ok-give_due c =
+    let n = c.args.number in
+    let a = lent_value c.args.self.now in
+    let all = c.args.self.now.connections.now in
+    let xs = c.deref_mut.result.now in
+    let ns = c.read_frame.new.connections in
+    let f = with_connections a (written all.len all.items ns) in
+    let whole : all.len ≡ length all.items = grind (arith, common_steps) in
+    let count = c.read_frame.auto.connections in
+    let steps = stepped c.args.place all.len all.items xs ns c.deref_mut.ensures.value whole count c.read_frame.ensures.steps in
+    let apart = apart_step n c.args.place a f.connections steps c.requires.there in
+    let goes = goes_step c.args.place a f.connections steps c.requires.lent.kept in
+    let read = through (λ ys zs. IsPlaceOf n c.args.place ys → BecomesAt n ys zs (ReadsFrame true)) all.len all.items xs ns
+    c.deref_mut.ensures.value whole count (λ at. subst (λ (b : Bool). BecomesAt n xs ns (ReadsFrame b)) c.if-branch.true
+    (c.in_ok-read_frame.ensures.read n at)) c.requires.there in
+    let there : present_at n a.connections ≡ None → ⊥ = place_there n c.args.place a.connections c.requires.there in
+    let g = lent_value c.give_due.new.self in
+    let due = c.in_ok-give_due.ensures.due in
+    record {
+      reads = read_leads (text_at a.pool) (text_at g.pool) n (lent_state a) (lent_state g) a.connections f.connections g.connections read
+          there due;
+      ends = λ no. cc;
+      fewer = λ more. read_fewer n a.connections f.connections g.connections read there c.in_ok-give_due.ensures.unread;
+      cuts = read_cut_leads (text_at a.pool) (text_at g.pool) n (lent_state a) (lent_state g) a.connections f.connections g.connections
+          read there due;
+      memory = tt;
+      apart = apart_trans n a f g apart c.give_due.ensures.apart;
+      goes = goes_trans a f g goes c.give_due.ensures.goes;
+      same = c.give_due.ensures.same;
+    }
+
+pub returns-in_err-give_due-clause-memory : goal.returns-in_err-give_due-clause-memory
+returns-in_err-give_due-clause-memory c =
+    let n = c.args.number in
+    let a = lent_value c.args.self.now in
+    let all = c.args.self.now.connections.now in
+    let xs = c.deref_mut.result.now in
+    let ns = c.read_frame.new.connections in
+    let f = with_connections a (written all.len all.items ns) in
+    let whole : all.len ≡ length all.items = grind (arith, common_steps) in
+    let count = c.read_frame.auto.connections in
+    let steps = stepped c.args.place all.len all.items xs ns c.deref_mut.ensures.value whole count c.read_frame.ensures.steps in
+    let read = through (λ ys zs. IsPlaceOf n c.args.place ys → BecomesAt n ys zs (ReadsFrame true)) all.len all.items xs ns
+    c.deref_mut.ensures.value whole count (λ at. subst (λ (b : Bool). BecomesAt n xs ns (ReadsFrame b)) c.if-branch.true
+    (c.in_ok-read_frame.ensures.read n at)) c.requires.there in
+    let there : present_at n a.connections ≡ None → ⊥ = place_there n c.args.place a.connections c.requires.there in
+    let g = lent_value c.give_due.new.self in
+    on_err c.from_residual-in_err-give_due.result
+    (read_refused (text_at a.pool) n (lent_state a) (lent_state g) a.connections f.connections read there c.in_err-give_due.ensures.memory)
+
+pub returns-in_err-give_due-clause-apart : goal.returns-in_err-give_due-clause-apart
+returns-in_err-give_due-clause-apart c =
+    let n = c.args.number in
+    let a = lent_value c.args.self.now in
+    let all = c.args.self.now.connections.now in
+    let xs = c.deref_mut.result.now in
+    let ns = c.read_frame.new.connections in
+    let f = with_connections a (written all.len all.items ns) in
+    let whole : all.len ≡ length all.items = grind (arith, common_steps) in
+    let count = c.read_frame.auto.connections in
+    let steps = stepped c.args.place all.len all.items xs ns c.deref_mut.ensures.value whole count c.read_frame.ensures.steps in
+    let apart = apart_step n c.args.place a f.connections steps c.requires.there in
+    let g = lent_value c.give_due.new.self in
+    apart_trans n a f g apart c.give_due.ensures.apart
+
+pub returns-in_err-give_due-clause-goes : goal.returns-in_err-give_due-clause-goes
+returns-in_err-give_due-clause-goes c =
+    let a = lent_value c.args.self.now in
+    let all = c.args.self.now.connections.now in
+    let xs = c.deref_mut.result.now in
+    let ns = c.read_frame.new.connections in
+    let f = with_connections a (written all.len all.items ns) in
+    let whole : all.len ≡ length all.items = grind (arith, common_steps) in
+    let count = c.read_frame.auto.connections in
+    let steps = stepped c.args.place all.len all.items xs ns c.deref_mut.ensures.value whole count c.read_frame.ensures.steps in
+    let goes = goes_step c.args.place a f.connections steps c.requires.lent.kept in
+    let g = lent_value c.give_due.new.self in
+    goes_trans a f g goes c.give_due.ensures.goes
+
+pub returns-in_err-read_frame-clause-memory : goal.returns-in_err-read_frame-clause-memory
+returns-in_err-read_frame-clause-memory c =
+    let a = lent_value c.args.self.now in
+    on_err c.from_residual.result (nothing_cut (text_at a.pool) (lent_state a) a.connections (rest_events c.args.number))
+
+pub returns-in_err-read_frame-clause-apart : goal.returns-in_err-read_frame-clause-apart
+returns-in_err-read_frame-clause-apart c =
+    let n = c.args.number in
+    let a = lent_value c.args.self.now in
+    let all = c.args.self.now.connections.now in
+    let xs = c.deref_mut.result.now in
+    let ns = c.read_frame.new.connections in
+    let f = with_connections a (written all.len all.items ns) in
+    let whole : all.len ≡ length all.items = grind (arith, common_steps) in
+    let count = c.read_frame.auto.connections in
+    let steps = stepped c.args.place all.len all.items xs ns c.deref_mut.ensures.value whole count c.read_frame.ensures.steps in
+    apart_step n c.args.place a f.connections steps c.requires.there
+
+pub returns-in_err-read_frame-clause-goes : goal.returns-in_err-read_frame-clause-goes
+returns-in_err-read_frame-clause-goes c =
+    let a = lent_value c.args.self.now in
+    let all = c.args.self.now.connections.now in
+    let xs = c.deref_mut.result.now in
+    let ns = c.read_frame.new.connections in
+    let f = with_connections a (written all.len all.items ns) in
+    let whole : all.len ≡ length all.items = grind (arith, common_steps) in
+    let count = c.read_frame.auto.connections in
+    let steps = stepped c.args.place all.len all.items xs ns c.deref_mut.ensures.value whole count c.read_frame.ensures.steps in
+    goes_step c.args.place a f.connections steps c.requires.lent.kept
+
+pub returns-else-branch : goal.returns-else-branch
+returns-else-branch c =
+    let n = c.args.number in
+    let a = lent_value c.args.self.now in
+    let all = c.args.self.now.connections.now in
+    let xs = c.deref_mut.result.now in
+    let ns = c.read_frame.new.connections in
+    let f = with_connections a (written all.len all.items ns) in
+    let whole : all.len ≡ length all.items = grind (arith, common_steps) in
+    let count = c.read_frame.auto.connections in
+    let steps = stepped c.args.place all.len all.items xs ns c.deref_mut.ensures.value whole count c.read_frame.ensures.steps in
+    let apart = apart_step n c.args.place a f.connections steps c.requires.there in
+    let goes = goes_step c.args.place a f.connections steps c.requires.lent.kept in
+    let read = through (λ ys zs. IsPlaceOf n c.args.place ys → BecomesAt n ys zs (ReadsFrame false)) all.len all.items xs ns
+    c.deref_mut.ensures.value whole count (λ at. subst (λ (b : Bool). BecomesAt n xs ns (ReadsFrame b)) c.if-branch.false
+    (c.in_ok-read_frame.ensures.read n at)) c.requires.there in
+    record {
+      reads = done_leads n (lent_state a) a.connections f.connections read (text_at a.pool);
+      ends = λ last. read_done n (lent_state a) a.connections f.connections read (text_at a.pool);
+      fewer = λ no. absurd no;
+      cuts = done_cut_leads (text_at a.pool) n (lent_state a) a.connections f.connections read;
+      memory = tt;
+      apart = apart;
+      goes = goes;
+      same = record { pool = refl; instance = refl; connections = refl };
+    }

@@ -17,6 +17,7 @@ use Rattle.served_instance.specs.Ranges.{range_holders}
 use Rattle.served_instance.specs.Short.{without_job}
 use Rattle.served_instance.specs.Shown.{connection_shown}
 use Rattle.served_instance.specs.Slots.{holders_of, IsServedBeside}
+use Rattle.served_instance.specs.Turns.{GoesApart}
 use Rattle.served_instance.proofs.Besides.{moved_beside}
 use Rattle.served_instance.proofs.Closes.{written_back}
 use Rattle.served_instance.proofs.Cut.{finds_here, finds_trans}
@@ -55,7 +56,7 @@ still_lent a b h g = record {
       (moved_beside a.pool b.pool a.parent (lent_slots a) (lent_slots b) g.moves h.beside);
 }
 
-pub apart_here : (c : ℕ) (a : LentValue) → KeepsApart c a a
+apart_here : (c : ℕ) (a : LentValue) → KeepsApart c a a
 apart_here c a = record { others = refl; finds = finds_here a.pool (others_of c a.connections); places = λ k. refl }
 
 pub apart_trans : (c : ℕ) (a b d : LentValue) → KeepsApart c a b → KeepsApart c b d → KeepsApart c a d
@@ -97,13 +98,25 @@ goes_step place a ns h kept =
           ));
     }
 
-pub apart_step : (c place : ℕ) (a : LentValue) (ns : List OpenConnection) → IsStepped place a.connections ns → IsPlaceOf c place a.connections →
+apart_step : (c place : ℕ) (a : LentValue) (ns : List OpenConnection) → IsStepped place a.connections ns → IsPlaceOf c place a.connections →
     KeepsApart c a (with_connections a ns)
 apart_step c place a ns h at = record {
   others = h.steps.others c at;
   finds = finds_here a.pool (others_of c a.connections);
   places = h.steps.places;
 }
+
+-- ---- what happens on a connection
+
+pub went_here : (c : ℕ) (a : LentValue) → IsKept a → GoesApart c a a
+went_here c a kept = record { apart = apart_here c a; goes = goes_here a kept }
+
+pub went_step : (c place : ℕ) (a : LentValue) (ns : List OpenConnection) → IsStepped place a.connections ns →
+    IsPlaceOf c place a.connections → IsKept a → GoesApart c a (with_connections a ns)
+went_step c place a ns h at kept = record { apart = apart_step c place a ns h at; goes = goes_step place a ns h kept }
+
+pub went_trans : (c : ℕ) (a b d : LentValue) → GoesApart c a b → GoesApart c b d → GoesApart c a d
+went_trans c a b d x y = record { apart = apart_trans c a b d x.apart y.apart; goes = goes_trans a b d x.goes y.goes }
 
 -- ---- connections are gone
 

@@ -15,8 +15,9 @@ ghost use Rattle.served_instance.specs.Ranges.{Releases, range_holders};
 ghost use Rattle.served_instance.specs.Shown.{connection_shown};
 ghost use Rattle.served_instance.specs.Events.{due_events, rest_events, bytes_events};
 ghost use Rattle.served_instance.specs.Short.{IsMadeInPart};
-ghost use Rattle.served_instance.specs.Cuts.{others_of, CutsShort, CutLeads, KeepsApart};
-ghost use Rattle.served_instance.specs.Lent.{GoesOn, IsKept, IsLent, IsSameLoan, LetsGo, lent_state, lent_value};
+ghost use Rattle.served_instance.specs.Cuts.{others_of, CutsShort, CutLeads};
+ghost use Rattle.served_instance.specs.Lent.{IsLent, IsSameLoan, LetsGo, lent_state, lent_value};
+ghost use Rattle.served_instance.specs.Turns.{GoesApart};
 ghost use Rattle.served_instance.specs.Lone.{LoneInstance, after_call_event, after_call_events, after_due_on, after_bytes_on, after_closing};
 
 use crate::lent::Lent;
@@ -39,9 +40,8 @@ impl<'a> Lent<'a> {
             self.new.connections.now.items) }
         ensures memory { OnErr result (IsMadeInPart (event_shown event)
             (lent_state (lent_value self.old)) (lent_state (lent_value self.new))) }
-        ensures apart { (c : ℕ) → IsCallOn c (event_shown event)
-            → KeepsApart c (lent_value self.old) (lent_value self.new) }
-        ensures goes { GoesOn (lent_value self.old) (lent_value self.new) }
+        ensures went { (c : ℕ) → IsCallOn c (event_shown event)
+            → GoesApart c (lent_value self.old) (lent_value self.new) }
         ensures same { IsSameLoan self.old self.new }
     {
         let replies = self
@@ -60,8 +60,7 @@ impl<'a> Lent<'a> {
             ≡ unread_at number self.old.connections.now.items) }
         ensures memory { OnErr result (CutsShort (lent_value self.old) (lent_value self.new)
             (due_events number)) }
-        ensures apart { KeepsApart number (lent_value self.old) (lent_value self.new) }
-        ensures goes { GoesOn (lent_value self.old) (lent_value self.new) }
+        ensures went { GoesApart number (lent_value self.old) (lent_value self.new) }
         ensures same { IsSameLoan self.old self.new }
     {
         'events: while let Some(event) = pop_event(self.connections, place) {
@@ -87,8 +86,7 @@ impl<'a> Lent<'a> {
             (rest_events number) (rest_events number)) }
         ensures memory { OnErr result (CutsShort (lent_value self.old) (lent_value self.new)
             (rest_events number)) }
-        ensures apart { KeepsApart number (lent_value self.old) (lent_value self.new) }
-        ensures goes { GoesOn (lent_value self.old) (lent_value self.new) }
+        ensures went { GoesApart number (lent_value self.old) (lent_value self.new) }
         ensures same { IsSameLoan self.old self.new }
     {
         if read_frame(self.connections, place)? {
@@ -113,8 +111,7 @@ impl<'a> Lent<'a> {
             (after_bytes_on number bytes.items)) }
         ensures memory { OnErr result (CutsShort (lent_value self.old) (lent_value self.new)
             (bytes_events number bytes.items)) }
-        ensures apart { KeepsApart number (lent_value self.old) (lent_value self.new) }
-        ensures goes { GoesOn (lent_value self.old) (lent_value self.new) }
+        ensures went { GoesApart number (lent_value self.old) (lent_value self.new) }
         ensures same { IsSameLoan self.old self.new }
     {
         feed(self.connections, place, bytes)?;

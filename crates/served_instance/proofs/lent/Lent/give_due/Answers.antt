@@ -17,7 +17,7 @@ use Rattle.served_instance.proofs.BrokenOff.{on_err}
 use Rattle.served_instance.proofs.Changes.{changed_fewer, keeps_due, keeps_unread}
 use Rattle.served_instance.proofs.CutEvents.{cut_leads_here, due_answered, due_refused}
 use Rattle.served_instance.proofs.Leads.{leads_here, leads_acts_by, due_leads, popped_all, popped_unread}
-use Rattle.served_instance.proofs.Lends.{apart_here, apart_step, apart_trans, goes_here, goes_step, goes_trans, still_lent, stepped, through, with_connections, written}
+use Rattle.served_instance.proofs.Lends.{still_lent, stepped, through, went_here, went_step, went_trans, with_connections, written}
 use Rattle.served_instance.proofs.Places.{place_there, place_within}
 use Rattle.served_instance.proofs.lent.Lent.give_due.Goals as goal
 
@@ -30,8 +30,7 @@ events-init c =
       leads = leads_here (lent_state a) a.connections (after_due_on n) (text_at a.pool);
       unread = refl;
       cuts = cut_leads_here (text_at a.pool) (lent_state a) a.connections (due_events n);
-      apart = apart_here n a;
-      goes = goes_here a c.requires.lent.kept;
+      went = went_here n a c.requires.lent.kept;
     }
 
 pub pop_event-requires : goal.pop_event-requires
@@ -39,7 +38,7 @@ pop_event-requires c =
     let n = c.args.number in
     let d = lent_value c.events.self in
     subst (λ (ys : List OpenConnection). c.args.place < length ys) (sym c.deref_mut.ensures.value)
-    (place_within n c.args.place d.connections (c.events.invariant.apart.places n ∙ c.requires.there))
+    (place_within n c.args.place d.connections (c.events.invariant.went.apart.places n ∙ c.requires.there))
 
 pub happen-requires : goal.happen-requires
 happen-requires c =
@@ -48,12 +47,12 @@ happen-requires c =
     let d = lent_value c.events.self in
     let all = c.events.self.connections.now in
     let f = with_connections d (written all.len all.items c.pop_event.new.connections) in
-    let at = c.events.invariant.apart.places n ∙ c.requires.there in
+    let at = c.events.invariant.went.apart.places n ∙ c.requires.there in
     let steps = stepped c.args.place all.len all.items c.deref_mut.result.now c.pop_event.new.connections c.deref_mut.ensures.value
     (grind (arith, common_steps)) c.pop_event.auto.connections c.pop_event.ensures.steps in
-    let goes = goes_trans a d f c.events.invariant.goes
-    (goes_step c.args.place d f.connections steps c.events.invariant.goes.kept) in
-    record { short = c.call_event_on-event.ensures.short; lent = still_lent a f c.requires.lent goes }
+    let went = went_trans n a d f c.events.invariant.went
+    (went_step n c.args.place d f.connections steps at c.events.invariant.went.goes.kept) in
+    record { short = c.call_event_on-event.ensures.short; lent = still_lent a f c.requires.lent went.goes }
 
 pub events-smaller : goal.events-smaller
 events-smaller c =
@@ -62,7 +61,7 @@ events-smaller c =
     let d = lent_value c.events.self in
     let all = c.events.self.connections.now in
     let f = with_connections d (written all.len all.items c.pop_event.new.connections) in
-    let at = c.events.invariant.apart.places n ∙ c.requires.there in
+    let at = c.events.invariant.went.apart.places n ∙ c.requires.there in
     let steps = stepped c.args.place all.len all.items c.deref_mut.result.now c.pop_event.new.connections c.deref_mut.ensures.value
     (grind (arith, common_steps)) c.pop_event.auto.connections c.pop_event.ensures.steps in
     let popped = through (λ ys zs. (k : ℕ) → IsPlaceOf k c.args.place ys → BecomesAt k ys zs (Pops (Some c.in-Some.event)))
@@ -81,11 +80,11 @@ events-preserved c =
     let d = lent_value c.events.self in
     let all = c.events.self.connections.now in
     let f = with_connections d (written all.len all.items c.pop_event.new.connections) in
-    let at = c.events.invariant.apart.places n ∙ c.requires.there in
+    let at = c.events.invariant.went.apart.places n ∙ c.requires.there in
     let steps = stepped c.args.place all.len all.items c.deref_mut.result.now c.pop_event.new.connections c.deref_mut.ensures.value
     (grind (arith, common_steps)) c.pop_event.auto.connections c.pop_event.ensures.steps in
-    let goes = goes_trans a d f c.events.invariant.goes
-    (goes_step c.args.place d f.connections steps c.events.invariant.goes.kept) in
+    let went = went_trans n a d f c.events.invariant.went
+    (went_step n c.args.place d f.connections steps at c.events.invariant.went.goes.kept) in
     let popped = through (λ ys zs. (k : ℕ) → IsPlaceOf k c.args.place ys → BecomesAt k ys zs (Pops (Some c.in-Some.event)))
     all.len all.items c.deref_mut.result.now c.pop_event.new.connections c.deref_mut.ensures.value
     (grind (arith, common_steps)) c.pop_event.auto.connections c.in-Some.ensures.event n at in
@@ -108,9 +107,7 @@ events-preserved c =
       cuts = due_answered (text_at a.pool) (text_at d.pool) (text_at g.pool) n (lent_state a) (lent_state d) (lent_state g) a.connections
           d.connections f.connections g.connections c.in-Some.event what c.events.invariant.cuts popped there
           c.call_event_on-event.ensures.event c.in_ok-happen.ensures.happened;
-      apart = apart_trans n a d g c.events.invariant.apart
-          (apart_trans n d f g (apart_step n c.args.place d f.connections steps at) (c.happen.ensures.apart n on));
-      goes = goes_trans a f g goes c.happen.ensures.goes;
+      went = went_trans n a f g went (c.happen.ensures.went n on);
     }
 
 pub returns : goal.returns
@@ -120,11 +117,11 @@ returns c =
     let d = lent_value c.events.self in
     let all = c.events.self.connections.now in
     let f = with_connections d (written all.len all.items c.pop_event.new.connections) in
-    let at = c.events.invariant.apart.places n ∙ c.requires.there in
+    let at = c.events.invariant.went.apart.places n ∙ c.requires.there in
     let steps = stepped c.args.place all.len all.items c.deref_mut.result.now c.pop_event.new.connections c.deref_mut.ensures.value
     (grind (arith, common_steps)) c.pop_event.auto.connections c.pop_event.ensures.steps in
-    let goes = goes_trans a d f c.events.invariant.goes
-    (goes_step c.args.place d f.connections steps c.events.invariant.goes.kept) in
+    let went = went_trans n a d f c.events.invariant.went
+    (went_step n c.args.place d f.connections steps at c.events.invariant.went.goes.kept) in
     let popped = through (λ ys zs. (k : ℕ) → IsPlaceOf k c.args.place ys → BecomesAt k ys zs (Pops c.pop_event.result)) all.len all.items
     c.deref_mut.result.now c.pop_event.new.connections c.deref_mut.ensures.value (grind (arith, common_steps))
     c.pop_event.auto.connections c.pop_event.ensures.event n at in
@@ -136,8 +133,7 @@ returns c =
           (popped_all n (lent_state d) d.connections f.connections none (text_at d.pool));
       unread = popped_unread n d.connections f.connections None none ∙ c.events.invariant.unread;
       memory = tt;
-      apart = apart_trans n a d f c.events.invariant.apart (apart_step n c.args.place d f.connections steps at);
-      goes = goes;
+      went = went;
       same = c.events.invariant.same;
     }
 
@@ -148,7 +144,7 @@ returns-in_err-happen-clause-memory c =
     let d = lent_value c.events.self in
     let all = c.events.self.connections.now in
     let f = with_connections d (written all.len all.items c.pop_event.new.connections) in
-    let at = c.events.invariant.apart.places n ∙ c.requires.there in
+    let at = c.events.invariant.went.apart.places n ∙ c.requires.there in
     let steps = stepped c.args.place all.len all.items c.deref_mut.result.now c.pop_event.new.connections c.deref_mut.ensures.value
     (grind (arith, common_steps)) c.pop_event.auto.connections c.pop_event.ensures.steps in
     let popped = through (λ ys zs. (k : ℕ) → IsPlaceOf k c.args.place ys → BecomesAt k ys zs (Pops (Some c.in-Some.event)))
@@ -160,30 +156,18 @@ returns-in_err-happen-clause-memory c =
     d.connections f.connections c.in-Some.event (event_shown c.call_event_on-event.result) c.events.invariant.cuts popped there
     c.call_event_on-event.ensures.event c.in_err-happen.ensures.memory)
 
-pub returns-in_err-happen-clause-apart : goal.returns-in_err-happen-clause-apart
-returns-in_err-happen-clause-apart c =
+pub returns-in_err-happen-clause-went : goal.returns-in_err-happen-clause-went
+returns-in_err-happen-clause-went c =
     let n = c.args.number in
     let a = lent_value c.args.self.now in
     let d = lent_value c.events.self in
     let all = c.events.self.connections.now in
     let f = with_connections d (written all.len all.items c.pop_event.new.connections) in
-    let at = c.events.invariant.apart.places n ∙ c.requires.there in
+    let at = c.events.invariant.went.apart.places n ∙ c.requires.there in
     let steps = stepped c.args.place all.len all.items c.deref_mut.result.now c.pop_event.new.connections c.deref_mut.ensures.value
     (grind (arith, common_steps)) c.pop_event.auto.connections c.pop_event.ensures.steps in
+    let went = went_trans n a d f c.events.invariant.went
+    (went_step n c.args.place d f.connections steps at c.events.invariant.went.goes.kept) in
     let on : IsCallOn n (event_shown c.call_event_on-event.result) =
     subst (λ (e : CallEventValue). IsCallOn n e) (sym c.call_event_on-event.ensures.event) (event_on n c.in-Some.event) in
-    let g = lent_value c.happen.new.self in
-    apart_trans n a d g c.events.invariant.apart
-    (apart_trans n d f g (apart_step n c.args.place d f.connections steps at) (c.happen.ensures.apart n on))
-
-pub returns-in_err-happen-clause-goes : goal.returns-in_err-happen-clause-goes
-returns-in_err-happen-clause-goes c =
-    let a = lent_value c.args.self.now in
-    let d = lent_value c.events.self in
-    let all = c.events.self.connections.now in
-    let f = with_connections d (written all.len all.items c.pop_event.new.connections) in
-    let steps = stepped c.args.place all.len all.items c.deref_mut.result.now c.pop_event.new.connections c.deref_mut.ensures.value
-    (grind (arith, common_steps)) c.pop_event.auto.connections c.pop_event.ensures.steps in
-    let goes = goes_trans a d f c.events.invariant.goes
-    (goes_step c.args.place d f.connections steps c.events.invariant.goes.kept) in
-    goes_trans a f (lent_value c.happen.new.self) goes c.happen.ensures.goes
+    went_trans n a f (lent_value c.happen.new.self) went (c.happen.ensures.went n on)

@@ -29,19 +29,20 @@ call_event-requires-clause-beside c =
     instance_beside a.pool a.parent a.instance a.connections c.requires.lent.beside
 
 -- nothing is given for want of memory
-pub returns-in_err-replies-clause-goes : goal.returns-in_err-replies-clause-goes
-returns-in_err-replies-clause-goes c = refused_goes (lent_value c.args.self.now) c.call_event.new.pool c.call_event.new.self
-    c.requires.lent.kept c.in_err-replies.ensures.moves c.call_event.ensures.within
-
-pub returns-in_err-replies-clause-apart : goal.returns-in_err-replies-clause-apart
-returns-in_err-replies-clause-apart c = λ n on.
+pub returns-in_err-replies-clause-went : goal.returns-in_err-replies-clause-went
+returns-in_err-replies-clause-went c = λ n on.
     let a = lent_value c.args.self.now in
     let q = c.call_event.new.pool in
+    let j = c.call_event.new.self in
+    let moves = c.in_err-replies.ensures.moves in
     record {
-      others = refl;
-      finds = others_agree n (text_at a.pool) (text_at q) a.connections (asked_finds no_holders a.pool q a.instance c.call_event.new.self
-          (map connection_shown a.connections) c.requires.lent.kept c.in_err-replies.ensures.moves);
-      places = λ k. refl;
+      apart = record {
+        others = refl;
+        finds = others_agree n (text_at a.pool) (text_at q) a.connections
+            (asked_finds no_holders a.pool q a.instance j (map connection_shown a.connections) c.requires.lent.kept moves);
+        places = λ k. refl;
+      };
+      goes = refused_goes a q j c.requires.lent.kept moves c.call_event.ensures.within;
     }
 
 pub give_all-requires-clause-owed : goal.give_all-requires-clause-owed
@@ -80,19 +81,21 @@ returns c =
           (answered_beside (replies_holders rs) (RepliesEndWithin rs) a.parent p q r a.instance j
           (map connection_shown a.connections) (map connection_shown b.connections) answered c.requires.lent.beside
           ∙ c.in_ok-replies.ensures.changed);
-      apart = λ n on.
+      went = λ n on.
           let same = through_all.others n (replies_to n q (lent_state a) what rs c.in_ok-replies.ensures.replies on) in
+          let vs = map connection_shown a.connections in
+          let ws = map connection_shown b.connections in
           record {
-            others = same;
-            finds = finds_trans p q r (others_of n a.connections) (others_of n b.connections) same
-                (others_agree n (text_at p) (text_at q) a.connections
-                (asked_finds (replies_holders rs) p q a.instance j (map connection_shown a.connections) c.requires.lent.kept
-                answered.moves))
-                (others_agree n (text_at q) (text_at r) b.connections
-                (taken_finds (replies_holders rs) (RepliesEndWithin rs) p q r a.instance j (map connection_shown a.connections)
-                (map connection_shown b.connections) answered));
-            places = through_all.places;
+            apart = record {
+              others = same;
+              finds = finds_trans p q r (others_of n a.connections) (others_of n b.connections) same
+                  (others_agree n (text_at p) (text_at q) a.connections
+                  (asked_finds (replies_holders rs) p q a.instance j vs c.requires.lent.kept answered.moves))
+                  (others_agree n (text_at q) (text_at r) b.connections
+                  (taken_finds (replies_holders rs) (RepliesEndWithin rs) p q r a.instance j vs ws answered));
+              places = through_all.places;
+            };
+            goes = answered_goes (replies_holders rs) (RepliesEndWithin rs) a b q answered refl through_all.count;
           };
-      goes = answered_goes (replies_holders rs) (RepliesEndWithin rs) a b q answered refl through_all.count;
       same = record { pool = refl; instance = refl; connections = refl };
     }

@@ -10,7 +10,7 @@ use Rattle.served_instance.specs.Present.{IsPlaceOf}
 use Rattle.served_instance.proofs.BrokenOff.{on_err}
 use Rattle.served_instance.proofs.CutEvents.{nothing_cut, read_refused, read_cut_leads, done_cut_leads}
 use Rattle.served_instance.proofs.Leads.{read_leads, read_done, done_leads, read_fewer}
-use Rattle.served_instance.proofs.Lends.{apart_step, apart_trans, goes_step, goes_trans, still_lent, stepped, through, with_connections, written}
+use Rattle.served_instance.proofs.Lends.{still_lent, stepped, through, went_step, went_trans, with_connections, written}
 use Rattle.served_instance.proofs.Places.{place_there, place_within}
 use Rattle.served_instance.proofs.lent.Lent.read_next.Goals as goal
 
@@ -31,9 +31,8 @@ give_due-requires c =
     let whole : all.len ≡ length all.items = grind (arith, common_steps) in
     let count = c.read_frame.auto.connections in
     let steps = stepped c.args.place all.len all.items xs ns c.deref_mut.ensures.value whole count c.read_frame.ensures.steps in
-    let apart = apart_step n c.args.place a f.connections steps c.requires.there in
-    let goes = goes_step c.args.place a f.connections steps c.requires.lent.kept in
-    record { there = apart.places n ∙ c.requires.there; lent = still_lent a f c.requires.lent goes }
+    let went = went_step n c.args.place a f.connections steps c.requires.there c.requires.lent.kept in
+    record { there = went.apart.places n ∙ c.requires.there; lent = still_lent a f c.requires.lent went.goes }
 
 pub returns-in_ok-give_due : goal.returns-in_ok-give_due
 returns-in_ok-give_due c =
@@ -46,8 +45,7 @@ returns-in_ok-give_due c =
     let whole : all.len ≡ length all.items = grind (arith, common_steps) in
     let count = c.read_frame.auto.connections in
     let steps = stepped c.args.place all.len all.items xs ns c.deref_mut.ensures.value whole count c.read_frame.ensures.steps in
-    let apart = apart_step n c.args.place a f.connections steps c.requires.there in
-    let goes = goes_step c.args.place a f.connections steps c.requires.lent.kept in
+    let went = went_step n c.args.place a f.connections steps c.requires.there c.requires.lent.kept in
     let read = through (λ ys zs. IsPlaceOf n c.args.place ys → BecomesAt n ys zs (ReadsFrame true)) all.len all.items xs ns
     c.deref_mut.ensures.value whole count (λ at. subst (λ (b : Bool). BecomesAt n xs ns (ReadsFrame b)) c.if-branch.true
     (c.in_ok-read_frame.ensures.read n at)) c.requires.there in
@@ -62,8 +60,7 @@ returns-in_ok-give_due c =
       cuts = read_cut_leads (text_at a.pool) (text_at g.pool) n (lent_state a) (lent_state g) a.connections f.connections g.connections
           read there due;
       memory = tt;
-      apart = apart_trans n a f g apart c.give_due.ensures.apart;
-      goes = goes_trans a f g goes c.give_due.ensures.goes;
+      went = went_trans n a f g went c.give_due.ensures.went;
       same = c.give_due.ensures.same;
     }
 
@@ -86,8 +83,8 @@ returns-in_err-give_due-clause-memory c =
     on_err c.from_residual-in_err-give_due.result
     (read_refused (text_at a.pool) n (lent_state a) (lent_state g) a.connections f.connections read there c.in_err-give_due.ensures.memory)
 
-pub returns-in_err-give_due-clause-apart : goal.returns-in_err-give_due-clause-apart
-returns-in_err-give_due-clause-apart c =
+pub returns-in_err-give_due-clause-went : goal.returns-in_err-give_due-clause-went
+returns-in_err-give_due-clause-went c =
     let n = c.args.number in
     let a = lent_value c.args.self.now in
     let all = c.args.self.now.connections.now in
@@ -97,31 +94,17 @@ returns-in_err-give_due-clause-apart c =
     let whole : all.len ≡ length all.items = grind (arith, common_steps) in
     let count = c.read_frame.auto.connections in
     let steps = stepped c.args.place all.len all.items xs ns c.deref_mut.ensures.value whole count c.read_frame.ensures.steps in
-    let apart = apart_step n c.args.place a f.connections steps c.requires.there in
+    let went = went_step n c.args.place a f.connections steps c.requires.there c.requires.lent.kept in
     let g = lent_value c.give_due.new.self in
-    apart_trans n a f g apart c.give_due.ensures.apart
-
-pub returns-in_err-give_due-clause-goes : goal.returns-in_err-give_due-clause-goes
-returns-in_err-give_due-clause-goes c =
-    let a = lent_value c.args.self.now in
-    let all = c.args.self.now.connections.now in
-    let xs = c.deref_mut.result.now in
-    let ns = c.read_frame.new.connections in
-    let f = with_connections a (written all.len all.items ns) in
-    let whole : all.len ≡ length all.items = grind (arith, common_steps) in
-    let count = c.read_frame.auto.connections in
-    let steps = stepped c.args.place all.len all.items xs ns c.deref_mut.ensures.value whole count c.read_frame.ensures.steps in
-    let goes = goes_step c.args.place a f.connections steps c.requires.lent.kept in
-    let g = lent_value c.give_due.new.self in
-    goes_trans a f g goes c.give_due.ensures.goes
+    went_trans n a f g went c.give_due.ensures.went
 
 pub returns-in_err-read_frame-clause-memory : goal.returns-in_err-read_frame-clause-memory
 returns-in_err-read_frame-clause-memory c =
     let a = lent_value c.args.self.now in
     on_err c.from_residual.result (nothing_cut (text_at a.pool) (lent_state a) a.connections (rest_events c.args.number))
 
-pub returns-in_err-read_frame-clause-apart : goal.returns-in_err-read_frame-clause-apart
-returns-in_err-read_frame-clause-apart c =
+pub returns-in_err-read_frame-clause-went : goal.returns-in_err-read_frame-clause-went
+returns-in_err-read_frame-clause-went c =
     let n = c.args.number in
     let a = lent_value c.args.self.now in
     let all = c.args.self.now.connections.now in
@@ -131,19 +114,7 @@ returns-in_err-read_frame-clause-apart c =
     let whole : all.len ≡ length all.items = grind (arith, common_steps) in
     let count = c.read_frame.auto.connections in
     let steps = stepped c.args.place all.len all.items xs ns c.deref_mut.ensures.value whole count c.read_frame.ensures.steps in
-    apart_step n c.args.place a f.connections steps c.requires.there
-
-pub returns-in_err-read_frame-clause-goes : goal.returns-in_err-read_frame-clause-goes
-returns-in_err-read_frame-clause-goes c =
-    let a = lent_value c.args.self.now in
-    let all = c.args.self.now.connections.now in
-    let xs = c.deref_mut.result.now in
-    let ns = c.read_frame.new.connections in
-    let f = with_connections a (written all.len all.items ns) in
-    let whole : all.len ≡ length all.items = grind (arith, common_steps) in
-    let count = c.read_frame.auto.connections in
-    let steps = stepped c.args.place all.len all.items xs ns c.deref_mut.ensures.value whole count c.read_frame.ensures.steps in
-    goes_step c.args.place a f.connections steps c.requires.lent.kept
+    went_step n c.args.place a f.connections steps c.requires.there c.requires.lent.kept
 
 pub returns-else-branch : goal.returns-else-branch
 returns-else-branch c =
@@ -156,8 +127,7 @@ returns-else-branch c =
     let whole : all.len ≡ length all.items = grind (arith, common_steps) in
     let count = c.read_frame.auto.connections in
     let steps = stepped c.args.place all.len all.items xs ns c.deref_mut.ensures.value whole count c.read_frame.ensures.steps in
-    let apart = apart_step n c.args.place a f.connections steps c.requires.there in
-    let goes = goes_step c.args.place a f.connections steps c.requires.lent.kept in
+    let went = went_step n c.args.place a f.connections steps c.requires.there c.requires.lent.kept in
     let read = through (λ ys zs. IsPlaceOf n c.args.place ys → BecomesAt n ys zs (ReadsFrame false)) all.len all.items xs ns
     c.deref_mut.ensures.value whole count (λ at. subst (λ (b : Bool). BecomesAt n xs ns (ReadsFrame b)) c.if-branch.false
     (c.in_ok-read_frame.ensures.read n at)) c.requires.there in
@@ -167,7 +137,6 @@ returns-else-branch c =
       fewer = λ no. absurd no;
       cuts = done_cut_leads (text_at a.pool) n (lent_state a) a.connections f.connections read;
       memory = tt;
-      apart = apart;
-      goes = goes;
+      went = went;
       same = record { pool = refl; instance = refl; connections = refl };
     }

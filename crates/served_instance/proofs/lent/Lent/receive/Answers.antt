@@ -12,7 +12,7 @@ use Rattle.served_instance.specs.Present.{IsPlaceOf}
 use Rattle.served_instance.proofs.BrokenOff.{on_err}
 use Rattle.served_instance.proofs.CutEvents.{nothing_cut, cut_leads_trans, cut_leads_short}
 use Rattle.served_instance.proofs.Leads.{step_acts, leads_trans, leads_acts_by}
-use Rattle.served_instance.proofs.Lends.{apart_step, apart_trans, goes_step, goes_trans, still_lent, stepped, through, with_connections, written}
+use Rattle.served_instance.proofs.Lends.{still_lent, stepped, through, went_step, went_trans, with_connections, written}
 use Rattle.served_instance.proofs.Places.{place_within}
 use Rattle.served_instance.proofs.lent.Lent.receive.Goals as goal
 
@@ -44,8 +44,7 @@ frames-init c =
         step_acts n (lent_state a) a.connections f.connections step fed (text_at a.pool) l st,
         λ u cut. cut,
       );
-      apart = apart_step n c.args.place a f.connections steps c.requires.there;
-      goes = goes_step c.args.place a f.connections steps c.requires.lent.kept;
+      went = went_step n c.args.place a f.connections steps c.requires.there c.requires.lent.kept;
     }
 
 pub returns-in_err-feed-clause-memory : goal.returns-in_err-feed-clause-memory
@@ -53,30 +52,21 @@ returns-in_err-feed-clause-memory c =
     let a = lent_value c.args.self.now in
     on_err c.from_residual.result (nothing_cut (text_at a.pool) (lent_state a) a.connections (bytes_events c.args.number c.args.bytes.items))
 
-pub returns-in_err-feed-clause-apart : goal.returns-in_err-feed-clause-apart
-returns-in_err-feed-clause-apart c =
+pub returns-in_err-feed-clause-went : goal.returns-in_err-feed-clause-went
+returns-in_err-feed-clause-went c =
     let n = c.args.number in
     let a = lent_value c.args.self.now in
     let all = c.args.self.now.connections.now in
     let f = with_connections a (written all.len all.items c.feed.new.connections) in
     let steps = stepped c.args.place all.len all.items c.deref_mut.result.now c.feed.new.connections c.deref_mut.ensures.value
     (grind (arith, common_steps)) c.feed.auto.connections c.feed.ensures.steps in
-    apart_step n c.args.place a f.connections steps c.requires.there
-
-pub returns-in_err-feed-clause-goes : goal.returns-in_err-feed-clause-goes
-returns-in_err-feed-clause-goes c =
-    let a = lent_value c.args.self.now in
-    let all = c.args.self.now.connections.now in
-    let f = with_connections a (written all.len all.items c.feed.new.connections) in
-    let steps = stepped c.args.place all.len all.items c.deref_mut.result.now c.feed.new.connections c.deref_mut.ensures.value
-    (grind (arith, common_steps)) c.feed.auto.connections c.feed.ensures.steps in
-    goes_step c.args.place a f.connections steps c.requires.lent.kept
+    went_step n c.args.place a f.connections steps c.requires.there c.requires.lent.kept
 
 pub read_next-requires : goal.read_next-requires
 read_next-requires c =
     record {
-      there = c.frames.invariant.apart.places c.args.number ∙ c.requires.there;
-      lent = still_lent (lent_value c.args.self.now) (lent_value c.frames.self) c.requires.lent c.frames.invariant.goes;
+      there = c.frames.invariant.went.apart.places c.args.number ∙ c.requires.there;
+      lent = still_lent (lent_value c.args.self.now) (lent_value c.frames.self) c.requires.lent c.frames.invariant.went.goes;
     }
 
 pub frames-smaller : goal.frames-smaller
@@ -101,8 +91,7 @@ frames-preserved c =
       cuts = cut_leads_trans (text_at a.pool) (text_at d.pool) (text_at g.pool) (lent_state a) (lent_state d) (lent_state g)
           a.connections d.connections g.connections (bytes_events n bytes) (rest_events n) (rest_events n) c.frames.invariant.cuts
           c.in_ok-read_next.ensures.cuts;
-      apart = apart_trans n a d g c.frames.invariant.apart c.read_next.ensures.apart;
-      goes = goes_trans a d g c.frames.invariant.goes c.read_next.ensures.goes;
+      went = went_trans n a d g c.frames.invariant.went c.read_next.ensures.went;
     }
 
 pub returns : goal.returns
@@ -116,8 +105,7 @@ returns c =
           d.connections g.connections (after_bytes_on n c.args.bytes.items) (after_rest_on n) c.frames.invariant.leads
           (c.in_ok-read_next.ensures.ends c.if-branch.false);
       memory = tt;
-      apart = apart_trans n a d g c.frames.invariant.apart c.read_next.ensures.apart;
-      goes = goes_trans a d g c.frames.invariant.goes c.read_next.ensures.goes;
+      went = went_trans n a d g c.frames.invariant.went c.read_next.ensures.went;
       same = record {
         pool = c.read_next.ensures.same.pool ∙ c.frames.invariant.same.pool;
         instance = c.read_next.ensures.same.instance ∙ c.frames.invariant.same.instance;
@@ -135,17 +123,10 @@ returns-in_err-read_next-clause-memory c =
     (cut_leads_short (text_at a.pool) (text_at d.pool) (lent_state a) (lent_state d) (lent_state g) a.connections d.connections
     (bytes_events n c.args.bytes.items) (rest_events n) c.frames.invariant.cuts c.in_err-read_next.ensures.memory)
 
-pub returns-in_err-read_next-clause-apart : goal.returns-in_err-read_next-clause-apart
-returns-in_err-read_next-clause-apart c =
+pub returns-in_err-read_next-clause-went : goal.returns-in_err-read_next-clause-went
+returns-in_err-read_next-clause-went c =
     let n = c.args.number in
     let a = lent_value c.args.self.now in
     let d = lent_value c.frames.self in
     let g = lent_value c.read_next.new.self in
-    apart_trans n a d g c.frames.invariant.apart c.read_next.ensures.apart
-
-pub returns-in_err-read_next-clause-goes : goal.returns-in_err-read_next-clause-goes
-returns-in_err-read_next-clause-goes c =
-    let a = lent_value c.args.self.now in
-    let d = lent_value c.frames.self in
-    let g = lent_value c.read_next.new.self in
-    goes_trans a d g c.frames.invariant.goes c.read_next.ensures.goes
+    went_trans n a d g c.frames.invariant.went c.read_next.ensures.went

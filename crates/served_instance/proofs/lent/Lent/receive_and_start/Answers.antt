@@ -12,16 +12,16 @@ pub ready_starts-requires : goal.ready_starts-requires
 ready_starts-requires c =
     let b = lent_value c.receive.new.self in
     let here = lent_slots b in
-    record { kept = record { pool = b.pool; kept = instance_kept b.pool here here refl c.receive.ensures.goes.kept } }
+    record { kept = record { pool = b.pool; kept = instance_kept b.pool here here refl c.receive.ensures.went.goes.kept } }
 
 pub settle-requires-clause-can : goal.settle-requires-clause-can
 settle-requires-clause-can c =
     let b = lent_value c.receive.new.self in
-    starts_can (state_in b.pool b.instance) (steps_shown c.in_ok-turn.turn.steps.items) c.receive.ensures.goes.kept.within.instance
+    starts_can (state_in b.pool b.instance) (steps_shown c.in_ok-turn.turn.steps.items) c.receive.ensures.went.goes.kept.within.instance
     (c.in_ok-turn.ensures.ready b.pool).steps
 
 pub settle-requires-clause-kept : goal.settle-requires-clause-kept
-settle-requires-clause-kept c = c.receive.ensures.goes.kept
+settle-requires-clause-kept c = c.receive.ensures.went.goes.kept
 
 pub returns-clause-done : goal.returns-clause-done
 returns-clause-done c =
@@ -31,7 +31,7 @@ returns-clause-done c =
     let b = lent_value c.receive.new.self in
     let come : HaveCome n bytes a b = record {
       lent = c.requires.lent;
-      goes = c.receive.ensures.goes;
+      goes = c.receive.ensures.went.goes;
       acts = c.in_ok-receive.ensures.came;
     } in
     let turn = c.in_ok-turn.turn in
@@ -46,15 +46,15 @@ returns-clause-cut c =
     let b = lent_value c.receive.new.self in
     let come : HaveCome n bytes a b = record {
       lent = c.requires.lent;
-      goes = c.receive.ensures.goes;
+      goes = c.receive.ensures.went.goes;
       acts = c.in_ok-receive.ensures.came;
     } in
     let turn = c.in_ok-turn.turn in
     let d = lent_value c.settle.new.self in
     let within = starts_within c.settle.result (state_in b.pool b.instance) (state_in d.pool d.instance) (steps_shown turn.steps.items)
-    c.receive.ensures.goes.kept.within.instance (c.in_ok-turn.ensures.ready b.pool).steps c.settle.ensures.settled c.settle.ensures.err in
+    c.receive.ensures.went.goes.kept.within.instance (c.in_ok-turn.ensures.ready b.pool).steps c.settle.ensures.settled c.settle.ensures.err in
     let goes = turn_goes turn b d c.settle.ensures.turned within in
-    let apart = apart_trans n a b d c.receive.ensures.apart (c.settle.ensures.turned.apart n c.in_ok-turn.ensures.own) in
+    let apart = apart_trans n a b d c.receive.ensures.went.apart (c.settle.ensures.turned.apart n c.in_ok-turn.ensures.own) in
     err_map c.settle.result (λ same. starts_cut n bytes a b d come goes apart same) c.settle.ensures.err
 
 pub returns-clause-goes : goal.returns-clause-goes
@@ -64,9 +64,9 @@ returns-clause-goes c =
     let turn = c.in_ok-turn.turn in
     let d = lent_value c.settle.new.self in
     let within = starts_within c.settle.result (state_in b.pool b.instance) (state_in d.pool d.instance) (steps_shown turn.steps.items)
-    c.receive.ensures.goes.kept.within.instance (c.in_ok-turn.ensures.ready b.pool).steps c.settle.ensures.settled c.settle.ensures.err in
+    c.receive.ensures.went.goes.kept.within.instance (c.in_ok-turn.ensures.ready b.pool).steps c.settle.ensures.settled c.settle.ensures.err in
     let goes = turn_goes turn b d c.settle.ensures.turned within in
-    goes_trans a b d c.receive.ensures.goes goes
+    goes_trans a b d c.receive.ensures.went.goes goes
 
 pub returns-in_err-turn-clause-cut : goal.returns-in_err-turn-clause-cut
 returns-in_err-turn-clause-cut c =
@@ -76,15 +76,15 @@ returns-in_err-turn-clause-cut c =
     let b = lent_value c.receive.new.self in
     let come : HaveCome n bytes a b = record {
       lent = c.requires.lent;
-      goes = c.receive.ensures.goes;
+      goes = c.receive.ensures.went.goes;
       acts = c.in_ok-receive.ensures.came;
     } in
     on_err c.from_residual-in_err-turn.result
-    (starts_cut n bytes a b b come (goes_here b c.receive.ensures.goes.kept) c.receive.ensures.apart refl)
+    (starts_cut n bytes a b b come (goes_here b c.receive.ensures.went.goes.kept) c.receive.ensures.went.apart refl)
 
 pub returns-in_err-receive-clause-cut : goal.returns-in_err-receive-clause-cut
 returns-in_err-receive-clause-cut c = on_err c.from_residual.result (record {
   acts = c.in_err-receive.ensures.memory;
-  others = c.receive.ensures.apart.others;
-  finds = c.receive.ensures.apart.finds;
+  others = c.receive.ensures.went.apart.others;
+  finds = c.receive.ensures.went.apart.finds;
 })

@@ -14,6 +14,7 @@ pub mod Closes
 pub mod Kept
 mod Besides
 mod Lends
+mod Popped
 mod Taking
 mod Happens
 mod Settling

@@ -2,7 +2,7 @@ use Rattle.std.proofs.Common.{◌≡◌, ◌<◌, List, length, map, refl, sym, 
 use Rattle.std.proofs.lemmas.Grind.{common_steps}
 use Rattle.std.specs.Prelude.{◌≤◌, None, slice_index_or}
 use Rattle.blob_pool.specs.Slots.{text_at}
-use Rattle.conn_core.specs.Past.{with_taken}
+use Rattle.conn_core.specs.Past.{Past, with_taken}
 use Rattle.instance_core.specs.InstanceViewShown.{visible_in}
 use Rattle.instance_core.specs.State.{LimitsValue}
 use Rattle.run_calls.specs.Shown.{outcome_shown}
@@ -57,7 +57,7 @@ take-requires c =
     let P : What → Type 0 = λ w. refusal_by_what (what_value w) c.args.self.now.instance.now.jobs (map connection_shown os) ≡ None in
     let S : What → Type 0 = λ w. IsPlaceFor (what_value w) k os in
     let at : IsPlaceOf n k os = subst S c.in-Took.is c.requires.place in
-    let seen = sym c.deref_mut-in-Took.ensures.value in
+    let seen = sym c.deref_mut.ensures.value in
     record {
       there = subst (λ (xs : List OpenConnection). k < length xs) seen (place_within n k os at);
       can = subst (λ (xs : List OpenConnection). (o : OpenConnection) →
@@ -72,9 +72,9 @@ returns-in-Took-clause-done c =
     let n = c.in-Took.field-0 in
     let b = with_connections a (written all.len all.items c.take.new.connections) in
     let S : What → Type 0 = λ w. IsPlaceFor (what_value w) c.args.place c.args.self.now.connections.now.items in
-    let step = λ y. with_taken y c.in-Took.count in
+    let step : Past → Past = λ y. with_taken y c.in-Took.count in
     let taken = through (λ ys zs. IsPlaceOf n c.args.place ys → BecomesAt n ys zs (TakesStep step)) all.len all.items
-    c.deref_mut-in-Took.result.now c.take.new.connections c.deref_mut-in-Took.ensures.value (grind (arith, common_steps))
+    c.deref_mut.result.now c.take.new.connections c.deref_mut.ensures.value (grind (arith, common_steps))
     c.take.auto.connections (c.take.ensures.taken n) (subst S c.in-Took.is c.requires.place) in
     done_none a b (what_value c.args.what) (took n c.in-Took.count) c.new-in-Took.result (ap what_value c.in-Took.is)
     c.new-in-Took.ensures.items (λ l. refl)
@@ -85,8 +85,8 @@ returns-in-Took-clause-goes c =
     let a = lent_value c.args.self.now in
     let all = c.args.self.now.connections.now in
     let ns = c.take.new.connections in
-    goes_step c.args.place a (written all.len all.items ns) (stepped c.args.place all.len all.items c.deref_mut-in-Took.result.now ns
-    c.deref_mut-in-Took.ensures.value (grind (arith, common_steps)) c.take.auto.connections c.take.ensures.steps) c.requires.lent.kept
+    goes_step c.args.place a (written all.len all.items ns) (stepped c.args.place all.len all.items c.deref_mut.result.now ns
+    c.deref_mut.ensures.value (grind (arith, common_steps)) c.take.auto.connections c.take.ensures.steps) c.requires.lent.kept
 
 -- ---- a connection is closed
 

@@ -1,6 +1,8 @@
-use Rattle.std.proofs.Common.{refl, sym, ap, ◌∙◌, subst, map}
+use Rattle.std.proofs.Common.{rules, ◌≡◌, List, refl, sym, ap, ◌∙◌, subst, map}
 use Rattle.instance_core.specs.Slots.{InstanceSlots, IsInstanceInPool, holders_of_instance, state_in}
+use Rattle.served_instance.specs.declared.open_connection.OpenConnection.{OpenConnection}
 use Rattle.served_instance.specs.Lent.{lent_value}
+use Rattle.served_instance.specs.Ranges.{Releases}
 use Rattle.served_instance.specs.Shown.{connection_shown}
 use Rattle.served_instance.proofs.BrokenOff.{without_calls}
 use Rattle.served_instance.proofs.Releasing.{last_counted, releases_last, releases_none}
@@ -28,7 +30,11 @@ connections-preserved c =
     let a = lent_value c.args.self.now in
     let d = lent_value c.connections.self in
     record {
-      same = c.connections.invariant.same;
+      same = record {
+        pool = c.connections.invariant.same.pool;
+        instance = c.connections.invariant.same.instance;
+        connections = c.connections.invariant.same.connections;
+      };
       parent = c.connections.invariant.parent;
       instance = c.connections.invariant.instance;
       releases = releases_last a.pool d.pool c.release_spent.new.pool a.connections d.connections c.pop.new.self.items c.in-Some.last
@@ -41,9 +47,16 @@ returns-clause-forgotten c = λ p.
     c.forget_all.ensures.changed p ∙ ap (λ (i : InstanceSlots). without_calls (state_in p i)) c.connections.invariant.instance
 
 pub returns-clause-gone : goal.returns-clause-gone
-returns-clause-gone c = record {
-  parent = c.connections.invariant.parent;
-  releases = c.connections.invariant.releases;
-  holders = λ k. c.forget_all.ensures.holders k ∙ ap (λ (i : InstanceSlots). holders_of_instance i k) c.connections.invariant.instance;
-  kept = λ p kept. c.forget_all.ensures.kept p (subst (λ (i : InstanceSlots). IsInstanceInPool p i) (sym c.connections.invariant.instance) kept);
-}
+returns-clause-gone c =
+    let a = lent_value c.args.self.now in
+    let d = lent_value c.connections.self in
+    let same : c.pop.new.self.items ≡ d.connections = search rules in
+    record {
+      parent = c.connections.invariant.parent;
+      releases = subst (λ (xs : List OpenConnection). Releases a.pool (map connection_shown a.connections) d.pool
+          (map connection_shown xs)) (sym same) c.connections.invariant.releases;
+      holders = λ k. c.forget_all.ensures.holders k
+          ∙ ap (λ (i : InstanceSlots). holders_of_instance i k) c.connections.invariant.instance;
+      kept = λ p kept. c.forget_all.ensures.kept p
+          (subst (λ (i : InstanceSlots). IsInstanceInPool p i) (sym c.connections.invariant.instance) kept);
+    }

@@ -7,18 +7,18 @@ use Rattle.instance_core.specs.Apart.{IsCallOn}
 use Rattle.instance_core.specs.Calls.{CallEventValue}
 use Rattle.instance_core.specs.Shown.{event_shown}
 use Rattle.served_instance.specs.declared.open_connection.OpenConnection.{OpenConnection}
-use Rattle.served_instance.specs.Acts.{BecomesAt, Pops, due_count, present_at}
+use Rattle.served_instance.specs.Acts.{BecomesAt, Pops, due_count}
 use Rattle.served_instance.specs.Events.{due_events}
 use Rattle.served_instance.specs.Lent.{lent_state, lent_value}
 use Rattle.served_instance.specs.Lone.{after_due_on}
-use Rattle.served_instance.specs.Present.{IsPlaceOf}
 use Rattle.served_instance.proofs.Answered.{event_on}
 use Rattle.served_instance.proofs.BrokenOff.{on_err}
 use Rattle.served_instance.proofs.Changes.{changed_fewer, keeps_due, keeps_unread}
 use Rattle.served_instance.proofs.CutEvents.{cut_leads_here, due_answered, due_refused}
 use Rattle.served_instance.proofs.Leads.{leads_here, leads_acts_by, due_leads, popped_all, popped_unread}
-use Rattle.served_instance.proofs.Lends.{still_lent, stepped, through, went_here, went_step, went_trans, with_connections, written}
-use Rattle.served_instance.proofs.Places.{place_there, place_within}
+use Rattle.served_instance.proofs.Lends.{still_lent, went_here, went_trans, with_connections, written}
+use Rattle.served_instance.proofs.Places.{place_within}
+use Rattle.served_instance.proofs.Popped.{popped_through}
 use Rattle.served_instance.proofs.lent.Lent.give_due.Goals as goal
 
 pub events-init : goal.events-init
@@ -47,30 +47,24 @@ happen-requires c =
     let d = lent_value c.events.self in
     let all = c.events.self.connections.now in
     let f = with_connections d (written all.len all.items c.pop_event.new.connections) in
-    let at = c.events.invariant.went.apart.places n ∙ c.requires.there in
-    let steps = stepped c.args.place all.len all.items c.deref_mut.result.now c.pop_event.new.connections c.deref_mut.ensures.value
-    (grind (arith, common_steps)) c.pop_event.auto.connections c.pop_event.ensures.steps in
-    let went = went_trans n a d f c.events.invariant.went
-    (went_step n c.args.place d f.connections steps at c.events.invariant.went.goes.kept) in
+    let popped = popped_through n c.args.place all.len (Some c.in-Some.event) d c.deref_mut.result.now c.pop_event.new.connections
+    c.deref_mut.ensures.value (grind (arith, common_steps)) c.pop_event.auto.connections c.pop_event.ensures.steps
+    c.in-Some.ensures.event (c.events.invariant.went.apart.places n ∙ c.requires.there) c.events.invariant.went.goes.kept in
+    let went = went_trans n a d f c.events.invariant.went popped.went in
     record { short = c.call_event_on-event.ensures.short; lent = still_lent a f c.requires.lent went.goes }
 
 pub events-smaller : goal.events-smaller
 events-smaller c =
     let n = c.args.number in
-    let a = lent_value c.args.self.now in
     let d = lent_value c.events.self in
     let all = c.events.self.connections.now in
     let f = with_connections d (written all.len all.items c.pop_event.new.connections) in
-    let at = c.events.invariant.went.apart.places n ∙ c.requires.there in
-    let steps = stepped c.args.place all.len all.items c.deref_mut.result.now c.pop_event.new.connections c.deref_mut.ensures.value
-    (grind (arith, common_steps)) c.pop_event.auto.connections c.pop_event.ensures.steps in
-    let popped = through (λ ys zs. (k : ℕ) → IsPlaceOf k c.args.place ys → BecomesAt k ys zs (Pops (Some c.in-Some.event)))
-    all.len all.items c.deref_mut.result.now c.pop_event.new.connections c.deref_mut.ensures.value
-    (grind (arith, common_steps)) c.pop_event.auto.connections c.in-Some.ensures.event n at in
-    let there : present_at n d.connections ≡ None → ⊥ = place_there n c.args.place d.connections at in
+    let popped = popped_through n c.args.place all.len (Some c.in-Some.event) d c.deref_mut.result.now c.pop_event.new.connections
+    c.deref_mut.ensures.value (grind (arith, common_steps)) c.pop_event.auto.connections c.pop_event.ensures.steps
+    c.in-Some.ensures.event (c.events.invariant.went.apart.places n ∙ c.requires.there) c.events.invariant.went.goes.kept in
     let g = lent_value c.happen.new.self in
     let fewer : due_count n f.connections < due_count n d.connections =
-    changed_fewer (λ v. length v.due) n d.connections f.connections (Pops (Some c.in-Some.event)) there popped (λ v w r. r.fewer) in
+    changed_fewer (λ v. length v.due) n d.connections f.connections (Pops (Some c.in-Some.event)) popped.there popped.pops (λ v w r. r.fewer) in
     subst (λ (m : ℕ). m < due_count n d.connections) (sym (keeps_due n f.connections g.connections c.in_ok-happen.ensures.rest)) fewer
 
 pub events-preserved : goal.events-preserved
@@ -80,32 +74,25 @@ events-preserved c =
     let d = lent_value c.events.self in
     let all = c.events.self.connections.now in
     let f = with_connections d (written all.len all.items c.pop_event.new.connections) in
-    let at = c.events.invariant.went.apart.places n ∙ c.requires.there in
-    let steps = stepped c.args.place all.len all.items c.deref_mut.result.now c.pop_event.new.connections c.deref_mut.ensures.value
-    (grind (arith, common_steps)) c.pop_event.auto.connections c.pop_event.ensures.steps in
-    let went = went_trans n a d f c.events.invariant.went
-    (went_step n c.args.place d f.connections steps at c.events.invariant.went.goes.kept) in
-    let popped = through (λ ys zs. (k : ℕ) → IsPlaceOf k c.args.place ys → BecomesAt k ys zs (Pops (Some c.in-Some.event)))
-    all.len all.items c.deref_mut.result.now c.pop_event.new.connections c.deref_mut.ensures.value
-    (grind (arith, common_steps)) c.pop_event.auto.connections c.in-Some.ensures.event n at in
-    let there : present_at n d.connections ≡ None → ⊥ = place_there n c.args.place d.connections at in
+    let popped = popped_through n c.args.place all.len (Some c.in-Some.event) d c.deref_mut.result.now c.pop_event.new.connections
+    c.deref_mut.ensures.value (grind (arith, common_steps)) c.pop_event.auto.connections c.pop_event.ensures.steps
+    c.in-Some.ensures.event (c.events.invariant.went.apart.places n ∙ c.requires.there) c.events.invariant.went.goes.kept in
+    let went = went_trans n a d f c.events.invariant.went popped.went in
     let on : IsCallOn n (event_shown c.call_event_on-event.result) =
     subst (λ (e : CallEventValue). IsCallOn n e) (sym c.call_event_on-event.ensures.event) (event_on n c.in-Some.event) in
     let g = lent_value c.happen.new.self in
     let what = event_shown c.call_event_on-event.result in
+    let s = c.events.invariant.same in
+    let t = c.happen.ensures.same in
     record {
-      same = record {
-        pool = c.happen.ensures.same.pool ∙ c.events.invariant.same.pool;
-        instance = c.happen.ensures.same.instance ∙ c.events.invariant.same.instance;
-        connections = c.happen.ensures.same.connections ∙ c.events.invariant.same.connections;
-      };
+      same = record { pool = t.pool ∙ s.pool; instance = t.instance ∙ s.instance; connections = t.connections ∙ s.connections };
       leads = due_leads (text_at a.pool) (text_at d.pool) (text_at g.pool) n (lent_state a) (lent_state d) (lent_state g) a.connections
-          d.connections f.connections g.connections c.in-Some.event what c.events.invariant.leads popped there
+          d.connections f.connections g.connections c.in-Some.event what c.events.invariant.leads popped.pops popped.there
           c.call_event_on-event.ensures.event c.in_ok-happen.ensures.happened;
       unread = keeps_unread n f.connections g.connections c.in_ok-happen.ensures.rest
-          ∙ popped_unread n d.connections f.connections (Some c.in-Some.event) popped ∙ c.events.invariant.unread;
+          ∙ popped_unread n d.connections f.connections (Some c.in-Some.event) popped.pops ∙ c.events.invariant.unread;
       cuts = due_answered (text_at a.pool) (text_at d.pool) (text_at g.pool) n (lent_state a) (lent_state d) (lent_state g) a.connections
-          d.connections f.connections g.connections c.in-Some.event what c.events.invariant.cuts popped there
+          d.connections f.connections g.connections c.in-Some.event what c.events.invariant.cuts popped.pops popped.there
           c.call_event_on-event.ensures.event c.in_ok-happen.ensures.happened;
       went = went_trans n a f g went (c.happen.ensures.went n on);
     }
@@ -117,16 +104,13 @@ returns c =
     let d = lent_value c.events.self in
     let all = c.events.self.connections.now in
     let f = with_connections d (written all.len all.items c.pop_event.new.connections) in
-    let at = c.events.invariant.went.apart.places n ∙ c.requires.there in
-    let steps = stepped c.args.place all.len all.items c.deref_mut.result.now c.pop_event.new.connections c.deref_mut.ensures.value
-    (grind (arith, common_steps)) c.pop_event.auto.connections c.pop_event.ensures.steps in
-    let went = went_trans n a d f c.events.invariant.went
-    (went_step n c.args.place d f.connections steps at c.events.invariant.went.goes.kept) in
-    let popped = through (λ ys zs. (k : ℕ) → IsPlaceOf k c.args.place ys → BecomesAt k ys zs (Pops c.pop_event.result)) all.len all.items
-    c.deref_mut.result.now c.pop_event.new.connections c.deref_mut.ensures.value (grind (arith, common_steps))
-    c.pop_event.auto.connections c.pop_event.ensures.event n at in
+    let popped = popped_through n c.args.place all.len c.pop_event.result d c.deref_mut.result.now c.pop_event.new.connections
+    c.deref_mut.ensures.value (grind (arith, common_steps)) c.pop_event.auto.connections c.pop_event.ensures.steps
+    c.pop_event.ensures.event (c.events.invariant.went.apart.places n ∙ c.requires.there) c.events.invariant.went.goes.kept in
+    let went = went_trans n a d f c.events.invariant.went popped.went in
     let none : BecomesAt n d.connections f.connections (Pops None) =
-    subst (λ (o : Option CallEvent). BecomesAt n d.connections f.connections (Pops o)) c.in_default.is popped in
+    subst (λ (o : Option CallEvent). BecomesAt n d.connections f.connections (Pops o)) c.in_default.is popped.pops in
+    let s = c.events.invariant.same in
     record {
       due = leads_acts_by (text_at a.pool) (text_at d.pool) (text_at d.pool) (lent_state a) (lent_state d) (lent_state d) a.connections
           d.connections f.connections (after_due_on n) (after_due_on n) c.events.invariant.leads
@@ -134,7 +118,7 @@ returns c =
       unread = popped_unread n d.connections f.connections None none ∙ c.events.invariant.unread;
       memory = tt;
       went = went;
-      same = c.events.invariant.same;
+      same = record { pool = s.pool; instance = s.instance; connections = s.connections };
     }
 
 pub returns-in_err-happen-clause-memory : goal.returns-in_err-happen-clause-memory
@@ -144,16 +128,12 @@ returns-in_err-happen-clause-memory c =
     let d = lent_value c.events.self in
     let all = c.events.self.connections.now in
     let f = with_connections d (written all.len all.items c.pop_event.new.connections) in
-    let at = c.events.invariant.went.apart.places n ∙ c.requires.there in
-    let steps = stepped c.args.place all.len all.items c.deref_mut.result.now c.pop_event.new.connections c.deref_mut.ensures.value
-    (grind (arith, common_steps)) c.pop_event.auto.connections c.pop_event.ensures.steps in
-    let popped = through (λ ys zs. (k : ℕ) → IsPlaceOf k c.args.place ys → BecomesAt k ys zs (Pops (Some c.in-Some.event)))
-    all.len all.items c.deref_mut.result.now c.pop_event.new.connections c.deref_mut.ensures.value
-    (grind (arith, common_steps)) c.pop_event.auto.connections c.in-Some.ensures.event n at in
-    let there : present_at n d.connections ≡ None → ⊥ = place_there n c.args.place d.connections at in
+    let popped = popped_through n c.args.place all.len (Some c.in-Some.event) d c.deref_mut.result.now c.pop_event.new.connections
+    c.deref_mut.ensures.value (grind (arith, common_steps)) c.pop_event.auto.connections c.pop_event.ensures.steps
+    c.in-Some.ensures.event (c.events.invariant.went.apart.places n ∙ c.requires.there) c.events.invariant.went.goes.kept in
     on_err c.from_residual.result
     (due_refused (text_at a.pool) (text_at d.pool) n (lent_state a) (lent_state d) (lent_state (lent_value c.happen.new.self)) a.connections
-    d.connections f.connections c.in-Some.event (event_shown c.call_event_on-event.result) c.events.invariant.cuts popped there
+    d.connections f.connections c.in-Some.event (event_shown c.call_event_on-event.result) c.events.invariant.cuts popped.pops popped.there
     c.call_event_on-event.ensures.event c.in_err-happen.ensures.memory)
 
 pub returns-in_err-happen-clause-went : goal.returns-in_err-happen-clause-went
@@ -163,11 +143,10 @@ returns-in_err-happen-clause-went c =
     let d = lent_value c.events.self in
     let all = c.events.self.connections.now in
     let f = with_connections d (written all.len all.items c.pop_event.new.connections) in
-    let at = c.events.invariant.went.apart.places n ∙ c.requires.there in
-    let steps = stepped c.args.place all.len all.items c.deref_mut.result.now c.pop_event.new.connections c.deref_mut.ensures.value
-    (grind (arith, common_steps)) c.pop_event.auto.connections c.pop_event.ensures.steps in
-    let went = went_trans n a d f c.events.invariant.went
-    (went_step n c.args.place d f.connections steps at c.events.invariant.went.goes.kept) in
+    let popped = popped_through n c.args.place all.len (Some c.in-Some.event) d c.deref_mut.result.now c.pop_event.new.connections
+    c.deref_mut.ensures.value (grind (arith, common_steps)) c.pop_event.auto.connections c.pop_event.ensures.steps
+    c.in-Some.ensures.event (c.events.invariant.went.apart.places n ∙ c.requires.there) c.events.invariant.went.goes.kept in
+    let went = went_trans n a d f c.events.invariant.went popped.went in
     let on : IsCallOn n (event_shown c.call_event_on-event.result) =
     subst (λ (e : CallEventValue). IsCallOn n e) (sym c.call_event_on-event.ensures.event) (event_on n c.in-Some.event) in
     went_trans n a f (lent_value c.happen.new.self) went (c.happen.ensures.went n on)

@@ -61,7 +61,11 @@ returns-in_ok-give_due c =
           read there due;
       memory = tt;
       went = went_trans n a f g went c.give_due.ensures.went;
-      same = c.give_due.ensures.same;
+      same = record {
+        pool = c.give_due.ensures.same.pool;
+        instance = c.give_due.ensures.same.instance;
+        connections = c.give_due.ensures.same.connections;
+      };
     }
 
 pub returns-in_err-give_due-clause-memory : goal.returns-in_err-give_due-clause-memory
@@ -134,7 +138,7 @@ returns-else-branch c =
     record {
       reads = done_leads n (lent_state a) a.connections f.connections read (text_at a.pool);
       ends = λ last. read_done n (lent_state a) a.connections f.connections read (text_at a.pool);
-      fewer = λ no. absurd no;
+      fewer = λ no. cc;
       cuts = done_cut_leads (text_at a.pool) n (lent_state a) a.connections f.connections read;
       memory = tt;
       went = went;

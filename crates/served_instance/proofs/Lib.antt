@@ -14,7 +14,7 @@ pub mod Closes
 pub mod Kept
 mod Besides
 mod Lends
-mod Popped
+mod Steps
 mod Taking
 mod Happens
 mod Settling
@@ -36,6 +36,7 @@ mod RoomLeft
 pub mod JobChanges
 mod KeptJobs
 pub mod Watches
+mod Carried
 pub use Rattle.grpc_sending.proofs.Agreeing
 pub use Rattle.grpc_sending.proofs.Histories
 pub use Rattle.conn_core.proofs.Greeting

@@ -125,6 +125,7 @@ turn_taken turn a q r j ns o others places m =
         finds = others_agree c (text_at p) (text_at r) os (turned_old p q r i j os ns rs o m);
         places = places;
       };
+      finds = turned_old p q r i j os ns rs o m;
       texts = turned_new p q r i j os ns rs o m;
       parent = refl;
       moves = turned_moves p q r i j os ns rs o m;

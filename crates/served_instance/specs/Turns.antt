@@ -13,6 +13,7 @@ use Rattle.served_instance.specs.Slots.{holders_of}
 -- its replies are owed, or for want of memory some of them, and then its steps may be taken
 pub record TakesTurn (turn : Turn) (a b : LentValue) : Type 0 where
   pub apart : (c : ℕ) → AreRepliesTo c turn.replies.items → KeepsApart c a b
+  pub finds : FindAlike a.pool b.pool a.connections
   pub texts : FindAlike a.pool b.pool b.connections
   pub parent : b.parent ≡ a.parent
   pub moves : Moves a.pool b.pool (holders_of (lent_slots a)) (holders_of (lent_slots b))

@@ -18,7 +18,7 @@ use Rattle.served_instance.proofs.CutEvents.{cut_leads_here, due_answered, due_r
 use Rattle.served_instance.proofs.Leads.{leads_here, leads_acts_by, due_leads, popped_all, popped_unread}
 use Rattle.served_instance.proofs.Lends.{still_lent, went_here, went_trans, with_connections, written}
 use Rattle.served_instance.proofs.Places.{place_within}
-use Rattle.served_instance.proofs.Popped.{popped_through}
+use Rattle.served_instance.proofs.Steps.{stepped_through}
 use Rattle.served_instance.proofs.lent.Lent.give_due.Goals as goal
 
 pub events-init : goal.events-init
@@ -47,24 +47,24 @@ happen-requires c =
     let d = lent_value c.events.self in
     let all = c.events.self.connections.now in
     let f = with_connections d (written all.len all.items c.pop_event.new.connections) in
-    let popped = popped_through n c.args.place all.len (Some c.in-Some.event) d c.deref_mut.result.now c.pop_event.new.connections
+    let popped = stepped_through n c.args.place all.len (Pops (Some c.in-Some.event)) a d c.deref_mut.result.now c.pop_event.new.connections
     c.deref_mut.ensures.value (grind (arith, common_steps)) c.pop_event.auto.connections c.pop_event.ensures.steps
-    c.in-Some.ensures.event (c.events.invariant.went.apart.places n ∙ c.requires.there) c.events.invariant.went.goes.kept in
-    let went = went_trans n a d f c.events.invariant.went popped.went in
-    record { short = c.call_event_on-event.ensures.short; lent = still_lent a f c.requires.lent went.goes }
+    (c.in-Some.ensures.event n) c.events.invariant.went c.requires.there in
+    record { short = c.call_event_on-event.ensures.short; lent = still_lent a f c.requires.lent popped.went.goes }
 
 pub events-smaller : goal.events-smaller
 events-smaller c =
     let n = c.args.number in
+    let a = lent_value c.args.self.now in
     let d = lent_value c.events.self in
     let all = c.events.self.connections.now in
     let f = with_connections d (written all.len all.items c.pop_event.new.connections) in
-    let popped = popped_through n c.args.place all.len (Some c.in-Some.event) d c.deref_mut.result.now c.pop_event.new.connections
+    let popped = stepped_through n c.args.place all.len (Pops (Some c.in-Some.event)) a d c.deref_mut.result.now c.pop_event.new.connections
     c.deref_mut.ensures.value (grind (arith, common_steps)) c.pop_event.auto.connections c.pop_event.ensures.steps
-    c.in-Some.ensures.event (c.events.invariant.went.apart.places n ∙ c.requires.there) c.events.invariant.went.goes.kept in
+    (c.in-Some.ensures.event n) c.events.invariant.went c.requires.there in
     let g = lent_value c.happen.new.self in
     let fewer : due_count n f.connections < due_count n d.connections =
-    changed_fewer (λ v. length v.due) n d.connections f.connections (Pops (Some c.in-Some.event)) popped.there popped.pops (λ v w r. r.fewer) in
+    changed_fewer (λ v. length v.due) n d.connections f.connections (Pops (Some c.in-Some.event)) popped.there popped.becomes (λ v w r. r.fewer) in
     subst (λ (m : ℕ). m < due_count n d.connections) (sym (keeps_due n f.connections g.connections c.in_ok-happen.ensures.rest)) fewer
 
 pub events-preserved : goal.events-preserved
@@ -74,10 +74,9 @@ events-preserved c =
     let d = lent_value c.events.self in
     let all = c.events.self.connections.now in
     let f = with_connections d (written all.len all.items c.pop_event.new.connections) in
-    let popped = popped_through n c.args.place all.len (Some c.in-Some.event) d c.deref_mut.result.now c.pop_event.new.connections
+    let popped = stepped_through n c.args.place all.len (Pops (Some c.in-Some.event)) a d c.deref_mut.result.now c.pop_event.new.connections
     c.deref_mut.ensures.value (grind (arith, common_steps)) c.pop_event.auto.connections c.pop_event.ensures.steps
-    c.in-Some.ensures.event (c.events.invariant.went.apart.places n ∙ c.requires.there) c.events.invariant.went.goes.kept in
-    let went = went_trans n a d f c.events.invariant.went popped.went in
+    (c.in-Some.ensures.event n) c.events.invariant.went c.requires.there in
     let on : IsCallOn n (event_shown c.call_event_on-event.result) =
     subst (λ (e : CallEventValue). IsCallOn n e) (sym c.call_event_on-event.ensures.event) (event_on n c.in-Some.event) in
     let g = lent_value c.happen.new.self in
@@ -87,14 +86,14 @@ events-preserved c =
     record {
       same = record { pool = t.pool ∙ s.pool; instance = t.instance ∙ s.instance; connections = t.connections ∙ s.connections };
       leads = due_leads (text_at a.pool) (text_at d.pool) (text_at g.pool) n (lent_state a) (lent_state d) (lent_state g) a.connections
-          d.connections f.connections g.connections c.in-Some.event what c.events.invariant.leads popped.pops popped.there
+          d.connections f.connections g.connections c.in-Some.event what c.events.invariant.leads popped.becomes popped.there
           c.call_event_on-event.ensures.event c.in_ok-happen.ensures.happened;
       unread = keeps_unread n f.connections g.connections c.in_ok-happen.ensures.rest
-          ∙ popped_unread n d.connections f.connections (Some c.in-Some.event) popped.pops ∙ c.events.invariant.unread;
+          ∙ popped_unread n d.connections f.connections (Some c.in-Some.event) popped.becomes ∙ c.events.invariant.unread;
       cuts = due_answered (text_at a.pool) (text_at d.pool) (text_at g.pool) n (lent_state a) (lent_state d) (lent_state g) a.connections
-          d.connections f.connections g.connections c.in-Some.event what c.events.invariant.cuts popped.pops popped.there
+          d.connections f.connections g.connections c.in-Some.event what c.events.invariant.cuts popped.becomes popped.there
           c.call_event_on-event.ensures.event c.in_ok-happen.ensures.happened;
-      went = went_trans n a f g went (c.happen.ensures.went n on);
+      went = went_trans n a f g popped.went (c.happen.ensures.went n on);
     }
 
 pub returns : goal.returns
@@ -104,12 +103,11 @@ returns c =
     let d = lent_value c.events.self in
     let all = c.events.self.connections.now in
     let f = with_connections d (written all.len all.items c.pop_event.new.connections) in
-    let popped = popped_through n c.args.place all.len c.pop_event.result d c.deref_mut.result.now c.pop_event.new.connections
+    let popped = stepped_through n c.args.place all.len (Pops c.pop_event.result) a d c.deref_mut.result.now c.pop_event.new.connections
     c.deref_mut.ensures.value (grind (arith, common_steps)) c.pop_event.auto.connections c.pop_event.ensures.steps
-    c.pop_event.ensures.event (c.events.invariant.went.apart.places n ∙ c.requires.there) c.events.invariant.went.goes.kept in
-    let went = went_trans n a d f c.events.invariant.went popped.went in
+    (c.pop_event.ensures.event n) c.events.invariant.went c.requires.there in
     let none : BecomesAt n d.connections f.connections (Pops None) =
-    subst (λ (o : Option CallEvent). BecomesAt n d.connections f.connections (Pops o)) c.in_default.is popped.pops in
+    subst (λ (o : Option CallEvent). BecomesAt n d.connections f.connections (Pops o)) c.in_default.is popped.becomes in
     let s = c.events.invariant.same in
     record {
       due = leads_acts_by (text_at a.pool) (text_at d.pool) (text_at d.pool) (lent_state a) (lent_state d) (lent_state d) a.connections
@@ -117,7 +115,7 @@ returns c =
           (popped_all n (lent_state d) d.connections f.connections none (text_at d.pool));
       unread = popped_unread n d.connections f.connections None none ∙ c.events.invariant.unread;
       memory = tt;
-      went = went;
+      went = popped.went;
       same = record { pool = s.pool; instance = s.instance; connections = s.connections };
     }
 
@@ -128,12 +126,12 @@ returns-in_err-happen-clause-memory c =
     let d = lent_value c.events.self in
     let all = c.events.self.connections.now in
     let f = with_connections d (written all.len all.items c.pop_event.new.connections) in
-    let popped = popped_through n c.args.place all.len (Some c.in-Some.event) d c.deref_mut.result.now c.pop_event.new.connections
+    let popped = stepped_through n c.args.place all.len (Pops (Some c.in-Some.event)) a d c.deref_mut.result.now c.pop_event.new.connections
     c.deref_mut.ensures.value (grind (arith, common_steps)) c.pop_event.auto.connections c.pop_event.ensures.steps
-    c.in-Some.ensures.event (c.events.invariant.went.apart.places n ∙ c.requires.there) c.events.invariant.went.goes.kept in
+    (c.in-Some.ensures.event n) c.events.invariant.went c.requires.there in
     on_err c.from_residual.result
     (due_refused (text_at a.pool) (text_at d.pool) n (lent_state a) (lent_state d) (lent_state (lent_value c.happen.new.self)) a.connections
-    d.connections f.connections c.in-Some.event (event_shown c.call_event_on-event.result) c.events.invariant.cuts popped.pops popped.there
+    d.connections f.connections c.in-Some.event (event_shown c.call_event_on-event.result) c.events.invariant.cuts popped.becomes popped.there
     c.call_event_on-event.ensures.event c.in_err-happen.ensures.memory)
 
 pub returns-in_err-happen-clause-went : goal.returns-in_err-happen-clause-went
@@ -143,10 +141,9 @@ returns-in_err-happen-clause-went c =
     let d = lent_value c.events.self in
     let all = c.events.self.connections.now in
     let f = with_connections d (written all.len all.items c.pop_event.new.connections) in
-    let popped = popped_through n c.args.place all.len (Some c.in-Some.event) d c.deref_mut.result.now c.pop_event.new.connections
+    let popped = stepped_through n c.args.place all.len (Pops (Some c.in-Some.event)) a d c.deref_mut.result.now c.pop_event.new.connections
     c.deref_mut.ensures.value (grind (arith, common_steps)) c.pop_event.auto.connections c.pop_event.ensures.steps
-    c.in-Some.ensures.event (c.events.invariant.went.apart.places n ∙ c.requires.there) c.events.invariant.went.goes.kept in
-    let went = went_trans n a d f c.events.invariant.went popped.went in
+    (c.in-Some.ensures.event n) c.events.invariant.went c.requires.there in
     let on : IsCallOn n (event_shown c.call_event_on-event.result) =
     subst (λ (e : CallEventValue). IsCallOn n e) (sym c.call_event_on-event.ensures.event) (event_on n c.in-Some.event) in
-    went_trans n a f (lent_value c.happen.new.self) went (c.happen.ensures.went n on)
+    went_trans n a f (lent_value c.happen.new.self) popped.went (c.happen.ensures.went n on)

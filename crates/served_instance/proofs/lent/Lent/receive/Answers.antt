@@ -3,17 +3,17 @@ use Rattle.std.proofs.lemmas.Grind.{common_steps}
 use Rattle.blob_pool.specs.Slots.{text_at}
 use Rattle.conn_core.specs.Past.{with_bytes}
 use Rattle.served_instance.specs.declared.open_connection.OpenConnection.{OpenConnection}
-use Rattle.served_instance.specs.Acts.{BecomesAt, TakesStep, after_rest_on}
+use Rattle.served_instance.specs.Acts.{TakesStep, after_rest_on}
 use Rattle.served_instance.specs.Connections.{at_open}
 use Rattle.served_instance.specs.Events.{bytes_come, bytes_events, rest_events}
 use Rattle.served_instance.specs.Lent.{lent_state, lent_value}
 use Rattle.served_instance.specs.Lone.{LoneInstance, after_bytes_on}
-use Rattle.served_instance.specs.Present.{IsPlaceOf}
 use Rattle.served_instance.proofs.BrokenOff.{on_err}
 use Rattle.served_instance.proofs.CutEvents.{nothing_cut, cut_leads_trans, cut_leads_short}
 use Rattle.served_instance.proofs.Leads.{step_acts, leads_trans, leads_acts_by}
-use Rattle.served_instance.proofs.Lends.{still_lent, stepped, through, went_step, went_trans, with_connections, written}
+use Rattle.served_instance.proofs.Lends.{still_lent, went_here, went_trans, with_connections, written}
 use Rattle.served_instance.proofs.Places.{place_within}
+use Rattle.served_instance.proofs.Steps.{stepped_through, went_through}
 use Rattle.served_instance.proofs.lent.Lent.receive.Goals as goal
 
 pub feed-requires : goal.feed-requires
@@ -28,23 +28,21 @@ frames-init c =
     let a = lent_value c.args.self.now in
     let all = c.args.self.now.connections.now in
     let f = with_connections a (written all.len all.items c.feed.new.connections) in
-    let steps = stepped c.args.place all.len all.items c.deref_mut.result.now c.feed.new.connections c.deref_mut.ensures.value
-    (grind (arith, common_steps)) c.feed.auto.connections c.feed.ensures.steps in
     let step = with_bytes c.args.bytes.items in
-    let fed = through (λ ys zs. IsPlaceOf n c.args.place ys → BecomesAt n ys zs (TakesStep step)) all.len all.items
-    c.deref_mut.result.now c.feed.new.connections c.deref_mut.ensures.value (grind (arith, common_steps))
-    c.feed.auto.connections (c.in_ok-feed.ensures.fed n) c.requires.there in
+    let fed = stepped_through n c.args.place all.len (TakesStep step) a a c.deref_mut.result.now c.feed.new.connections
+    c.deref_mut.ensures.value (grind (arith, common_steps)) c.feed.auto.connections c.feed.ensures.steps (c.in_ok-feed.ensures.fed n)
+    (went_here n a c.requires.lent.kept) c.requires.there in
     record {
       same = record { pool = refl; instance = refl; connections = refl };
       leads = λ l st.
           let k : LoneInstance = record l { connections = at_open n step l.connections } in
-          (k, step_acts n (lent_state a) a.connections f.connections step fed (text_at a.pool) l st, refl);
+          (k, step_acts n (lent_state a) a.connections f.connections step fed.becomes (text_at a.pool) l st, refl);
       cuts = λ l st. (
         bytes_come n c.args.bytes.items l,
-        step_acts n (lent_state a) a.connections f.connections step fed (text_at a.pool) l st,
+        step_acts n (lent_state a) a.connections f.connections step fed.becomes (text_at a.pool) l st,
         λ u cut. cut,
       );
-      went = went_step n c.args.place a f.connections steps c.requires.there c.requires.lent.kept;
+      went = fed.went;
     }
 
 pub returns-in_err-feed-clause-memory : goal.returns-in_err-feed-clause-memory
@@ -54,13 +52,9 @@ returns-in_err-feed-clause-memory c =
 
 pub returns-in_err-feed-clause-went : goal.returns-in_err-feed-clause-went
 returns-in_err-feed-clause-went c =
-    let n = c.args.number in
-    let a = lent_value c.args.self.now in
-    let all = c.args.self.now.connections.now in
-    let f = with_connections a (written all.len all.items c.feed.new.connections) in
-    let steps = stepped c.args.place all.len all.items c.deref_mut.result.now c.feed.new.connections c.deref_mut.ensures.value
-    (grind (arith, common_steps)) c.feed.auto.connections c.feed.ensures.steps in
-    went_step n c.args.place a f.connections steps c.requires.there c.requires.lent.kept
+    went_through c.args.number c.args.place c.args.self.now.connections.now.len (lent_value c.args.self.now) c.deref_mut.result.now
+    c.feed.new.connections c.deref_mut.ensures.value (grind (arith, common_steps)) c.feed.auto.connections c.feed.ensures.steps
+    c.requires.there c.requires.lent.kept
 
 pub read_next-requires : goal.read_next-requires
 read_next-requires c =

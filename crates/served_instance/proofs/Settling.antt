@@ -1,6 +1,7 @@
 -- What was made ready is carried out: replies are owed, and then steps are taken.
 use Rattle.std.proofs.Common.{◌≡◌, ◌≤◌, ℕ, List, map, length, refl, sym, ◌∙◌, arith}
 use Rattle.std.specs.List.{AllByRecursion}
+use Rattle.std.specs.Prelude.{Result}
 use Rattle.std.proofs.lemmas.List.{length-map}
 use Rattle.blob_pool.specs.Slots.{Slots, text_at, count_at}
 use Rattle.blob_pool.specs.Moves.{Moves, no_holders}
@@ -16,7 +17,7 @@ use Rattle.instance_core.specs.State.{IsInstanceWithin}
 use Rattle.served_instance.specs.declared.open_connection.OpenConnection.{OpenConnection}
 use Rattle.served_instance.specs.Acts.{FindAlike, slots_of}
 use Rattle.served_instance.specs.Cuts.{KeepsOthers}
-use Rattle.served_instance.specs.Lent.{LentValue}
+use Rattle.served_instance.specs.Lent.{LentValue, IsKept}
 use Rattle.served_instance.specs.OwedReplies.{RepliesEndWithin, AllTakeRanges}
 use Rattle.served_instance.specs.Present.{StayInPlace}
 use Rattle.served_instance.specs.Ranges.{range_holders, seen_with, sources_at}
@@ -25,8 +26,10 @@ use Rattle.served_instance.specs.Slots.{holders_of, IsServedInPool}
 use Rattle.served_instance.specs.StandsFor.{ServedConnection}
 use Rattle.served_instance.specs.Turns.{TakesTurn}
 use Rattle.served_instance.proofs.Cut.{others_agree}
+use Rattle.served_instance.proofs.Gives.{HaveGiven}
 use Rattle.served_instance.proofs.Happens.{replies_end}
 use Rattle.served_instance.proofs.Kept.{few_connections, own_same}
+use Rattle.served_instance.proofs.Lends.{through, written}
 use Rattle.served_instance.proofs.Ranges.{fit_agreed_each}
 
 -- replies were owed, or for want of memory some of them, and they hold nothing
@@ -36,6 +39,24 @@ pub record AreOwed (p q : Slots) (i : InstanceSlots) (os ns : List OpenConnectio
   pub short : (t : Slots) → AllByRecursion IsShortReply (map (reply_shown t) rs)
   pub takes : AllTakeRanges (replies_holders rs) (RepliesEndWithin rs) p (map connection_shown os) q (map connection_shown ns)
   pub count : length ns ≡ length os
+
+-- .. through a slice of all connections
+pub record HaveOwed (rs : List Reply) (a : LentValue) (q : Slots) (ns : List OpenConnection) : Type 0 where
+  pub owed : AreOwed a.pool q a.instance a.connections ns rs
+  pub others : (c : ℕ) → AreRepliesTo c rs → KeepsOthers c a.connections ns
+  pub places : StayInPlace a.connections ns
+
+pub owed_through : {T E : Type 0} (r : Result T E) (rs : List Reply) (a : LentValue) (q : Slots) (n : ℕ) (xs ns : List OpenConnection) →
+    xs ≡ a.connections → n ≡ length a.connections → length ns ≡ length xs → HaveGiven r rs a.pool q xs ns → IsKept a →
+    ((k : ℕ) → replies_holders rs k ≡ 0) → ((p : Slots) → AllByRecursion IsShortReply (map (reply_shown p) rs)) →
+    HaveOwed rs a q (written n a.connections ns)
+owed_through r rs a q n xs ns seen whole same gave kept given short =
+    let done = through (λ ys zs. HaveGiven r rs a.pool q ys zs) n a.connections xs ns seen whole same gave in
+    record {
+      owed = record { kept = kept; given = given; short = short; takes = done.takes; count = done.count };
+      others = done.others;
+      places = done.places;
+    }
 
 none_gone : (p q : Slots) (i : InstanceSlots) (os ns : List OpenConnection) (rs : List Reply) (o : AreOwed p q i os ns rs) (k : ℕ) →
     o.takes.gone k ≡ 0

@@ -350,7 +350,12 @@ impl<'a> Lent<'a> {
     {
         match what {
             What::Open(number) => {
-                open(self.alloc, self.instance.limits().window(), self.connections, number)?;
+                open(
+                    self.alloc,
+                    self.instance.limits().window(),
+                    self.connections,
+                    number,
+                )?;
                 Ok(Vec::new(self.alloc))
             }
             What::Bytes(number, bytes) => self.receive_and_start(place, number, bytes),

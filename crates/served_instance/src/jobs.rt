@@ -100,11 +100,7 @@ impl<'a> Lent<'a> {
     }
 
     /// The run of a job gave an outcome: the job ends, and others start.
-    pub(crate) fn end_run(
-        &mut self,
-        job: u64,
-        outcome: Outcome,
-    ) -> Result<Vec<Order>, AllocError>
+    pub(crate) fn end_run(&mut self, job: u64, outcome: Outcome) -> Result<Vec<Order>, AllocError>
         requires lent { IsLent (lent_value self.old) }
         ensures done { IfOk result (IsDone (ended job (outcome_shown outcome))
             (lent_value self.old) (lent_value self.new)) }
@@ -113,7 +109,9 @@ impl<'a> Lent<'a> {
         ensures goes { GoesOn (lent_value self.old) (lent_value self.new) }
         ensures same { IsSameLoan self.old self.new }
     {
-        let turn = self.instance.ready_end(self.alloc, self.pool, job, outcome)?;
+        let turn = self
+            .instance
+            .ready_end(self.alloc, self.pool, job, outcome)?;
         self.settle(turn)
     }
 }

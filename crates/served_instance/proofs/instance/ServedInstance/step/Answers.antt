@@ -78,7 +78,9 @@ returns-in-Ok-act-clause-stands c = λ l s n.
     let taken = is_taken e v i a c.deref.result.now c.deref.ensures.value c.self.view_is c.in-Ok.ensures.refused c.set_moment.ensures.changed
     c.requires.kept in
     let pumped : IsPumped b.pool (lent_slots b) c.pump.new.pool c.pump.new.self = record {
-      stands = c.pump.ensures.stands; tidy = c.pump.ensures.tidy; fit = c.pump.ensures.kept.fit;
+      stands = c.pump.ensures.stands;
+      tidy = c.pump.ensures.tidy;
+      fit = c.pump.ensures.kept.fit;
     } in
     done_stands e v i a b c.in-Ok-act.orders c.pump.new.pool c.pump.new.self l taken c.in-Ok-act.ensures.done pumped s
 
@@ -102,7 +104,9 @@ returns-in-Ok-act-clause-orders c = λ l s.
     let taken = is_taken e v i a c.deref.result.now c.deref.ensures.value c.self.view_is c.in-Ok.ensures.refused c.set_moment.ensures.changed
     c.requires.kept in
     let pumped : IsPumped b.pool (lent_slots b) c.pump.new.pool c.pump.new.self = record {
-      stands = c.pump.ensures.stands; tidy = c.pump.ensures.tidy; fit = c.pump.ensures.kept.fit;
+      stands = c.pump.ensures.stands;
+      tidy = c.pump.ensures.tidy;
+      fit = c.pump.ensures.kept.fit;
     } in
     done_orders e v i a b c.in-Ok-act.orders c.pump.new.pool c.pump.new.self l taken c.in-Ok-act.ensures.done pumped s
 

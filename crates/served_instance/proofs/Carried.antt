@@ -102,8 +102,11 @@ rested e v i a b orders l t done s =
     record { state = st.state; connections = st.connections }
 
 -- and then all was put
+abbrev pub Pumps : Slots → ServedSlots → Slots → ServedSlots → Type 0
+Pumps p v q w = (l : LoneInstance) → StandsIn p v l → StandsIn q w (after_pump l)
+
 pub record IsPumped (p : Slots) (v : ServedSlots) (q : Slots) (w : ServedSlots) : Type 0 where
-  pub stands : (l : LoneInstance) → StandsIn p v l → StandsIn q w (after_pump l)
+  pub stands : Pumps p v q w
   pub tidy : AreTidy w.connections
   pub fit : RangesEndWithin (text_at q) w.connections
 

@@ -1,5 +1,6 @@
-use Rattle.std.proofs.Common.{◌≡◌, List, ap, ◌∙◌, subst, sym}
+use Rattle.std.proofs.Common.{◌≡◌, List, ap, ◌∙◌, subst, sym, rules}
 use Rattle.std.specs.Prelude.{None, Some}
+use Rattle.blob_pool.specs.Slots.{Slots}
 use Rattle.instance_core.specs.InstanceViewShown.{visible_in}
 use Rattle.server_events.specs.Shown.{event_value}
 use Rattle.served_instance.specs.declared.broken.Broken.{Broken}
@@ -9,9 +10,10 @@ use Rattle.served_instance.specs.Cuts.{LosesBroken, others_by}
 use Rattle.served_instance.specs.Lent.{lent_slots, lent_value}
 use Rattle.served_instance.specs.Present.{IsPlaceFor}
 use Rattle.served_instance.specs.Ranges.{AreTidy}
-use Rattle.served_instance.specs.Slots.{ServedSlots}
+use Rattle.served_instance.specs.Short.{IsServedShort}
+use Rattle.served_instance.specs.Slots.{ServedSlots, IsServedInPool, served_state_in}
 use Rattle.served_instance.proofs.BrokenOff.{IsBroken, still_tidy}
-use Rattle.served_instance.proofs.Carried.{IsPumped, broken_short, done_orders, done_settled, done_stands, is_taken, lends, moment_lent, still_accepted}
+use Rattle.served_instance.proofs.Carried.{IsPumped, Pumps, broken_short, done_orders, done_settled, done_stands, is_taken, lends, moment_lent, still_accepted}
 use Rattle.served_instance.proofs.Refuses.{kept_at_refusal, no_reason, not_elsewhere, not_for_memory, refused_outcome, seen_refusal}
 use Rattle.served_instance.proofs.instance.ServedInstance.step.Goals as goal
 
@@ -61,7 +63,9 @@ act-requires c =
     }
 
 pub pump-requires : goal.pump-requires
-pump-requires c = c.act.ensures.goes.kept
+pump-requires c =
+    let b = lent_value c.act.new.self in
+    subst (λ (q : Slots). IsServedInPool q (lent_slots b)) (search rules) c.act.ensures.goes.kept
 
 pub returns-in-Ok-act-clause-outcome : goal.returns-in-Ok-act-clause-outcome
 returns-in-Ok-act-clause-outcome c = λ l s. no_reason c.args.pool.now (event_value c.args.event).lone c.args.self.now l
@@ -78,7 +82,7 @@ returns-in-Ok-act-clause-stands c = λ l s n.
     let taken = is_taken e v i a c.deref.result.now c.deref.ensures.value c.self.view_is c.in-Ok.ensures.refused c.set_moment.ensures.changed
     c.requires.kept in
     let pumped : IsPumped b.pool (lent_slots b) c.pump.new.pool c.pump.new.self = record {
-      stands = c.pump.ensures.stands;
+      stands = subst (λ (q : Slots). Pumps q (lent_slots b) c.pump.new.pool c.pump.new.self) (search rules) c.pump.ensures.stands;
       tidy = c.pump.ensures.tidy;
       fit = c.pump.ensures.kept.fit;
     } in
@@ -104,7 +108,7 @@ returns-in-Ok-act-clause-orders c = λ l s.
     let taken = is_taken e v i a c.deref.result.now c.deref.ensures.value c.self.view_is c.in-Ok.ensures.refused c.set_moment.ensures.changed
     c.requires.kept in
     let pumped : IsPumped b.pool (lent_slots b) c.pump.new.pool c.pump.new.self = record {
-      stands = c.pump.ensures.stands;
+      stands = subst (λ (q : Slots). Pumps q (lent_slots b) c.pump.new.pool c.pump.new.self) (search rules) c.pump.ensures.stands;
       tidy = c.pump.ensures.tidy;
       fit = c.pump.ensures.kept.fit;
     } in
@@ -136,7 +140,8 @@ returns-in-Err-act-clause-short c = λ memory l s.
       lost = subst (λ (x : Broken). LosesBroken x b d) c.by-broken.ensures c.break_off_by.ensures.lost;
       tidy = subst T (sym c.self.view_is) c.requires.tidy;
     } in
-    broken_short e v i a b d l taken c.in-Err-act.ensures.memory_free broken s
+    subst (λ (q : Slots). IsServedShort (visible_in a.pool a.parent) e l (served_state_in q (lent_slots d))) (search rules)
+    (broken_short e v i a b d l taken c.in-Err-act.ensures.memory_free broken s)
 
 pub returns-in-Err-act-clause-tidy : goal.returns-in-Err-act-clause-tidy
 returns-in-Err-act-clause-tidy c =

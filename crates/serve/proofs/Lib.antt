@@ -7,11 +7,9 @@ mod Silence
 mod Clients
 mod Numbers
 mod Open
+mod ServesOn
 mod Closings
 mod Closed
-mod Logs
-mod RunLogs
 mod Written
 mod Did
 mod FaultLines
-mod Carried

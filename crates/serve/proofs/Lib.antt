@@ -1,7 +1,7 @@
 mod Happenings
 mod Keeps
 mod Lending
-mod Beginning
+mod AtFirst
 mod Ticks
 mod Silence
 mod Clients

@@ -22,9 +22,10 @@ use crate::sockets::no_runs::serve_alone;
 use crate::sockets::peers::serve_peers;
 use crate::sockets::silent::serve_silent;
 use hex::FromHexError;
+use logs::LoggedSockets;
 use numerals::decimal;
 use script::lines;
-use serve::{LoggedSockets, Sockets};
+use serve::Sockets;
 use server_events::Configs;
 use tool_programs::{Fault, Output, Status};
 

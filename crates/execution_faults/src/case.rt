@@ -1,7 +1,7 @@
 //! A run of the case: instances whose clients have actions executed, over fakes that keep logs.
 
 ghost use Rattle.std.specs.Prelude.{◌≡◌, [], Some, IfOk};
-ghost use Rattle.serve.specs.LoggedRuns.{runs_logged};
+ghost use Rattle.logs.specs.LoggedRuns.{runs_logged};
 
 use crate::counting::{CallFault, Calls, Deed, Failing};
 use crate::fake_folder::FakeFolder;
@@ -9,9 +9,9 @@ use crate::fake_programs::FakePrograms;
 use crate::fake_sockets::{Client, FakeSockets, Habits};
 use job_runs::JobRunner;
 use keyed_maps::MapKey;
+use logs::{LoggedFolder, LoggedPrograms, LoggedRuns, LoggedSockets};
 use run_calls::RunKey;
-use run_logs::{LoggedFolder, LoggedPrograms};
-use serve::{ErrorLines, LoggedRuns, LoggedSockets, Nobody, Sockets, serve};
+use serve::{Beginning, ErrorLines, Nobody, Sockets, serve};
 use server_events::Configs;
 use std::alloc::{AllocError, Global};
 use std::io::ErrorKind;
@@ -162,13 +162,15 @@ pub fn carry_out<'a>(
     let mut errors = ErrorLines::new(alloc, Vec::new(alloc), NAMES.len())?;
     serve(
         alloc,
-        MapKey::known(),
+        Beginning {
+            key: MapKey::known(),
+            turns: TURNS,
+        },
         configs,
         &mut sockets,
         &mut runs,
         &mut errors,
         &mut Nobody,
-        TURNS,
     )?;
     Ok(tell(fake, sockets, &runs, errors.into_output()))
 }
@@ -213,13 +215,15 @@ fn cut_short(
     let mut errors = ErrorLines::new(alloc, Vec::new(alloc), NAMES.len())?;
     serve(
         alloc,
-        MapKey::known(),
+        Beginning {
+            key: MapKey::known(),
+            turns,
+        },
         configs,
         &mut sockets,
         &mut runs,
         &mut errors,
         &mut Nobody,
-        turns,
     )?;
     output.print_text(format!(in alloc; "after {turns} turns: "));
     tell_left(&runs.runs, output);

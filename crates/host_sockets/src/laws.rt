@@ -1,20 +1,7 @@
-//! What is carried to the connections themselves, and what that excludes.
+//! What the clauses of connections exclude.
 
-ghost use Rattle.std.specs.Prelude.{◌≡◌, ◌++◌, ◌∷◌, [], ℕ, List, Some, IfSome};
+ghost use Rattle.std.specs.Prelude.{◌≡◌, ◌++◌, ◌∷◌, [], ℕ, List, Some};
 ghost use Rattle.wires.specs.Wires.{WireEvent, Adds, came, sent};
-ghost use Rattle.serve.specs.Logged.{logged};
-ghost use Rattle.host_sockets.specs.Laid.{AreLaid};
-
-use crate::HostSockets;
-use serve::LoggedSockets;
-use wires::Host;
-
-/// What a log of sockets says of each open connection is just what happened on it, where that is
-/// known. `serve` takes such sockets as any others, and says what their log is.
-pub fn what_is_laid<H: Host>(sockets: &LoggedSockets<HostSockets<'_, H>>)
-    ensures { IfSome (logged sockets.now.log)
-        (AreLaid H.Door.Wire.happened sockets.now.sockets.ports.items) }
-{}
 
 /// Of a connection of which all is known a clause allows just one list. So what wrong bodies would
 /// have to show is false: where half of two bytes is sent and both are told; where a byte that came

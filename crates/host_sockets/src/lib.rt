@@ -20,7 +20,7 @@ mod watched;
 use crate::news::{MOST_PORTS, count_news};
 use crate::port::Port;
 pub use counts::SocketCounts;
-pub use laws::{what_is_laid, wrong_bodies_are_refused};
+pub use laws::wrong_bodies_are_refused;
 pub use lingering::LINGERING_LIMIT;
 use serve::{ProcessorTime, Socket, Sockets};
 use std::alloc::Global;

@@ -12,9 +12,9 @@ mod Fitting
 mod Planned
 mod NoTurns
 mod Stepped
-mod Serving
+pub mod Serving
 mod Linked
 mod Went
-mod Carrying
+pub mod Carrying
 mod Overseen
 mod Refused

@@ -19,10 +19,7 @@ mod trees;
 
 pub use ended::EndedJobs;
 pub use job_runner::JobRunner;
-pub use laws::{
-    a_number_finds_the_text_of_its_digest, what_is_served_is_of_jobs, what_ran,
-    what_ran_was_ordered,
-};
+pub use laws::{a_number_finds_the_text_of_its_digest, what_is_served_is_of_jobs};
 pub use lent::LentTexts;
 pub use operated::{OperatedRuns, Oversight};
 pub use run_counts::{FAULT_WORDS, FAULTS, RunCounts, RunTally};

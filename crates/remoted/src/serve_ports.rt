@@ -32,7 +32,7 @@ use operator_lines::{
     told,
 };
 use run_programs::{Launcher, RunPrograms, launcher_path};
-use serve::{ErrorLines, Sockets, serve};
+use serve::{Beginning, ErrorLines, Sockets, serve};
 use server_events::Configs;
 use std::alloc::AllocError;
 use std::io::{self, Write};
@@ -278,13 +278,15 @@ fn serve_turns(
     operator.tell_start(&sockets, service);
     let served = serve(
         alloc,
-        key,
+        Beginning {
+            key,
+            turns: service.turns,
+        },
         configs,
         &mut sockets,
         runs,
         &mut lines,
         &mut operator,
-        service.turns,
     );
     end_runs(rt, configs, sockets, runs, &mut lines);
     operator.tell_end(service);

@@ -13,7 +13,7 @@ use Rattle.serve.specs.SocketEvents.{SocketEvent, port, accepted, shut, moment_o
 use Rattle.serve.specs.RunEvents.{RunEvent}
 use Rattle.serve.specs.Closings.{Client, HasTurnedAway, IsFull, MayBeShut, client_in, own_past}
 use Rattle.serve.specs.Numbers.{NumbersAreApart}
-use Rattle.serve.specs.KeepsServing.{most_counted}
+use Rattle.serve.specs.KeepsServing.{KeepsServing, most_counted}
 
 -- each connection that was accepted was shut since, or is at one of these sockets
 abbrev pub AreAmong : List Socket → List SocketEvent → Type 0
@@ -70,6 +70,16 @@ pub record HasOpen (count : ℕ) (connections : List OpenSocket) (next : Option 
 -- .. of a server
 abbrev pub HasAllOpen : Serving → Option (List SocketEvent) → Type 0
 HasAllOpen s known = HasOpen s.instances s.connections.items s.next s.moment known
+
+-- what each part of a turn keeps: whatever so many instances served by what had happened, they serve
+-- by what has happened now; there are as many; and it is known of each connection what is open
+pub record ServesOn (old : Serving) (was : Option (List SocketEvent))
+    (ran : Option (List RunEvent)) (new : Serving) (is : Option (List SocketEvent))
+    (runs : Option (List RunEvent)) : Type 0 where
+  pub serving : KeepsServing old.instances was ran old.counting old.moment
+      is runs new.counting new.moment
+  pub instances : new.instances ≡ old.instances
+  pub opened : HasAllOpen new is
 
 -- this one is put among these, somewhere
 abbrev pub IsPutAmong : OpenSocket → List OpenSocket → List OpenSocket → Type 0

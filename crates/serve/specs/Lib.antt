@@ -12,7 +12,5 @@ pub mod Absence
 pub mod KeepsOpen
 pub mod Silence
 pub mod Reads
-pub mod Logged
-pub mod LoggedRuns
 pub mod FaultLines
 pub mod Plain

@@ -4,7 +4,7 @@ ghost use Rattle.std.specs.Prelude.{◌≡◌, ◌<◌, ◌≤◌, ℕ, [], leng
 ghost use Rattle.serve.specs.Absence.{IsCatchingUp};
 ghost use Rattle.serve.specs.Numbers.{NumbersAreApart};
 ghost use Rattle.serve.specs.FaultLines.{WritesLines, WritesLinesAt};
-ghost use Rattle.serve.specs.KeepsOpen.{HasAllOpen, LacksRoom};
+ghost use Rattle.serve.specs.KeepsOpen.{HasAllOpen, LacksRoom, ServesOn};
 ghost use Rattle.serve.specs.SocketEvents.{Adds};
 ghost use Rattle.serve.specs.Served.{WasServed};
 ghost use Rattle.serve.specs.KeepsServing.{IsServing, KeepsServing};
@@ -113,13 +113,9 @@ impl Serving {
         errors: &mut ErrorLines<E>,
     ) -> bool
         requires opened { HasAllOpen self.old (S.happened sockets.old) }
-        ensures serving { KeepsServing self.old.instances
-            (S.happened sockets.old) (R.happened runs.old)
-            self.old.counting self.old.moment
-            (S.happened sockets.new) (R.happened runs.new)
-            self.new.counting self.new.moment }
-        ensures instances { self.new.instances ≡ self.old.instances }
-        ensures opened { HasAllOpen self.new (S.happened sockets.new) }
+        ensures serves_on { ServesOn
+            self.old (S.happened sockets.old) (R.happened runs.old)
+            self.new (S.happened sockets.new) (R.happened runs.new) }
         ensures lines { WritesLinesAt self.new.moment configs.now
             (R.faulted runs.old) (R.faulted runs.new)
             (E.contents errors.old.output) errors.old.backlog
@@ -145,14 +141,10 @@ impl Serving {
     /// many turns of a busy server are spared.
     fn keep_time<S: Sockets, R: Runs>(&mut self, sockets: &mut S, runs: &mut R)
         requires opened { HasAllOpen self.old (S.happened sockets.old) }
-        ensures serving { KeepsServing self.old.instances
-            (S.happened sockets.old) (R.happened runs.old)
-            self.old.counting self.old.moment
-            (S.happened sockets.new) (R.happened runs.new)
-            self.new.counting self.new.moment }
+        ensures serves_on { ServesOn
+            self.old (S.happened sockets.old) (R.happened runs.old)
+            self.new (S.happened sockets.new) (R.happened runs.new) }
         ensures no_fault { R.faulted runs.new ≡ R.faulted runs.old }
-        ensures instances { self.new.instances ≡ self.old.instances }
-        ensures opened { HasAllOpen self.new (S.happened sockets.new) }
     {
         if sockets.passed() / MILLISECOND > self.moment {
             self.tick(sockets, runs);
@@ -162,14 +154,10 @@ impl Serving {
     /// Time goes on for each instance.
     fn tick<S: Sockets, R: Runs>(&mut self, sockets: &mut S, runs: &mut R)
         requires opened { HasAllOpen self.old (S.happened sockets.old) }
-        ensures serving { KeepsServing self.old.instances
-            (S.happened sockets.old) (R.happened runs.old)
-            self.old.counting self.old.moment
-            (S.happened sockets.new) (R.happened runs.new)
-            self.new.counting self.new.moment }
+        ensures serves_on { ServesOn
+            self.old (S.happened sockets.old) (R.happened runs.old)
+            self.new (S.happened sockets.new) (R.happened runs.new) }
         ensures no_fault { R.faulted runs.new ≡ R.faulted runs.old }
-        ensures instances { self.new.instances ≡ self.old.instances }
-        ensures opened { HasAllOpen self.new (S.happened sockets.new) }
     {
         let before = self.moment;
         self.moment = sockets.now();
@@ -182,14 +170,10 @@ impl Serving {
     /// Opens the next connection that waits, for each instance, and says whether there was any.
     fn open_all<S: Sockets, R: Runs>(&mut self, sockets: &mut S, runs: &mut R) -> bool
         requires opened { HasAllOpen self.old (S.happened sockets.old) }
-        ensures serving { KeepsServing self.old.instances
-            (S.happened sockets.old) (R.happened runs.old)
-            self.old.counting self.old.moment
-            (S.happened sockets.new) (R.happened runs.new)
-            self.new.counting self.new.moment }
+        ensures serves_on { ServesOn
+            self.old (S.happened sockets.old) (R.happened runs.old)
+            self.new (S.happened sockets.new) (R.happened runs.new) }
         ensures no_fault { R.faulted runs.new ≡ R.faulted runs.old }
-        ensures instances { self.new.instances ≡ self.old.instances }
-        ensures opened { HasAllOpen self.new (S.happened sockets.new) }
     {
         let mut opened = false;
         for instance in 0..self.instances {
@@ -206,14 +190,10 @@ impl Serving {
     fn open<S: Sockets, R: Runs>(&mut self, sockets: &mut S, runs: &mut R, instance: u32) -> bool
         requires one { instance < self.old.instances }
         requires opened { HasAllOpen self.old (S.happened sockets.old) }
-        ensures serving { KeepsServing self.old.instances
-            (S.happened sockets.old) (R.happened runs.old)
-            self.old.counting self.old.moment
-            (S.happened sockets.new) (R.happened runs.new)
-            self.new.counting self.new.moment }
+        ensures serves_on { ServesOn
+            self.old (S.happened sockets.old) (R.happened runs.old)
+            self.new (S.happened sockets.new) (R.happened runs.new) }
         ensures no_fault { R.faulted runs.new ≡ R.faulted runs.old }
-        ensures instances { self.new.instances ≡ self.old.instances }
-        ensures opened { HasAllOpen self.new (S.happened sockets.new) }
     {
         let Some(connection) = self.next else {
             return false;
@@ -294,6 +274,15 @@ impl Serving {
     }
 }
 
+/// What a server begins with, beside its configurations.
+#[derive(Clone, Copy)]
+pub struct Beginning {
+    /// The key of its maps.
+    pub key: MapKey,
+    /// How many turns it takes at most.
+    pub turns: u64,
+}
+
 /// Serves instances with these configurations for so many turns, or until whoever watches says
 /// that there is to be none any more, over sockets at which nothing has
 /// happened yet, and over runs of which there are none.
@@ -341,13 +330,12 @@ impl Serving {
 /// before the first.
 pub fn serve<S: Sockets, R: Runs, E: Write, W: Watch>(
     alloc: Global,
-    key: MapKey,
+    beginning: Beginning,
     configs: &Configs,
     sockets: &mut S,
     runs: &mut R,
     errors: &mut ErrorLines<E>,
     watch: &mut W,
-    turns: u64,
 ) -> Result<Tally, AllocError>
     requires fresh { IfSome (S.happened sockets.old) (λ h. h ≡ []) }
     requires unrun { IfSome (R.happened runs.old) (λ h. h ≡ []) }
@@ -361,8 +349,8 @@ pub fn serve<S: Sockets, R: Runs, E: Write, W: Watch>(
     ensures unbegun { IfErr result (λ error. (S.happened sockets.new ≡ S.happened sockets.old)
         × (R.happened runs.new ≡ R.happened runs.old)) }
 {
-    let mut serving = Serving::new(alloc, key, configs)?;
-    for _ in 0..turns {
+    let mut serving = Serving::new(alloc, beginning.key, configs)?;
+    for _ in 0..beginning.turns {
         let has_moved = serving.turn(configs, sockets, runs, errors);
         if !watch.look(&serving.sight(errors.dropped())) {
             return Ok(serving.tally());

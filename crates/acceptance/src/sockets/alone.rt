@@ -2,7 +2,8 @@
 
 use crate::sockets::fake::{Client, Fake};
 use crate::sockets::log::{has_written, records};
-use serve::{LoggedSockets, Socket, SocketRecord};
+use logs::{LoggedSockets, SocketRecord};
+use serve::Socket;
 use server_core::{Outputs, SentBytes, run};
 use server_events::{Configs, Event};
 use std::alloc::Global;

@@ -1,6 +1,7 @@
 //! What a log of sockets says of a client.
 
-use serve::{LoggedSockets, Socket, SocketRecord, Sockets};
+use logs::{LoggedSockets, SocketRecord};
+use serve::{Socket, Sockets};
 
 /// What a log has; nothing where it was lost.
 pub fn records<S: Sockets>(sockets: &LoggedSockets<S>) -> &[SocketRecord] {

@@ -1,13 +1,14 @@
 //! Runs of a server whose instances order none.
 
 ghost use Rattle.std.specs.Prelude.{◌≡◌, [], Some, IfOk, IfSome};
-ghost use Rattle.serve.specs.Logged.{logged};
+ghost use Rattle.logs.specs.LoggedSockets.{logged};
 ghost use Rattle.serve.specs.Served.{WasServed};
 
 use keyed_maps::MapKey;
+use logs::LoggedSockets;
 use run_calls::{Outcome, RunKey};
 use runner::RunFault;
-use serve::{Doing, ErrorLines, LoggedSockets, Nobody, Runs, Sockets, Tally, serve};
+use serve::{Beginning, Doing, ErrorLines, Nobody, Runs, Sockets, Tally, serve};
 use server_core::LentTask;
 use server_events::Configs;
 use std::alloc::{AllocError, Global};
@@ -95,13 +96,15 @@ fn serve_over<S: Sockets>(
     let mut errors = ErrorLines::new(alloc, Vec::new(alloc), instances)?;
     let tally = serve(
         alloc,
-        MapKey::known(),
+        Beginning {
+            key: MapKey::known(),
+            turns,
+        },
         configs,
         sockets,
         &mut runs,
         &mut errors,
         &mut Nobody,
-        turns,
     )?;
     if runs.is_used || !errors.output.is_empty() {
         return Ok(None);

@@ -3,7 +3,7 @@
 use crate::sockets::alone::{Outcome, judge};
 use crate::sockets::fake::{Client, Fake, Habits};
 use crate::sockets::no_runs::serve_alone;
-use serve::LoggedSockets;
+use logs::LoggedSockets;
 use server_events::{Configs, Event, What};
 use tool_programs::{Fault, Output};
 

@@ -1,8 +1,7 @@
 //! What is moved between the connections and the server in a turn.
 
 ghost use Rattle.std.specs.Prelude.{◌≡◌};
-ghost use Rattle.serve.specs.KeepsOpen.{HasAllOpen};
-ghost use Rattle.serve.specs.KeepsServing.{KeepsServing};
+ghost use Rattle.serve.specs.KeepsOpen.{HasAllOpen, ServesOn};
 
 use super::Serving;
 use crate::exchange::{Tried, exchange};
@@ -22,14 +21,10 @@ impl Serving {
         is_due: bool,
     ) -> bool
         requires opened { HasAllOpen self.old (S.happened sockets.old) }
-        ensures serving { KeepsServing self.old.instances
-            (S.happened sockets.old) (R.happened runs.old)
-            self.old.counting self.old.moment
-            (S.happened sockets.new) (R.happened runs.new)
-            self.new.counting self.new.moment }
+        ensures serves_on { ServesOn
+            self.old (S.happened sockets.old) (R.happened runs.old)
+            self.new (S.happened sockets.new) (R.happened runs.new) }
         ensures no_fault { R.faulted runs.new ≡ R.faulted runs.old }
-        ensures instances { self.new.instances ≡ self.old.instances }
-        ensures opened { HasAllOpen self.new (S.happened sockets.new) }
     {
         self.pace.begin(sockets, is_due);
         let mut moved = false;
@@ -50,14 +45,10 @@ impl Serving {
         instance: u32,
     ) -> bool
         requires opened { HasAllOpen self.old (S.happened sockets.old) }
-        ensures serving { KeepsServing self.old.instances
-            (S.happened sockets.old) (R.happened runs.old)
-            self.old.counting self.old.moment
-            (S.happened sockets.new) (R.happened runs.new)
-            self.new.counting self.new.moment }
+        ensures serves_on { ServesOn
+            self.old (S.happened sockets.old) (R.happened runs.old)
+            self.new (S.happened sockets.new) (R.happened runs.new) }
         ensures no_fault { R.faulted runs.new ≡ R.faulted runs.old }
-        ensures instances { self.new.instances ≡ self.old.instances }
-        ensures opened { HasAllOpen self.new (S.happened sockets.new) }
         ensures moment { self.new.moment ≡ self.old.moment }
     {
         let counts = &self.counting.counts;
@@ -83,14 +74,10 @@ impl Serving {
         is_now: bool,
     ) -> bool
         requires opened { HasAllOpen self.old (S.happened sockets.old) }
-        ensures serving { KeepsServing self.old.instances
-            (S.happened sockets.old) (R.happened runs.old)
-            self.old.counting self.old.moment
-            (S.happened sockets.new) (R.happened runs.new)
-            self.new.counting self.new.moment }
+        ensures serves_on { ServesOn
+            self.old (S.happened sockets.old) (R.happened runs.old)
+            self.new (S.happened sockets.new) (R.happened runs.new) }
         ensures no_fault { R.faulted runs.new ≡ R.faulted runs.old }
-        ensures instances { self.new.instances ≡ self.old.instances }
-        ensures opened { HasAllOpen self.new (S.happened sockets.new) }
         ensures moment { self.new.moment ≡ self.old.moment }
     {
         if !is_now {
@@ -130,14 +117,10 @@ impl Serving {
         end: usize,
     ) -> bool
         requires opened { HasAllOpen self.old (S.happened sockets.old) }
-        ensures serving { KeepsServing self.old.instances
-            (S.happened sockets.old) (R.happened runs.old)
-            self.old.counting self.old.moment
-            (S.happened sockets.new) (R.happened runs.new)
-            self.new.counting self.new.moment }
+        ensures serves_on { ServesOn
+            self.old (S.happened sockets.old) (R.happened runs.old)
+            self.new (S.happened sockets.new) (R.happened runs.new) }
         ensures no_fault { R.faulted runs.new ≡ R.faulted runs.old }
-        ensures instances { self.new.instances ≡ self.old.instances }
-        ensures opened { HasAllOpen self.new (S.happened sockets.new) }
         ensures moment { self.new.moment ≡ self.old.moment }
     {
         let alloc = *self.connections.allocator();

@@ -15,12 +15,12 @@ returns g c = record {
 
 pub returns-then-not-look-clause-served : goal.returns-then-not-look-clause-served
 returns-then-not-look-clause-served g c =
-    let serving = c.turn-has_moved.ensures.serving c.args.configs.now (sym c.loop.invariant.instances) c.loop.invariant.serving in
+    let serving = c.turn-has_moved.ensures.serves_on.serving c.args.configs.now (sym c.loop.invariant.instances) c.loop.invariant.serving in
     rw c.tally.ensures (was_served c.args.configs.now (g.S.Sockets.happened c.turn-has_moved.new.sockets)
     (g.R.Runs.happened c.turn-has_moved.new.runs) c.turn-has_moved.new.self.counting c.turn-has_moved.new.self.moment serving)
 
 pub returns-then-not-look-clause-numbers : goal.returns-then-not-look-clause-numbers
-returns-then-not-look-clause-numbers g c = apart _ _ c.turn-has_moved.ensures.opened.at_sockets
+returns-then-not-look-clause-numbers g c = apart _ _ c.turn-has_moved.ensures.serves_on.opened.at_sockets
 
 pub returns-then-not-look-clause-lines : goal.returns-then-not-look-clause-lines
 returns-then-not-look-clause-lines g c = lines_on _ c.args.configs.now _ _ _ _ _ _ c.args.errors.now.backlog c.loop.errors.backlog
@@ -48,9 +48,9 @@ loop-init g c = record {
 pub loop-preserved : goal.loop-preserved
 loop-preserved g c = record {
   serving = after_none c.args.configs.now _ _ _ _ _ c.rest.ensures.adds
-      (c.turn-has_moved.ensures.serving c.args.configs.now (sym c.loop.invariant.instances) c.loop.invariant.serving);
-  instances = c.turn-has_moved.ensures.instances ∙ c.loop.invariant.instances;
+      (c.turn-has_moved.ensures.serves_on.serving c.args.configs.now (sym c.loop.invariant.instances) c.loop.invariant.serving);
+  instances = c.turn-has_moved.ensures.serves_on.instances ∙ c.loop.invariant.instances;
   lines = lines_on _ c.args.configs.now _ _ _ _ _ _ c.args.errors.now.backlog c.loop.errors.backlog c.turn-has_moved.new.errors.backlog
       c.loop.invariant.lines c.turn-has_moved.ensures.lines;
-  opened = none_open _ _ c.rest.ensures.adds _ _ _ _ c.turn-has_moved.ensures.opened;
+  opened = none_open _ _ c.rest.ensures.adds _ _ _ _ c.turn-has_moved.ensures.serves_on.opened;
 }

@@ -1,5 +1,5 @@
 use Rattle.std.proofs.Common.{refl, []}
-use Rattle.serve.proofs.Beginning.{at_first}
+use Rattle.serve.proofs.AtFirst.{at_first}
 use Rattle.serve.proofs.serving.Serving.new.Goals as goal
 
 pub returns-clause-serving : goal.returns-clause-serving

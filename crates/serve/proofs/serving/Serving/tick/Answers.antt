@@ -28,8 +28,12 @@ loop-instance-preserved g c = record {
   opened = c.loop-instance.invariant.opened;
 }
 
-pub returns-clause-serving : goal.returns-clause-serving
-returns-clause-serving g c = λ configs same at.
-    all_ticked configs _ _ _ _ _ c.loop-instance.instance _ c.loop-instance.invariant.adds c.loop-instance.invariant.unknown
-    (omega (arith, same, c.loop-instance-test.false, c.loop-instance.auto.instance-end))
-    (c.loop-instance.invariant.ticking configs same at)
+pub returns-clause-serves_on : goal.returns-clause-serves_on
+returns-clause-serves_on g c = record {
+  serving = λ configs same at.
+      all_ticked configs _ _ _ _ _ c.loop-instance.instance _ c.loop-instance.invariant.adds c.loop-instance.invariant.unknown
+      (omega (arith, same, c.loop-instance-test.false, c.loop-instance.auto.instance-end))
+      (c.loop-instance.invariant.ticking configs same at);
+  instances = c.loop-instance.invariant.instances;
+  opened = c.loop-instance.invariant.opened;
+}

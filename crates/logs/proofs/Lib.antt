@@ -1,0 +1,3 @@
+mod SocketLogs
+mod RunLogs
+mod Carried

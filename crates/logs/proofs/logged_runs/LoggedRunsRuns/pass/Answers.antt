@@ -1,0 +1,7 @@
+use Rattle.logs.proofs.Carried.{carried_still}
+use Rattle.logs.proofs.logged_runs.LoggedRunsRuns.pass.Goals as goal
+
+pub invariant_of-self : goal.invariant_of-self
+invariant_of-self g c = record {
+  carried = carried_still _ _ _ c.args.self.now.carried c.pass.ensures.carries;
+}

@@ -1,0 +1,3 @@
+pub mod LoggedSockets
+pub mod LoggedRuns
+pub mod LoggedCalls

@@ -1,8 +1,0 @@
-use Rattle.serve.proofs.Carried.{carried_on}
-use Rattle.serve.proofs.logged.LoggedSocketsSockets.now.Goals as goal
-
-pub invariant_of-self : goal.invariant_of-self
-invariant_of-self g c = record {
-  carried = carried_on _ _ _ _ _ c.args.self.now.carried
-      (c.now-shown.ensures.carries _) c.add.ensures.adds;
-}

@@ -1,7 +1,0 @@
-use Rattle.serve.proofs.Carried.{carried_still}
-use Rattle.serve.proofs.logged_runs.LoggedRunsRuns.look.Goals as goal
-
-pub invariant_of-self : goal.invariant_of-self
-invariant_of-self g c = record {
-  carried = carried_still _ _ _ c.args.self.now.carried c.look.ensures.carries;
-}

@@ -1,7 +1,7 @@
 //! Programs of this host.
 
-ghost use Rattle.std.specs.Prelude.{◌≡◌, IfOk, OnErr};
-ghost use Rattle.std.specs.Option.{option_map};
+ghost use Rattle.std.specs.Prelude.{◌≡◌, false, is_some, IfOk, OnErr};
+ghost use Rattle.std.specs.Option.{option_map, option_map_or};
 ghost use Rattle.std.specs.Process.{child_status};
 ghost use Rattle.host_system.specs.Programs.{ending_of, start_of};
 
@@ -49,6 +49,15 @@ pub struct HostChild {
     number: u32,
     /// How it ended, once a look told that.
     ended: Option<Ending>,
+}
+
+impl HostChild {
+    /// Whether it has ended by itself, as a look told.
+    pub fn has_ended_by_itself(&self) -> bool
+        ensures { result ≡ option_map_or (λ ending. is_some ending.code) self.now.ended false }
+    {
+        matches!(&self.ended, Some(ending) if ending.code.is_some())
+    }
 }
 
 pub(crate) fn ending_of(status: ExitStatus) -> Ending

@@ -186,14 +186,15 @@ fn job_runner<'a, E: Write>(
     let (failure, failed_at) = (&oversight.failure, &oversight.failed_at);
     let (shells, work) = (HostShells::new(rt), work.inner());
     let mut folder = WorkFolder::new(shells, work, links, trees, folders, failure, failed_at);
-    if slots_of(instances) > 0 && !leaves_nothing(rt, &launcher) {
+    let leaves_nothing = leaves_nothing(rt, &launcher);
+    if slots_of(instances) > 0 && !leaves_nothing {
         if let Err(error) = guard_against_leases(rt, &mut folder, errors) {
             drop(folder);
             return Err(error);
         }
     }
     let (host, spawner) = (HostSystem::new(rt), HostSpawner::new(rt));
-    let sessions = HostSessions::new(rt);
+    let sessions = HostSessions::new(rt, leaves_nothing);
     let programs = RunPrograms::new(host, sessions, spawner, path, launcher, failure);
     let runs = JobRunner::new(rt.alloc(), folder, programs, slots_of(instances))?;
     Ok(OperatedRuns::new(rt.alloc(), runs, oversight))

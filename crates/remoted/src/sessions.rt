@@ -10,12 +10,15 @@ use system::{Progress, Session, Sessions};
 #[derive(Drop)]
 pub struct HostSessions<'a> {
     sessions: ShellSessions<HostShells<'a>>,
+    /// Whether nothing runs any more of what programs started, once they have ended by themselves.
+    leaves_nothing: bool,
 }
 
 impl<'a> HostSessions<'a> {
-    pub fn new(rt: &'a HostRuntime) -> HostSessions<'a> {
+    pub fn new(rt: &'a HostRuntime, leaves_nothing: bool) -> HostSessions<'a> {
         HostSessions {
             sessions: ShellSessions::new(HostShells::new(rt)),
+            leaves_nothing,
         }
     }
 }
@@ -38,6 +41,11 @@ impl<'a> Sessions for HostSessions<'a> {
         progress: Progress,
         now: Instant,
     ) -> io::Result<Progress> {
+        // To look for what is left takes a look at each process of the host, where many were
+        // started meanwhile.
+        if self.leaves_nothing && session.is_reaped && child.has_ended_by_itself() {
+            return Ok(Progress::Ended);
+        }
         self.sessions.end(child, session, progress, now)
     }
 }

@@ -194,7 +194,8 @@ def names_known(report, policy):
 
 
 # Numbers of a call with its arguments, for each processor, and its errno; 0 where it is to end otherwise than by these two.
-# What is refused would fail by EINVAL (22) otherwise, or do nothing. What is ignored would fail by EFAULT.
+# What is refused would fail by EINVAL (22) or EBADF (9) otherwise, or do nothing. What is ignored would fail by EFAULT or
+# EBADF.
 IGNORED = None
 TRIED = {
     "mount": ({"x86_64": 165, "aarch64": 40}, (0, 0, 0, 0, 0), errno.ENOSYS),
@@ -210,6 +211,9 @@ TRIED = {
     "pair of AF_VSOCK": ({"x86_64": 53, "aarch64": 199}, (40, 1, 0, 0), errno.EPERM),
     "pair of AF_UNIX, to nowhere": ({"x86_64": 53, "aarch64": 199}, (1, 1, 0, 0), 0),
     "socket of AF_UNIX": ({"x86_64": 41, "aarch64": 198}, (1, 1, 0), 0),
+    "a filter of a socket": ({"x86_64": 54, "aarch64": 208}, (-1, 1, 26, 0, 0), errno.EPERM),
+    "an option of a socket": ({"x86_64": 54, "aarch64": 208}, (-1, 1, 2, 0, 0), 0),
+    "advice on a file": ({"x86_64": 221, "aarch64": 223}, (-1, 0, 0, 4), IGNORED),
     "a lease": ({"x86_64": 72, "aarch64": 25}, (0, 1024, 2), errno.EPERM),
     "a lease, with higher bits": ({"x86_64": 72, "aarch64": 25}, (0, 2**32 | 1024, 2), errno.EPERM),
     "F_GETFD": ({"x86_64": 72, "aarch64": 25}, (0, 1), 0),

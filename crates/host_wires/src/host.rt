@@ -22,12 +22,8 @@ use std::rc::Rc;
 use std::time::{Duration, Instant};
 use wires::{Door, Host, NEWS_LIMIT, News, ProcessorTime, Wire};
 
-/// Under what the system tells of a door.
-fn door_token(place: usize) -> Token {
-    Token(place)
-}
-
-/// Under what it tells of a wire: that of the door is in the upper half, which is 0 of doors.
+/// Under what the system tells of a wire: that of the door is in the upper half, which is 0 of
+/// doors.
 fn wire_token(place: usize, number: u32) -> Token {
     Token(place.wrapping_add(1) << 32 | number as usize)
 }
@@ -203,7 +199,7 @@ impl<'a> Host for ThisHost<'a> {
         let mut listener = TcpListener::bind(self.rt, address)?;
         ask_after_clients(&listener)?;
         let registry = self.registry.clone()?;
-        let token = door_token(place);
+        let token = Token(place);
         registry
             .as_ref()
             .register(&mut listener, token, Interest::READABLE)?;
@@ -217,6 +213,8 @@ impl<'a> Host for ThisHost<'a> {
     }
 
     fn look(&mut self, most: u64) -> io::Result<()> {
+        let room = NEWS_LIMIT.saturating_sub(self.told.iter().count());
+        self.untold.as_ref().pass(room);
         let told = self
             .poll
             .poll(&mut self.told, Some(Duration::from_millis(most)));

@@ -162,11 +162,6 @@ fn links_of(options: Options) -> Links {
     }
 }
 
-/// Whether nothing runs any more of what a launcher started, once it has ended.
-fn leaves_nothing(rt: &HostRuntime, launcher: &Option<Launcher>) -> bool {
-    matches!(launcher, Some(given) if leaves_no_process(&said_by(rt, given.path())))
-}
-
 /// Runs in this place, of the jobs of these instances.
 #[tactic(auto, using(work_folders::proofs::Nowhere::may_runs))]
 fn job_runner<'a, E: Write>(
@@ -186,7 +181,8 @@ fn job_runner<'a, E: Write>(
     let (failure, failed_at) = (&oversight.failure, &oversight.failed_at);
     let (shells, work) = (HostShells::new(rt), work.inner());
     let mut folder = WorkFolder::new(shells, work, links, trees, folders, failure, failed_at);
-    let leaves_nothing = leaves_nothing(rt, &launcher);
+    let leaves_nothing =
+        matches!(&launcher, Some(given) if leaves_no_process(&said_by(rt, given.path())));
     if slots_of(instances) > 0 && !leaves_nothing {
         if let Err(error) = guard_against_leases(rt, &mut folder, errors) {
             drop(folder);

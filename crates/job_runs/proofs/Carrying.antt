@@ -1,6 +1,6 @@
 -- What ran so far goes on with each call of the runs.
 use Rattle.std.proofs.Common.{◌≡◌, ℕ, Bool, true, false, List, [], ◌∷◌, ◌++◌, map, refl, sym, ap, subst, ◌∙◌, append-nil, inl, inr}
-use Rattle.std.specs.Prelude.{◌||◌, ◌⊎◌, ⊤, Option, Some, None, Result, Ok, Err, IfSome}
+use Rattle.std.specs.Prelude.{◌||◌, ◌⊎◌, ⊤, Option, Some, None, Result, Ok, Err}
 use Rattle.std.proofs.lemmas.Bool.{true≢false}
 use Rattle.execution.specs.Job.{TaskValue}
 use Rattle.execution.specs.Orders.{start, kill}

@@ -9,7 +9,7 @@ use Rattle.protobuf_wire.specs.Fields.{records_in}
 use Rattle.protobuf_wire.specs.Parts.{text_for, string_field, int64_field, int32_field, flag_field, repeated_string_field, repeated_octets_field, repeated_enum_field, embedded_field, repeated_field, sent_field}
 use Rattle.protobuf_wire.specs.Again.{Lacks, HasField}
 use Rattle.protobuf_wire.proofs.Places.{after, before}
-use Rattle.protobuf_wire.proofs.Lengths.{HasContent, IsNumbered, AreOf, int64_of, int32_of, flag_of, bytes_of, each_of, embedded_of, sent_of, numbered_both, parsed_again, first_shorter, second_shorter}
+use Rattle.protobuf_wire.proofs.Lengths.{IsNumbered, AreOf, int64_of, int32_of, flag_of, bytes_of, each_of, embedded_of, sent_of, numbered_both, parsed_again, first_shorter, second_shorter}
 
 -- the records that a field is written as
 pub record Part : Type 0 where

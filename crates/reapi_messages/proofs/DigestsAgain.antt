@@ -9,4 +9,4 @@ pub digest_again : AreReadAgain digest_of digest_records FitsDigest
 unfolding digest_of
 digest_again v h short =
     let found = is_written (string_part 1 v.hash ∷ int64_part 2 v.size_bytes h.size_bytes ∷ []) refl short in
-    rw (found.parsed, string_again 1 v.hash _ h.hash found.places.0, int64_again 2 v.size_bytes _ h.size_bytes found.places.1) refl
+    rw (found.parsed, string_again 1 v.hash _ h.hash found.places.0, int64_again 2 v.size_bytes _ h.size_bytes found.places.1.0) refl

@@ -15,9 +15,12 @@ unfolding get_action_result_request_of
 get_action_result_request_again v h short =
     let found = is_written (string_part 1 v.instance_name ∷ embedded_part 2 digest_records v.action_digest ∷
     int32_part 6 v.digest_function h.digest_function ∷ []) refl short in
-    rw (found.parsed, string_again 1 v.instance_name _ h.instance_name found.places.0,
-    embedded_fits digest_of digest_records FitsDigest digest_again 2 v.action_digest _ h.action_digest found.shorts.1.0 found.places.1.0,
-    int32_again 6 v.digest_function _ h.digest_function found.places.1.1.0) refl
+    rw (
+      found.parsed,
+      string_again 1 v.instance_name _ h.instance_name found.places.0,
+      embedded_fits digest_of digest_records FitsDigest digest_again 2 v.action_digest _ h.action_digest found.shorts.1.0 found.places.1.0,
+      int32_again 6 v.digest_function _ h.digest_function found.places.1.1.0,
+    ) refl
 
 pub update_action_result_request_again : AreReadAgain update_action_result_request_of update_action_result_request_records
     FitsUpdateActionResultRequest
@@ -25,7 +28,10 @@ unfolding update_action_result_request_of
 update_action_result_request_again v h short =
     let found = is_written (string_part 1 v.instance_name ∷ embedded_part 2 digest_records v.action_digest ∷ sent_part 3 v.action_result ∷
     int32_part 5 v.digest_function h.digest_function ∷ []) refl short in
-    rw (found.parsed, string_again 1 v.instance_name _ h.instance_name found.places.0,
-    embedded_fits digest_of digest_records FitsDigest digest_again 2 v.action_digest _ h.action_digest found.shorts.1.0 found.places.1.0,
-    sent_again action_result_of 3 v.action_result _ h.action_result found.places.1.1.0,
-    int32_again 5 v.digest_function _ h.digest_function found.places.1.1.1.0) refl
+    rw (
+      found.parsed,
+      string_again 1 v.instance_name _ h.instance_name found.places.0,
+      embedded_fits digest_of digest_records FitsDigest digest_again 2 v.action_digest _ h.action_digest found.shorts.1.0 found.places.1.0,
+      sent_again action_result_of 3 v.action_result _ h.action_result found.places.1.1.0,
+      int32_again 5 v.digest_function _ h.digest_function found.places.1.1.1.0,
+    ) refl

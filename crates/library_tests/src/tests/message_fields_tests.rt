@@ -15,12 +15,20 @@ fn reads_as_sent(alloc: Global, fields: &[Field<'_>]) -> bool {
     }
 }
 
+/// The last of two texts is empty.
+fn reads_no_text(fields: &[Field<'_>]) -> bool {
+    match string(fields, 2) {
+        Ok(text) => text.is_empty(),
+        Err(_) => false,
+    }
+}
+
 fn reads_mixed(alloc: Global) -> bool {
     match fields_of(alloc, MIXED) {
         Ok(fields) => {
             reads_as_sent(alloc, &fields)
                 && int32(&fields, 1) == -1
-                && matches!(string(&fields, 2), Ok(""))
+                && reads_no_text(&fields)
                 && matches!(as_sent(alloc, &fields, 3), Ok(None))
                 && flag(&fields, 3)
                 && !flag(&fields, 4)
@@ -48,7 +56,7 @@ fn reads_fields(rt: HostRuntime) {
 fn write_fields(writer: &mut Writer) -> Result<(), AllocError> {
     put_repeated_enum(writer, 1, &[1, 270, -1])?;
     put_repeated_enum(writer, 1, &[])?;
-    put_repeated_octets(writer, 2, &[b"a", b""])?;
+    put_repeated_octets(writer, 2, &[b"a".as_slice(), b"".as_slice()])?;
     put_flag(writer, 3, true)?;
     put_flag(writer, 3, false)?;
     put_string(writer, 4, "b")?;

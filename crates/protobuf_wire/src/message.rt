@@ -159,11 +159,7 @@ pub fn repeated<'a, M: Decode<'a>>(
 }
 
 #[tactic(auto, using(crate::proofs::Written::payload_behind_head))]
-fn put_message<M: Message>(
-    writer: &mut Writer,
-    field: u32,
-    message: &M,
-) -> Result<(), AllocError>
+fn put_message<M: Message>(writer: &mut Writer, field: u32, message: &M) -> Result<(), AllocError>
     requires positive { 0 < field }
     requires small { field < field_number_limit }
     ensures { OnOk result (writer.new ≡ followed_by_records writer.old

@@ -10,8 +10,12 @@ unfolding read_request_of
 read_request_again v h short =
     let found = is_written (string_part 1 v.resource_name ∷ int64_part 2 v.read_offset h.read_offset ∷
     int64_part 3 v.read_limit h.read_limit ∷ []) refl short in
-    rw (found.parsed, string_again 1 v.resource_name _ h.resource_name found.places.0,
-    int64_again 2 v.read_offset _ h.read_offset found.places.1.0, int64_again 3 v.read_limit _ h.read_limit found.places.1.1.0) refl
+    rw (
+      found.parsed,
+      string_again 1 v.resource_name _ h.resource_name found.places.0,
+      int64_again 2 v.read_offset _ h.read_offset found.places.1.0,
+      int64_again 3 v.read_limit _ h.read_limit found.places.1.1.0,
+    ) refl
 
 pub read_response_again : AreReadAgain read_response_of read_response_records FitsReadResponse
 unfolding read_response_of
@@ -24,9 +28,13 @@ unfolding write_request_of
 write_request_again v h short =
     let found = is_written (string_part 1 v.resource_name ∷ int64_part 2 v.write_offset h.write_offset ∷ flag_part 3 v.finish_write ∷
     octets_part 10 v.content ∷ []) refl short in
-    rw (found.parsed, string_again 1 v.resource_name _ h.resource_name found.places.0,
-    int64_again 2 v.write_offset _ h.write_offset found.places.1.0, flag_again 3 v.finish_write _ found.places.1.1.0,
-    octets_again 10 v.content _ found.places.1.1.1.0) refl
+    rw (
+      found.parsed,
+      string_again 1 v.resource_name _ h.resource_name found.places.0,
+      int64_again 2 v.write_offset _ h.write_offset found.places.1.0,
+      flag_again 3 v.finish_write _ found.places.1.1.0,
+      octets_again 10 v.content _ found.places.1.1.1.0,
+    ) refl
 
 pub write_response_again : AreReadAgain write_response_of write_response_records FitsWriteResponse
 unfolding write_response_of

@@ -32,17 +32,23 @@ cache_capabilities_again v h short =
     embedded_part 2 action_cache_update_capabilities_records v.action_cache_update_capabilities ∷
     int64_part 4 v.max_batch_total_size_bytes h.max_batch_total_size_bytes ∷
     int32_part 5 v.symlink_absolute_path_strategy h.symlink_absolute_path_strategy ∷ []) refl short in
-    rw (found.parsed, repeated_enum_again 1 v.digest_functions _ h.digest_functions found.places.0,
-    embedded_fits action_cache_update_capabilities_of action_cache_update_capabilities_records FitsActionCacheUpdateCapabilities action_cache_update_capabilities_again 2 v.action_cache_update_capabilities _ h.action_cache_update_capabilities found.shorts.1.0 found.places.1.0,
-    int64_again 4 v.max_batch_total_size_bytes _ h.max_batch_total_size_bytes found.places.1.1.0,
-    int32_again 5 v.symlink_absolute_path_strategy _ h.symlink_absolute_path_strategy found.places.1.1.1.0) refl
+    rw (
+      found.parsed,
+      repeated_enum_again 1 v.digest_functions _ h.digest_functions found.places.0,
+      embedded_fits action_cache_update_capabilities_of action_cache_update_capabilities_records FitsActionCacheUpdateCapabilities action_cache_update_capabilities_again 2 v.action_cache_update_capabilities _ h.action_cache_update_capabilities found.shorts.1.0 found.places.1.0,
+      int64_again 4 v.max_batch_total_size_bytes _ h.max_batch_total_size_bytes found.places.1.1.0,
+      int32_again 5 v.symlink_absolute_path_strategy _ h.symlink_absolute_path_strategy found.places.1.1.1.0,
+    ) refl
 
 pub execution_capabilities_again : AreReadAgain execution_capabilities_of execution_capabilities_records FitsExecutionCapabilities
 unfolding execution_capabilities_of
 execution_capabilities_again v h short =
     let found = is_written (int32_part 1 v.digest_function h.digest_function ∷ flag_part 2 v.exec_enabled ∷ []) refl short in
-    rw (found.parsed, int32_again 1 v.digest_function _ h.digest_function found.places.0,
-    flag_again 2 v.exec_enabled _ found.places.1.0) refl
+    rw (
+      found.parsed,
+      int32_again 1 v.digest_function _ h.digest_function found.places.0,
+      flag_again 2 v.exec_enabled _ found.places.1.0,
+    ) refl
 
 pub server_capabilities_again : AreReadAgain server_capabilities_of server_capabilities_records FitsServerCapabilities
 unfolding server_capabilities_of
@@ -50,8 +56,10 @@ server_capabilities_again v h short =
     let found = is_written (embedded_part 1 cache_capabilities_records v.cache_capabilities ∷
     embedded_part 2 execution_capabilities_records v.execution_capabilities ∷ embedded_part 4 sem_ver_records v.low_api_version ∷
     embedded_part 5 sem_ver_records v.high_api_version ∷ []) refl short in
-    rw (found.parsed,
-    embedded_fits cache_capabilities_of cache_capabilities_records FitsCacheCapabilities cache_capabilities_again 1 v.cache_capabilities _ h.cache_capabilities found.shorts.0 found.places.0,
-    embedded_fits execution_capabilities_of execution_capabilities_records FitsExecutionCapabilities execution_capabilities_again 2 v.execution_capabilities _ h.execution_capabilities found.shorts.1.0 found.places.1.0,
-    embedded_fits sem_ver_of sem_ver_records FitsSemVer sem_ver_again 4 v.low_api_version _ h.low_api_version found.shorts.1.1.0 found.places.1.1.0,
-    embedded_fits sem_ver_of sem_ver_records FitsSemVer sem_ver_again 5 v.high_api_version _ h.high_api_version found.shorts.1.1.1.0 found.places.1.1.1.0) refl
+    rw (
+      found.parsed,
+      embedded_fits cache_capabilities_of cache_capabilities_records FitsCacheCapabilities cache_capabilities_again 1 v.cache_capabilities _ h.cache_capabilities found.shorts.0 found.places.0,
+      embedded_fits execution_capabilities_of execution_capabilities_records FitsExecutionCapabilities execution_capabilities_again 2 v.execution_capabilities _ h.execution_capabilities found.shorts.1.0 found.places.1.0,
+      embedded_fits sem_ver_of sem_ver_records FitsSemVer sem_ver_again 4 v.low_api_version _ h.low_api_version found.shorts.1.1.0 found.places.1.1.0,
+      embedded_fits sem_ver_of sem_ver_records FitsSemVer sem_ver_again 5 v.high_api_version _ h.high_api_version found.shorts.1.1.1.0 found.places.1.1.1.0,
+    ) refl

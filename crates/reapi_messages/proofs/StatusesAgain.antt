@@ -17,5 +17,9 @@ unfolding status_of
 status_again v h short =
     let found = is_written (int32_part 1 v.code h.code ∷ string_part 2 v.message ∷ repeated_part 3 any_records v.details ∷
     []) refl short in
-    rw (found.parsed, int32_again 1 v.code _ h.code found.places.0, string_again 2 v.message _ h.message found.places.1.0,
-    repeated_fits any_of any_records FitsAny any_again 3 v.details _ h.details found.shorts.1.1.0 found.places.1.1.0) refl
+    rw (
+      found.parsed,
+      int32_again 1 v.code _ h.code found.places.0,
+      string_again 2 v.message _ h.message found.places.1.0,
+      repeated_fits any_of any_records FitsAny any_again 3 v.details _ h.details found.shorts.1.1.0 found.places.1.1.0,
+    ) refl

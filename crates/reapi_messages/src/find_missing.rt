@@ -33,4 +33,3 @@ impl Message for FindMissingBlobsRequest<'_> {
         put_int32(writer, 3, self.digest_function)
     }
 }
-

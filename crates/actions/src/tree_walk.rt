@@ -229,12 +229,7 @@ impl TreeWalk {
     /// Takes one step: looks for a directory's text, reads some of it, or meets some nodes.
     ///
     /// Err: the walk's fault, or a request for memory was refused. There is no going on then.
-    pub fn step<F: Finds>(
-        &mut self,
-        alloc: Global,
-        view: &F,
-        pool: &Pool,
-    ) -> Result<(), TreeFault>
+    pub fn step<F: Finds>(&mut self, alloc: Global, view: &F, pool: &Pool) -> Result<(), TreeFault>
         requires leads { LeadsTo (F.found_in pool.now view.now) self.old }
         requires left { is_over self.old ≡ false }
         ensures root { self.new.root ≡ self.old.root }

@@ -1,5 +1,6 @@
 mod Order
 mod Listed
+mod Steps
 mod Using
 mod Paging
 mod Lengths

@@ -49,6 +49,12 @@ abbrev TakesEach : {V W : Type 0} → (V → Bool) → (V → Option W) → (V �
 TakesEach {V} {W} is_node plain take =
     ((v : V) → is_node v ≡ true → (w : W) × (plain v ≡ Some w) × (take v ≡ Some w)) × ((v : V) → is_node v ≡ false → take v ≡ None)
 
+-- what is read from some records on
+abbrev AlongIs : {V W : Type 0} → (List Record → Result V MessageError) → (V → Bool) → (V → Option W) → (V → Option W) → ℕ → List Record →
+    Type 0
+AlongIs {V} {W} value_of is_node plain take field rs =
+    (ws : List W) → nodes_along value_of take field ws rs ≡ formed is_node plain ws (repeated_values value_of field rs)
+
 along_is : {V W : Type 0} (value_of : List Record → Result V MessageError) (is_node : V → Bool) (plain take : V → Option W) (field : ℕ) →
     TakesEach is_node plain take → (front : List W) (rs : List Record) →
     nodes_along value_of take field front rs ≡ formed is_node plain front (repeated_values value_of field rs)
@@ -56,10 +62,7 @@ unfolding payloads each_of
 along_is value_of is_node plain take field h front [] = rw (append-nil front) refl
 along_is {V} {W} value_of is_node plain take field h front (r ∷ rs) =
     go (payload_in field r) refl (λ ws. along_is value_of is_node plain take field h ws rs) where
-      abbrev Later : Type 0
-      Later = (ws : List W) → nodes_along value_of take field ws rs ≡ formed is_node plain ws (repeated_values value_of field rs)
-
-      value : (b : List ℕ) (x : Result V MessageError) → value_of_text value_of b ≡ x → Later →
+      value : (b : List ℕ) (x : Result V MessageError) → value_of_text value_of b ≡ x → AlongIs value_of is_node plain take field rs →
           and_then (and_then (and_then (readable x) take) (λ w. Some (front ++ w ∷ []))) (λ ws. nodes_along value_of take field ws rs)
           ≡ formed is_node plain front (x >>= λ v. repeated_values value_of field rs >>= λ vs. Ok (v ∷ vs))
       value b (Err e) is later = refl
@@ -71,7 +74,7 @@ along_is {V} {W} value_of is_node plain take field h front (r ∷ rs) =
             ∙ sym (formed_next is_node plain front v w.0 (repeated_values value_of field rs) g w.1))
         test false g = rw (h.1 v g) (sym (formed_not is_node plain front v (repeated_values value_of field rs) g))
 
-      go : (o : Option (List ℕ)) → payload_in field r ≡ o → Later →
+      go : (o : Option (List ℕ)) → payload_in field r ≡ o → AlongIs value_of is_node plain take field rs →
           nodes_along value_of take field front (r ∷ rs) ≡ formed is_node plain front (repeated_values value_of field (r ∷ rs))
       go None is later = rw is (later front)
       go (Some b) is later = rw is (value b (value_of_text value_of b) refl later)
@@ -79,8 +82,10 @@ along_is {V} {W} value_of is_node plain take field h front (r ∷ rs) =
 -- ---- what is taken of each kind
 
 takes_file : TakesEach is_file file_taken take_file
-takes_file = (λ n h. some n (is_name n.name) refl (written_digest n.digest) refl h,
-    λ n h. none n (is_name n.name) refl (written_digest n.digest) refl h) where
+takes_file = (
+  λ n h. some n (is_name n.name) refl (written_digest n.digest) refl h,
+  λ n h. none n (is_name n.name) refl (written_digest n.digest) refl h,
+) where
   some : (n : FileNodeValue) (a : Bool) → is_name n.name ≡ a → (o : Option Digest) → written_digest n.digest ≡ o → (a && is_some o) ≡ true →
       (w : FileTakenValue) × (file_taken n ≡ Some w) × (take_file n ≡ Some w)
   some n true is (Some d) at h = (record { name = n.name; digest = d; is_executable = n.is_executable }, rw at refl, rw (is, at) refl)
@@ -94,8 +99,10 @@ takes_file = (λ n h. some n (is_name n.name) refl (written_digest n.digest) ref
   none n false is o at h = rw is refl
 
 takes_child : TakesEach is_child child_taken take_child
-takes_child = (λ n h. some n (is_name n.name) refl (written_digest n.digest) refl h,
-    λ n h. none n (is_name n.name) refl (written_digest n.digest) refl h) where
+takes_child = (
+  λ n h. some n (is_name n.name) refl (written_digest n.digest) refl h,
+  λ n h. none n (is_name n.name) refl (written_digest n.digest) refl h,
+) where
   some : (n : DirectoryNodeValue) (a : Bool) → is_name n.name ≡ a → (o : Option Digest) → written_digest n.digest ≡ o →
       (a && is_some o) ≡ true → (w : ChildTakenValue) × (child_taken n ≡ Some w) × (take_child n ≡ Some w)
   some n true is (Some d) at h = (record { name = n.name; digest = d }, rw at refl, rw (is, at) refl)
@@ -124,11 +131,11 @@ file_names_are [] h = refl
 file_names_are (n ∷ ns) h =
     let parts = and_parts (is_file n) (list_all is_file ns) h in
     let w = takes_file.0 n parts.0 in
-    go (written_digest n.digest) refl (file_names_are ns parts.1) w.1 where
+    go (written_digest n.digest) refl (file_names_are ns parts.1) w.0 w.1 where
       go : (o : Option Digest) → written_digest n.digest ≡ o → map (λ w. w.name) (filter_map file_taken ns) ≡ map (λ n. n.name) ns →
-          {w : FileTakenValue} → file_taken n ≡ Some w → map (λ w. w.name) (filter_map file_taken (n ∷ ns)) ≡ n.name ∷ map (λ n. n.name) ns
-      go None at later is = let no : None ≡ Some _ = rw at at is in cc
-      go (Some d) at later is = rw at (ap (λ (ts : List (List ℕ)). n.name ∷ ts) later)
+          (w : FileTakenValue) → file_taken n ≡ Some w → map (λ w. w.name) (filter_map file_taken (n ∷ ns)) ≡ n.name ∷ map (λ n. n.name) ns
+      go None at later w is = let no : None ≡ Some w = rw at at is in cc
+      go (Some d) at later w is = rw at (ap (λ (ts : List (List ℕ)). n.name ∷ ts) later)
 
 child_names_are : (ns : List DirectoryNodeValue) → list_all is_child ns ≡ true →
     map (λ w. w.name) (filter_map child_taken ns) ≡ map (λ n. n.name) ns
@@ -136,11 +143,11 @@ child_names_are [] h = refl
 child_names_are (n ∷ ns) h =
     let parts = and_parts (is_child n) (list_all is_child ns) h in
     let w = takes_child.0 n parts.0 in
-    go (written_digest n.digest) refl (child_names_are ns parts.1) w.1 where
+    go (written_digest n.digest) refl (child_names_are ns parts.1) w.0 w.1 where
       go : (o : Option Digest) → written_digest n.digest ≡ o → map (λ w. w.name) (filter_map child_taken ns) ≡ map (λ n. n.name) ns →
-          {w : ChildTakenValue} → child_taken n ≡ Some w → map (λ w. w.name) (filter_map child_taken (n ∷ ns)) ≡ n.name ∷ map (λ n. n.name) ns
-      go None at later is = let no : None ≡ Some _ = rw at at is in cc
-      go (Some d) at later is = rw at (ap (λ (ts : List (List ℕ)). n.name ∷ ts) later)
+          (w : ChildTakenValue) → child_taken n ≡ Some w → map (λ w. w.name) (filter_map child_taken (n ∷ ns)) ≡ n.name ∷ map (λ n. n.name) ns
+      go None at later w is = let no : None ≡ Some w = rw at at is in cc
+      go (Some d) at later w is = rw at (ap (λ (ts : List (List ℕ)). n.name ∷ ts) later)
 
 -- ---- three kinds side by side
 

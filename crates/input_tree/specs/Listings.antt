@@ -74,3 +74,19 @@ abbrev pub steps_left : Lookup → Listing → ℕ
 steps_left look l =
     (length (named_left look l) + (MOST_DIRECTORIES - l.place)) * (MOST_DIRECTORY_BYTES + 2)
     + reading_left l.reading
+
+-- ---- steps
+
+-- the listing, where this directory is being read
+abbrev pub with_read : Listing → ChildReading → Listing
+with_read l r = record l { reading = Some r }
+
+-- a directory was looked for
+pub record Opens (look : Lookup) (old new : Listing) : Type 0 where
+  pub leads : LeadsTo look new
+  pub named : length (named_left look old) ≡ 1 + length (named_left look new)
+
+-- a directory was read, or the next is gone over
+pub record Closes (look : Lookup) (old new : Listing) : Type 0 where
+  pub leads : LeadsTo look new
+  pub named : length (named_left look new) ≡ length (named_left look old)

@@ -26,7 +26,11 @@ fn has_nodes(directory: &Directory<'_>) -> bool
 fn has_order(directory: &Directory<'_>) -> bool
     ensures { result ≡ has_order (directory_shown directory.now) }
 {
-    are_ordered(&directory.files, &directory.directories, &directory.symlinks)
+    are_ordered(
+        &directory.files,
+        &directory.directories,
+        &directory.symlinks,
+    )
 }
 
 /// Whether a directory is taken: each list is sorted by the bytes of its names, no name stands

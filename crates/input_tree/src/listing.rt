@@ -4,8 +4,9 @@ ghost use Rattle.std.specs.Prelude.{◌≡◌, ◌+◌, ◌*◌, ◌≤◌, ◌<
 ghost use Rattle.instance_view.specs.Texts.{look_of};
 ghost use Rattle.input_tree.specs.Answers.{Fails, Lists};
 ghost use Rattle.input_tree.specs.Listing.{Lookup, tree_list};
-ghost use Rattle.input_tree.specs.Listings.{LeadsTo, is_over, named_left, steps_left};
+ghost use Rattle.input_tree.specs.Listings.{Closes, LeadsTo, Opens, is_over, named_left, reading_left, steps_left, with_read};
 ghost use Rattle.input_tree.specs.Taken.{child_taken_shown, taken_at};
+ghost use Rattle.input_tree.specs.Taking as taking;
 ghost use Rattle.input_tree.specs.Taking.{bytes_left, given_by};
 ghost use Rattle.input_tree.specs.Work.{named_in_tree};
 ghost use Rattle.input_tree.specs.declared.directory.TheConstants.{MOST_DIRECTORY_BYTES};
@@ -137,18 +138,14 @@ impl Listing {
         work: &mut Work,
     ) -> Result<(), GetTreeError>
         requires leads { LeadsTo (look_of texts.now) self.old }
-        requires first { self.old.is_begun ≡ false }
+        requires fresh { self.old.is_begun ≡ false }
         requires closed { self.old.reading ≡ None }
         ensures root { self.new.root ≡ self.old.root }
-        ensures leads { OnOk result (LeadsTo (look_of texts.now) self.new) }
-        ensures less { OnOk result (steps_left (look_of texts.now) self.new
-            < steps_left (look_of texts.now) self.old) }
+        ensures place { self.new.place ≡ self.old.place }
+        ensures opens { OnOk result (Opens (look_of texts.now) self.old self.new) }
+        ensures few { reading_left self.new.reading ≤ MOST_DIRECTORY_BYTES + 1 }
         ensures fault { IfErr result (λ e. Fails e (tree_list (look_of texts.now) self.old.root)) }
-        ensures looks { OnOk result (work.new.looks
-            + 2 * length (named_left (look_of texts.now) self.new)
-            ≤ work.old.looks + 2 * length (named_left (look_of texts.now) self.old)) }
-        ensures most { work.new.looks
-            ≤ work.old.looks + 2 * length (named_left (look_of texts.now) self.old) }
+        ensures looks { work.new.looks ≤ work.old.looks + 1 }
     {
         let Some(directory) = open(alloc, texts, work, &self.root)? else {
             return Err(GetTreeError::Refused(TreeRefusal::NotFound));
@@ -160,8 +157,8 @@ impl Listing {
         Ok(())
     }
 
-    /// Looks for the next directory in the one that is gone over, and begins to read it where it is
-    /// not known.
+    /// Looks for the next directory in the one that is gone over, and begins to read it where
+    /// nothing is known of it.
     fn open_child(
         &mut self,
         alloc: Global,
@@ -173,18 +170,17 @@ impl Listing {
         requires closed { self.old.reading ≡ None }
         requires some { self.old.next < length self.old.inside.items }
         ensures root { self.new.root ≡ self.old.root }
-        ensures leads { OnOk result (LeadsTo (look_of texts.now) self.new) }
-        ensures less { OnOk result (steps_left (look_of texts.now) self.new
-            < steps_left (look_of texts.now) self.old) }
-        ensures looks { OnOk result (work.new.looks
-            + 2 * length (named_left (look_of texts.now) self.new)
-            ≤ work.old.looks + 2 * length (named_left (look_of texts.now) self.old)) }
-        ensures most { work.new.looks
-            ≤ work.old.looks + 2 * length (named_left (look_of texts.now) self.old) }
+        ensures place { self.new.place ≡ self.old.place }
+        ensures opens { OnOk result (Opens (look_of texts.now) self.old self.new) }
+        ensures few { reading_left self.new.reading ≤ MOST_DIRECTORY_BYTES + 1 }
+        ensures looks { work.new.looks ≤ work.old.looks + 1 }
     {
         let digest = self.inside[self.next];
         self.next += 1;
-        if self.known.listed.contains(&digest) || self.known.others.contains(&digest) {
+        if self.known.listed.contains(&digest) {
+            return Ok(());
+        }
+        if self.known.others.contains(&digest) {
             return Ok(());
         }
         if let Some(directory) = open(alloc, texts, work, &digest)? {
@@ -194,16 +190,28 @@ impl Listing {
     }
 
     /// Lists a directory that was read, where one is taken.
-    fn close(&mut self, alloc: Global, read: ChildReading) -> Result<(), GetTreeError> {
+    fn close(&mut self, alloc: Global, read: ChildReading) -> Result<(), GetTreeError>
+        requires closed { self.old.reading ≡ None }
+        requires over { taking.is_over read.directory ≡ true }
+        ensures root { self.new.root ≡ self.old.root }
+        ensures place { self.new.place ≡ self.old.place }
+        ensures closed { self.new.reading ≡ None }
+        ensures closes { (look : Lookup) → LeadsTo look (with_read self.old read) →
+            OnOk result (Closes look (with_read self.old read) self.new) }
+        ensures fault { (look : Lookup) → LeadsTo look (with_read self.old read) →
+            IfErr result (λ e. Fails e (tree_list look self.old.root)) }
+    {
+        let digest = read.digest;
         let Some(taken) = read.directory.end() else {
             if !self.is_begun {
                 return Err(GetTreeError::Refused(TreeRefusal::BadDirectory));
             }
-            self.known.others.insert(read.digest)?;
+            self.known.others.insert(digest)?;
             return Ok(());
         };
-        self.known.listed.insert(read.digest)?;
-        self.known.due.push_back(digests_of(alloc, &taken.directories)?)?;
+        let inside = digests_of(alloc, &taken.directories)?;
+        self.known.listed.insert(digest)?;
+        self.known.due.push_back(inside)?;
         self.is_begun = true;
         Ok(())
     }
@@ -216,6 +224,13 @@ impl Listing {
         requires left { is_over self.old ≡ false }
         requires few { self.old.place ≤ MOST_DIRECTORIES }
         ensures root { self.new.root ≡ self.old.root }
+        ensures place { OnOk result (self.new.place ≡ self.old.place + 1) }
+        ensures room { OnOk result (self.old.place < MOST_DIRECTORIES) }
+        ensures closed { self.new.reading ≡ None }
+        ensures closes { (look : Lookup) → LeadsTo look self.old →
+            OnOk result (Closes look self.old self.new) }
+        ensures fault { (look : Lookup) → LeadsTo look self.old →
+            IfErr result (λ e. Fails e (tree_list look self.old.root)) }
     {
         let Some(inside) = self.known.due.pop_front() else {
             unreachable!()
@@ -233,6 +248,7 @@ impl Listing {
     /// listed.
     ///
     /// Err: why the tree is not listed. There is no going on then.
+    #[tactic(auto, using(crate::proofs::Steps::less_named, crate::proofs::Steps::less_read))]
     pub fn step(
         &mut self,
         alloc: Global,

@@ -54,7 +54,12 @@ impl DirectoryTaken {
 }
 
 /// What is taken of a node.
-pub trait Taken: Named {
+pub trait Taken: Sized + Drop {
+    /// It without where it lies in memory.
+    ghost Value: { Type 0 };
+
+    ghost shown: { Self → Value };
+
     /// The node as its message says it.
     ghost Message: { Type 0 };
 
@@ -62,12 +67,12 @@ pub trait Taken: Named {
     ghost node_of: { List Record → Result Message MessageError };
 
     /// What is taken of it, where it has its form.
-    ghost take_of: { Message → Option Self.Value };
+    ghost take_of: { Message → Option Value };
 
     /// What is taken of the node that a text spells, where it has its form. Its digest is parsed
     /// once.
     fn take(alloc: Global, text: &[u8]) -> Result<Self, Untaken>
-        ensures { Takes Self.shown result (node_in node_of take_of text.now) };
+        ensures { Takes shown result (node_in node_of take_of text.now) };
 }
 
 impl Named for FileTaken {
@@ -86,7 +91,12 @@ impl Named for FileTaken {
 
 impl Taken for FileTaken {
     ghost use Rattle.tree_messages.specs.Directories.{FileNodeValue, file_node_of};
+    ghost use Rattle.input_tree.specs.Taken.{FileTakenValue, file_taken_shown};
     ghost use Rattle.input_tree.specs.Taking.{take_file};
+
+    ghost Value = { FileTakenValue };
+
+    ghost shown = { file_taken_shown };
 
     ghost Message = { FileNodeValue };
 
@@ -127,7 +137,12 @@ impl Named for ChildTaken {
 
 impl Taken for ChildTaken {
     ghost use Rattle.tree_messages.specs.Directories.{DirectoryNodeValue, directory_node_of};
+    ghost use Rattle.input_tree.specs.Taken.{ChildTakenValue, child_taken_shown};
     ghost use Rattle.input_tree.specs.Taking.{take_child};
+
+    ghost Value = { ChildTakenValue };
+
+    ghost shown = { child_taken_shown };
 
     ghost Message = { DirectoryNodeValue };
 
@@ -165,7 +180,12 @@ impl Named for LinkTaken {
 
 impl Taken for LinkTaken {
     ghost use Rattle.tree_messages.specs.Directories.{SymlinkNodeValue, symlink_node_of};
+    ghost use Rattle.input_tree.specs.Taken.{link_taken_shown};
     ghost use Rattle.input_tree.specs.Taking.{take_symlink};
+
+    ghost Value = { SymlinkNodeValue };
+
+    ghost shown = { link_taken_shown };
 
     ghost Message = { SymlinkNodeValue };
 

@@ -87,11 +87,7 @@ fn add_node<N: Taken>(
 }
 
 /// Adds what is taken of the node of a record.
-fn add_record(
-    alloc: Global,
-    taken: &mut DirectoryTaken,
-    entry: &Field<'_>,
-) -> Result<(), Untaken>
+fn add_record(alloc: Global, taken: &mut DirectoryTaken, entry: &Field<'_>) -> Result<(), Untaken>
     ensures { Takes (λ _. taken_shown taken.new) result
         (with_node (taken_shown taken.old) (record_shown entry.now)) }
 {

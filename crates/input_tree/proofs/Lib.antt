@@ -6,5 +6,6 @@ mod Paging
 mod Lengths
 pub mod NodeRecords
 pub mod Records
+mod Readings
 pub mod Counts
 pub mod LastUses

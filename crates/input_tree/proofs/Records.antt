@@ -4,7 +4,7 @@ use Rattle.std.proofs.Common.{◌≡◌, ◌+◌, ◌-◌, ◌<◌, ◌≤◌, �
 use Rattle.std.specs.Prelude.{option_map}
 use Rattle.std.specs.List.{list_all, filter_map}
 use Rattle.std.proofs.lemmas.Bool.{and_parts}
-use Rattle.std.proofs.lemmas.List.{drop_at, take-append-drop, length-append}
+use Rattle.std.proofs.lemmas.List.{drop_at, take-append-drop, length-append, length-drop}
 use Rattle.protobuf_wire.specs.Results.{◌>>=◌}
 use Rattle.protobuf_wire.specs.Reading.{answer_of, count_left, items_left, record_at, records_of, step}
 use Rattle.protobuf_wire.specs.declared.field.WireError.{WireError}
@@ -276,3 +276,15 @@ next_last text (Ok (b ∷ bs)) new r is answer after = go (record_at (b ∷ bs))
       let parts : text ≡ (take count text ++ f.front) ++ y.1 =
       whole ∙ ap (λ (t : List ℕ). take count text ++ t) f.parts ∙ sym (append_assoc (take count text) f.front y.1) in
       rw after (ap (λ (t : List ℕ). Ok t) (sym (ends_with text (take count text ++ f.front) y.1 parts)))
+
+-- the end of a text is the end of each end of it
+pub last_again : (n left : ℕ) (text : List ℕ) → left ≤ length (drop n text) → last_of left (drop n text) ≡ last_of left text
+last_again n left text h =
+    let t = drop n text in
+    let front = take (length t - left) t in
+    let parts : text ≡ (take n text ++ front) ++ last_of left t =
+    sym (take-append-drop n text) ∙ ap (λ (x : List ℕ). take n text ++ x) (sym (take-append-drop (length t - left) t))
+    ∙ sym (append_assoc (take n text) front (last_of left t)) in
+    let fits : length t - (length t - left) ≡ left = omega (arith, h) in
+    let count : length (last_of left t) ≡ left = length-drop (length t - left) t ∙ fits in
+    sym (subst (λ (k : ℕ). last_of k text ≡ last_of left t) count (ends_with text (take n text ++ front) (last_of left t) parts))

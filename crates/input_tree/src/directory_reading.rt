@@ -72,11 +72,16 @@ impl DirectoryReading {
         ensures less { OnOk result (bytes_left self.new < bytes_left self.old) }
     {
         match take_some(alloc, &mut self.taken, &self.text[self.at..]) {
-            Ok(left) => self.at = self.text.len() - left,
-            Err(Untaken::Bad) => self.is_bad = true,
-            Err(Untaken::NoMemory) => return Err(AllocError),
+            Ok(left) => {
+                self.at = self.text.len() - left;
+                Ok(())
+            }
+            Err(Untaken::Bad) => {
+                self.is_bad = true;
+                Ok(())
+            }
+            Err(Untaken::NoMemory) => Err(AllocError),
         }
-        Ok(())
     }
 
     /// What is taken, or `None` where the text spells no directory that is.

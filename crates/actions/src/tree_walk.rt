@@ -131,17 +131,17 @@ impl TreeWalk {
             < steps_left (with_ahead self.old digest level None)) }
     {
         if let Some(Some(taken)) = self.kept.get(&digest) {
-            return stack_nodes(&mut self.todo, level, taken);
-        }
-        let reading = open(alloc, view, pool, &digest)?;
-        if reading.is_none() {
-            self.missing.push(digest)?;
+            stack_nodes(&mut self.todo, level, taken)?;
             return Ok(());
         }
+        let Some(reading) = open(alloc, view, pool, &digest)? else {
+            self.missing.push(digest)?;
+            return Ok(());
+        };
         self.ahead = Some(Ahead {
             digest,
             level,
-            reading,
+            reading: Some(reading),
         });
         Ok(())
     }
@@ -200,9 +200,10 @@ impl TreeWalk {
         if self.met.len() >= MOST_NODES {
             return Err(TreeFault::TooMany);
         }
-        self.ahead = opened_by(&node)?;
+        let opened = opened_by(&node)?;
         note_file(view, &mut self.missing, &node)?;
         self.met.push(node)?;
+        self.ahead = opened;
         Ok(())
     }
 

@@ -121,10 +121,10 @@ begins look root = then_same (directory_nodes look 1 root) (λ inside. walk_alon
 
 pub begun : (look : Lookup) (w : TreeWalk) → w.ahead ≡ Some (record { digest = w.root; level = 1; reading = None }) → w.todo.items ≡ [] →
     w.met.items ≡ [] → w.missing.items ≡ [] → AreKept look w.kept.entries → LeadsTo look w
-begun look w ahead todo met missing kept = record {
+begun look w ahead todo met noted kept = record {
   same = rw (ahead, todo, met) (begins look w.root);
   ahead_is = rw ahead tt;
-  missing_are = rw (ahead, met, missing) refl;
+  missing_are = rw (ahead, met, noted) refl;
   kept_are = kept;
   few = rw met (omega arith);
 }
@@ -151,11 +151,10 @@ enters look old new d level reading nodes leads gives root ahead stacked met not
     }
 
 pub enters_kept : (look : Lookup) (old new : TreeWalk) (d : Digest) (level : ℕ) (taken : DirectoryTaken) →
-    LeadsTo look (with_ahead old d level None) → lookup (same_digest d) old.kept.entries ≡ Some (Some taken) → new.root ≡ old.root →
+    LeadsTo look (with_ahead old d level None) → taken_at look d ≡ Some (Some (taken_shown taken)) → new.root ≡ old.root →
     new.ahead ≡ None → nodes_shown new.todo.items ≡ nodes_shown old.todo.items ++ reverse (nodes_taken level (taken_shown taken)) →
     new.met ≡ old.met → new.missing ≡ old.missing → new.kept ≡ old.kept → LeadsTo look new
-enters_kept look old new d level taken leads found root ahead stacked met noted kept =
-    let is = kept_before look old.kept.entries d taken leads.kept_are found in
+enters_kept look old new d level taken leads is root ahead stacked met noted kept =
     enters look old new d level None (nodes_taken level (taken_shown taken)) leads
     (nodes_at look level d (Some (taken_shown taken)) is) root ahead stacked met
     (rw (noted, found_at look d (Some (taken_shown taken)) is) (sym (append-nil old.missing.items)))

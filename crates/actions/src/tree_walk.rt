@@ -1,6 +1,6 @@
 //! A walk that is carried out in steps.
 
-ghost use Rattle.std.specs.Prelude.{◌≡◌, ◌++◌, ◌<◌, Ok, Some, None, [], ◌∷◌, true, false, IfErr, OnOk};
+ghost use Rattle.std.specs.Prelude.{◌≡◌, ◌++◌, ◌<◌, Ok, Some, None, [], ◌∷◌, length, true, false, IfErr, OnOk};
 ghost use Rattle.std.specs.List.{filter_map};
 ghost use Rattle.blob_pool.specs.Slots.{Slots};
 ghost use Rattle.input_tree.specs.Listing.{Lookup};
@@ -11,7 +11,7 @@ ghost use Rattle.actions.specs.TreeWalks.{LeadsTo, is_over, opened_by, steps_lef
 
 use crate::fault::TreeFault;
 use crate::finding::Finds;
-use crate::kept_nodes::{KeptNodes, keep};
+use crate::kept_nodes::{KeptNodes, keep, kept_of};
 use crate::node::PlanNode;
 use crate::reading::{open, stack_nodes};
 use crate::walking::{MOST_LEVELS, MOST_NODES, Plan};
@@ -130,7 +130,7 @@ impl TreeWalk {
         ensures less { OnOk result (steps_left self.new
             < steps_left (with_ahead self.old digest level None)) }
     {
-        if let Some(Some(taken)) = self.kept.get(&digest) {
+        if let Some(taken) = kept_of(&self.kept, &digest) {
             stack_nodes(&mut self.todo, level, taken)?;
             return Ok(());
         }
@@ -239,15 +239,22 @@ impl TreeWalk {
         ensures fault { IfErr result (λ e. Fails e
             (nodes_met (F.found_in pool.now view.now) self.old.root)) }
     {
-        let Some(ahead) = self.ahead.take() else {
+        let Some(
+            Ahead {
+                digest,
+                level,
+                reading,
+            },
+        ) = self.ahead.take()
+        else {
             return self.meet_some(view);
         };
-        match ahead.reading {
+        match reading {
             None => {
-                self.open(alloc, view, pool, ahead.digest, ahead.level)?;
+                self.open(alloc, view, pool, digest, level)?;
                 Ok(())
             }
-            Some(reading) => self.read_on(alloc, ahead.digest, ahead.level, reading),
+            Some(reading) => self.read_on(alloc, digest, level, reading),
         }
     }
 

@@ -1,11 +1,12 @@
 -- Steps of a reading.
-use Rattle.std.proofs.Common.{◌≡◌, ℕ, ◌-◌, ◌<◌, ◌≤◌, Bool, true, false, ◌||◌, List, [], length, drop, nat_le, nat_lt, Option, Some, None, refl, sym, ap, ◌∙◌, arith, if◌then◌else◌}
+use Rattle.std.proofs.Common.{◌≡◌, ℕ, ◌-◌, ◌<◌, ◌≤◌, Bool, true, false, ◌||◌, List, [], length, take, drop, nat_le, nat_lt, Option, Some, None, refl, sym, ap, ◌∙◌, arith, if◌then◌else◌}
 use Rattle.std.proofs.lemmas.Bool.Decides.{nat_tests}
 use Rattle.std.proofs.lemmas.List.{drop_all, length-drop}
+use Rattle.std.proofs.Math.Seq.{take-length}
 use Rattle.protobuf_wire.specs.Reading.{items_in, record_at, records_of}
 use Rattle.input_tree.specs.declared.directory_reading.DirectoryReading.{DirectoryReading}
 use Rattle.input_tree.specs.Taken.{DirectoryTakenValue, directory_taken, taken_shown}
-use Rattle.input_tree.specs.Taking.{bytes_left, given_by, in_order, is_over, last_of, no_nodes, with_nodes_left}
+use Rattle.input_tree.specs.Taking.{bytes_left, given_by, in_order, is_ordered, is_over, last_of, no_nodes, with_nodes_left}
 use Rattle.input_tree.proofs.Records.{last_again, taken_is}
 
 neither : (a b : Bool) → (a || b) ≡ false → (a ≡ false) × (b ≡ false)
@@ -36,22 +37,32 @@ going r h = rw ((neither r.is_bad (nat_le (length r.text.items) r.at) h).0) refl
 pub some_left : (r : DirectoryReading) → is_over r ≡ false → r.at < length r.text.items
 some_left r h = let more = (neither r.is_bad (nat_le (length r.text.items) r.at) h).1 in grind (arith, nat_tests)
 
--- some records are read
-pub step_given : (old new : DirectoryReading) (left : ℕ) → is_over old ≡ false → new.text ≡ old.text → new.is_bad ≡ old.is_bad →
-    new.at ≡ length old.text.items - left → left < length (drop old.at old.text.items) →
-    with_nodes_left (taken_shown new.taken) (records_of (last_of left (drop old.at old.text.items)))
-    ≡ with_nodes_left (taken_shown old.taken) (records_of (drop old.at old.text.items)) → given_by new ≡ given_by old
-step_given old new left h text bad at less same =
-    let good = (neither old.is_bad (nat_le (length old.text.items) old.at) h).0 in
-    let end = last_again old.at left old.text.items (omega (arith, less)) in
-    rw (bad, good, text, at) (ap (λ (t : List ℕ). in_order (with_nodes_left (taken_shown new.taken) (records_of t))) (sym end) ∙ ap in_order same)
+-- what is left of its text
+pub rest_is : (n : ℕ) (text t : List ℕ) → t ≡ text → take (length t - n) (drop n t) ≡ drop n text
+rest_is n text t same =
+    rw same (ap (λ (k : ℕ). take k (drop n text)) (sym (length-drop n text)) ∙ take-length (drop n text))
 
-pub step_less : (old new : DirectoryReading) (left : ℕ) → is_over old ≡ false → new.text ≡ old.text → new.is_bad ≡ old.is_bad →
-    new.at ≡ length old.text.items - left → left < length (drop old.at old.text.items) → bytes_left new < bytes_left old
-step_less old new left h text bad at less =
+-- some records are read
+pub step_given : (old new : DirectoryReading) (left : ℕ) (rest : List ℕ) → is_over old ≡ false → new.text ≡ old.text →
+    new.is_bad ≡ old.is_bad → new.at ≡ length old.text.items - left → rest ≡ drop old.at old.text.items → left < length rest →
+    with_nodes_left (taken_shown new.taken) (records_of (last_of left rest)) ≡ with_nodes_left (taken_shown old.taken) (records_of rest) →
+    given_by new ≡ given_by old
+step_given old new left rest h text bad at is less same =
     let good = (neither old.is_bad (nat_le (length old.text.items) old.at) h).0 in
+    let few : left < length (drop old.at old.text.items) = rw is at less in
+    let end = last_again old.at left old.text.items (omega (arith, few)) in
+    let also : with_nodes_left (taken_shown new.taken) (records_of (last_of left (drop old.at old.text.items)))
+    ≡ with_nodes_left (taken_shown old.taken) (records_of (drop old.at old.text.items)) = rw is at same in
+    rw (bad, good, text, at) (ap (λ (t : List ℕ). in_order (with_nodes_left (taken_shown new.taken) (records_of t))) (sym end) ∙ ap in_order also)
+
+pub step_less : (old new : DirectoryReading) (left : ℕ) (rest : List ℕ) → is_over old ≡ false → new.text ≡ old.text →
+    new.is_bad ≡ old.is_bad → new.at ≡ length old.text.items - left → rest ≡ drop old.at old.text.items → left < length rest →
+    bytes_left new < bytes_left old
+step_less old new left rest h text bad at is less =
+    let good = (neither old.is_bad (nat_le (length old.text.items) old.at) h).0 in
+    let few : left < length (drop old.at old.text.items) = rw is at less in
     let count = length-drop old.at old.text.items in
-    rw (bad, good, text, at) (omega (arith, less, count))
+    rw (bad, good, text, at) (omega (arith, few, count))
 
 -- a node is met that is not taken
 pub step_bad : (old new : DirectoryReading) → is_over old ≡ false → new.is_bad ≡ true →
@@ -71,3 +82,10 @@ end_given r h good =
     let over = either r.is_bad (nat_le (length r.text.items) r.at) h good in
     let gone : length r.text.items ≤ r.at = grind (arith, nat_tests) in
     rw (good, drop_all r.at r.text.items gone) refl
+
+pub end_none : (r : DirectoryReading) → is_over r ≡ true → r.is_bad ≡ false → is_ordered (taken_shown r.taken) ≡ false → None ≡ given_by r
+end_none r h good unordered = sym (end_given r h good ∙ rw unordered refl)
+
+pub end_some : (r : DirectoryReading) → is_over r ≡ true → r.is_bad ≡ false → is_ordered (taken_shown r.taken) ≡ true →
+    Some (taken_shown r.taken) ≡ given_by r
+end_some r h good ordered = sym (end_given r h good ∙ rw ordered refl)

@@ -89,7 +89,10 @@ impl DirectoryReading {
         requires over { is_over self ≡ true }
         ensures { option_map taken_shown result ≡ given_by self }
     {
-        if self.is_bad || !self.taken.is_ordered() {
+        if self.is_bad {
+            return None;
+        }
+        if !self.taken.is_ordered() {
             return None;
         }
         Some(self.taken)

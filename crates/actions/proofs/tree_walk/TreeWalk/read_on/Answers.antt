@@ -1,11 +1,11 @@
-use Rattle.std.proofs.Common.{◌≡◌, None, Some, refl, rules, sym}
+use Rattle.std.proofs.Common.{◌≡◌, None, Some, refl, rules}
 use Rattle.input_tree.specs.Taken.{taken_shown}
 use Rattle.input_tree.specs.Taking.{given_by}
-use Rattle.actions.proofs.Steps.{closes, closes_bad, less_ahead, reads}
+use Rattle.actions.proofs.Steps.{closes, closes_bad, reads}
 use Rattle.actions.proofs.tree_walk.TreeWalk.read_on.Goals as goal
 
-pub returns-in_ok-step-clause-leads : goal.returns-in_ok-step-clause-leads
-returns-in_ok-step-clause-leads c = λ look leads.
+pub returns-then-not-is_over-clause-leads : goal.returns-then-not-is_over-clause-leads
+returns-then-not-is_over-clause-leads c = λ look leads.
     reads look c.args.self.now _ c.args.digest c.args.level c.args.reading _ leads c.in_ok-step.ensures.given refl refl refl refl refl refl
 
 pub returns-in_default-clause-fault : goal.returns-in_default-clause-fault

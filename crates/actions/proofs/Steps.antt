@@ -356,13 +356,14 @@ pub less_ahead : (old new : TreeWalk) (d : Digest) (level : ℕ) (reading : Opti
 less_ahead old new d level reading met less =
     rw met (stays ((10000 - length old.met.items) * 67108867) (ahead_left new.ahead) (reading_left reading) less)
 
-pub less_met : (old new : TreeWalk) (n : PlanNode) (ahead : Option Ahead) → length old.met.items < 10000 →
-    opened_by (node_shown n) ≡ Ok ahead → new.ahead ≡ ahead → new.met.items ≡ old.met.items ++ n ∷ [] → steps_left new < steps_left old
-less_met old new n ahead room opened comes pushed =
-    let count : length new.met.items ≡ length old.met.items + 1 = ap length pushed ∙ length-append old.met.items (n ∷ []) in
-    let less : 10000 - length new.met.items < 10000 - length old.met.items = omega (arith, count, room) in
-    let small : ahead_left new.ahead < 67108867 = rw comes (reading_none (λ d. None) (node_shown n) ahead opened).1 in
-    falls (10000 - length new.met.items) (10000 - length old.met.items) (ahead_left new.ahead) 67108867 (ahead_left old.ahead) less small
+pub less_met : (old : TreeWalk) (met : List PlanNode) (n : PlanNode) (ahead : Option Ahead) → length old.met.items < 10000 →
+    opened_by (node_shown n) ≡ Ok ahead → met ≡ old.met.items ++ n ∷ [] →
+    (10000 - length met) * 67108867 + ahead_left ahead < steps_left old
+less_met old met n ahead room opened pushed =
+    let count : length met ≡ length old.met.items + 1 = ap length pushed ∙ length-append old.met.items (n ∷ []) in
+    let less : 10000 - length met < 10000 - length old.met.items = omega (arith, count, room) in
+    falls (10000 - length met) (10000 - length old.met.items) (ahead_left ahead) 67108867 (ahead_left old.ahead) less
+    (reading_none (λ d. None) (node_shown n) ahead opened).1
 
 -- ---- the end
 

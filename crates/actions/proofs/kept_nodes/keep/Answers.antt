@@ -2,8 +2,8 @@ use Rattle.std.proofs.Common.{None, Some}
 use Rattle.actions.proofs.Steps.{keeps_more}
 use Rattle.actions.proofs.kept_nodes.keep.Goals as goal
 
-pub returns-in_ok-insert : goal.returns-in_ok-insert
-returns-in_ok-insert c = λ look kept is.
+pub returns-then-contains_key : goal.returns-then-contains_key
+returns-then-contains_key c = λ look kept is.
     keeps_more look c.args.kept.now.entries c.insert.new.self.entries c.args.digest.now (Some c.args.taken) kept is
     c.in_ok-insert.ensures.updates.0
 

@@ -10,7 +10,7 @@ returns-then-len-ge-MOST_NODES-clause-fault g c = λ p leads.
 
 pub returns-in_err-opened-clause-fault : goal.returns-in_err-opened-clause-fault
 returns-in_err-opened-clause-fault g c = λ p leads.
-    let e = err_from_is_err_and c.from_residual-in_err-opened.result c.from_residual-in_err-opened.ensures.1 in
+    let e = err_from_is_err_and c.from_residual.result c.from_residual.ensures.1 in
     rw (e.1, e.2) (meets_fault (g.F.Finds.found_in p c.args.view.now) c.args.self.now _ c.in-Some.node _ leads c.requires.none
     c.in-Some.ensures.items (omega arith) c.in_err-opened.ensures)
 
@@ -21,4 +21,4 @@ returns-clause-leads g c = λ p leads.
 
 pub returns-clause-less : goal.returns-clause-less
 returns-clause-less g c =
-    less_met c.args.self.now _ c.in-Some.node _ (omega arith) c.in_ok-opened.ensures refl c.in_ok-push.ensures.items
+    less_met c.args.self.now _ c.in-Some.node _ (omega arith) c.in_ok-opened.ensures c.in_ok-push.ensures.items

@@ -1,5 +1,5 @@
 -- Steps of a walk.
-use Rattle.std.proofs.Common.{◌≡◌, ℕ, ◌+◌, ◌-◌, ◌*◌, ◌<◌, ◌≤◌, List, [], ◌∷◌, ◌++◌, map, reverse, length, filter, not, is_some, Bool, true, false, ◌&&◌, nat_eq, nat_le, Option, Some, None, Result, Ok, Err, arith, refl, sym, ap, subst, ◌∙◌, append-nil, append_assoc, if◌then◌else◌}
+use Rattle.std.proofs.Common.{◌≡◌, ℕ, ◌+◌, ◌-◌, ◌*◌, ◌<◌, ◌≤◌, List, [], ◌∷◌, ◌++◌, map, reverse, length, not, is_some, Bool, true, false, ◌&&◌, nat_eq, nat_le, Option, Some, None, Result, Ok, Err, arith, refl, sym, ap, subst, ◌∙◌, append-nil, append_assoc, if◌then◌else◌}
 use Rattle.std.specs.Prelude.{option_map, IfSome}
 use Rattle.std.specs.List.{filter_map}
 use Rattle.std.specs.Map.{lookup}
@@ -15,7 +15,7 @@ use Rattle.tree_messages.specs.Directories.{DirectoryValue, DirectoryNodeValue, 
 use Rattle.input_tree.specs.Directories.{written_digest, directory_in}
 use Rattle.input_tree.specs.Listing.{Lookup}
 use Rattle.input_tree.specs.Taken.{DirectoryTakenValue, child_taken, directory_taken, file_taken, taken_at, taken_of, taken_shown}
-use Rattle.input_tree.specs.Taking.{bytes_left, given_by}
+use Rattle.input_tree.specs.Taking.{given_by}
 use Rattle.input_tree.specs.declared.directory_reading.DirectoryReading.{DirectoryReading}
 use Rattle.input_tree.specs.declared.taken.DirectoryTaken.{DirectoryTaken}
 use Rattle.actions.specs.declared.fault.TreeFault.{TreeFault}
@@ -26,7 +26,7 @@ use Rattle.actions.specs.Shown.{node_shown, nodes_shown}
 use Rattle.actions.specs.Walk.{Nodes, TreeFaultValue, bad_directory, digest_of_node, digests_met, directory_nodes, missing, missing_among, nodes_below, nodes_inside, nodes_met, nodes_of_text, nodes_or_fault, nodes_unless_missing, plan_of, too_deep, too_many, walk, walk_along}
 use Rattle.actions.specs.KeptNodes.{AreKept, IsKept}
 use Rattle.actions.specs.Answers.{Fails}
-use Rattle.actions.specs.TreeWalks.{IsReading, LeadsTo, ahead_left, is_over, nodes_ahead, not_looked_for, opened_below, opened_by, reading_left, steps_left, text_of_node, walk_on, with_ahead}
+use Rattle.actions.specs.TreeWalks.{IsReading, LeadsTo, ahead_left, is_over, nodes_ahead, not_looked_for, opened_below, opened_by, reading_left, steps_left, text_of_node, with_ahead}
 use Rattle.actions.proofs.Walks.{along_end, along_full, along_next, fails_as, fails_then, reverse_last}
 
 -- ---- the nodes that what is taken stands for

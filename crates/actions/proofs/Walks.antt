@@ -1,6 +1,6 @@
 -- Walking along, step by step.
-use Rattle.std.proofs.Common.{◌≡◌, ℕ, zero, suc, ◌+◌, ◌-◌, ◌<◌, List, [], ◌∷◌, ◌++◌, map, reverse, length, Result, Ok, Err, arith, refl, sym, ap, ◌∙◌}
-use Rattle.std.proofs.lemmas.List.{map-append, length-append, reverse-append, reverse-reverse}
+use Rattle.std.proofs.Common.{◌≡◌, ℕ, zero, suc, ◌+◌, ◌-◌, ◌<◌, List, [], ◌∷◌, ◌++◌, map, reverse, Result, Ok, Err, arith, refl, ap, ◌∙◌}
+use Rattle.std.proofs.lemmas.List.{map-append, reverse-append}
 use Rattle.protobuf_wire.specs.Results.{◌>>=◌}
 use Rattle.input_tree.specs.Listing.{Lookup}
 use Rattle.actions.specs.declared.fault.TreeFault.{TreeFault}

@@ -1,11 +1,11 @@
 -- Steps of a reading.
-use Rattle.std.proofs.Common.{◌≡◌, ℕ, ◌-◌, ◌<◌, ◌≤◌, Bool, true, false, ◌||◌, List, [], length, take, drop, nat_le, nat_lt, Option, Some, None, refl, sym, ap, ◌∙◌, arith, if◌then◌else◌}
+use Rattle.std.proofs.Common.{◌≡◌, ℕ, ◌-◌, ◌<◌, ◌≤◌, Bool, true, false, ◌||◌, List, length, take, drop, nat_le, nat_lt, Some, None, refl, sym, ap, ◌∙◌, arith}
 use Rattle.std.proofs.lemmas.Bool.Decides.{nat_tests}
 use Rattle.std.proofs.lemmas.List.{drop_all, length-drop}
 use Rattle.std.proofs.Math.Seq.{take-length}
-use Rattle.protobuf_wire.specs.Reading.{items_in, record_at, records_of}
+use Rattle.protobuf_wire.specs.Reading.{items_in, records_of}
 use Rattle.input_tree.specs.declared.directory_reading.DirectoryReading.{DirectoryReading}
-use Rattle.input_tree.specs.Taken.{DirectoryTakenValue, directory_taken, taken_shown}
+use Rattle.input_tree.specs.Taken.{directory_taken, taken_shown}
 use Rattle.input_tree.specs.Taking.{bytes_left, given_by, in_order, is_ordered, is_over, last_of, no_nodes, with_nodes_left}
 use Rattle.input_tree.proofs.Records.{last_again, taken_is}
 

@@ -1,12 +1,12 @@
 -- Reading record by record, up to the first node that is not taken, gives what is taken of the
 -- directory that a text spells.
-use Rattle.std.proofs.Common.{◌≡◌, ◌+◌, ◌-◌, ◌<◌, ◌≤◌, ℕ, Bool, true, false, List, [], ◌∷◌, ◌++◌, ◌&&◌, length, map, take, drop, is_some, nat_le, Option, Some, None, Result, Ok, Err, refl, sym, ap, subst, ◌∙◌, append_assoc, append-nil, arith, if◌then◌else◌}
+use Rattle.std.proofs.Common.{◌≡◌, ◌+◌, ◌-◌, ◌≤◌, ℕ, Bool, true, false, List, [], ◌∷◌, ◌++◌, ◌&&◌, length, map, take, drop, is_some, Option, Some, None, Result, Ok, Err, refl, sym, ap, subst, ◌∙◌, append_assoc, append-nil, arith, if◌then◌else◌}
 use Rattle.std.specs.Prelude.{option_map}
 use Rattle.std.specs.List.{list_all, filter_map}
 use Rattle.std.proofs.lemmas.Bool.{and_parts}
 use Rattle.std.proofs.lemmas.List.{drop_at, take-append-drop, length-append, length-drop}
 use Rattle.protobuf_wire.specs.Results.{◌>>=◌}
-use Rattle.protobuf_wire.specs.Reading.{answer_of, count_left, items_left, record_at, records_of, step}
+use Rattle.protobuf_wire.specs.Reading.{answer_of, count_left, record_at, records_of, step}
 use Rattle.protobuf_wire.specs.declared.field.WireError.{WireError}
 use Rattle.protobuf_wire.specs.declared.error.MessageError.{MessageError}
 use Rattle.protobuf_wire.specs.Record.{Record}
@@ -15,11 +15,11 @@ use Rattle.protobuf_wire.specs.Fields.{each_of, payload_in, payloads, records_in
 use Rattle.protobuf_wire.proofs.Records.{record_takes}
 use Rattle.digest.specs.declared.Digest.{Digest}
 use Rattle.tree_messages.specs.Directories.{DirectoryValue, FileNodeValue, DirectoryNodeValue, SymlinkNodeValue, file_node_of, directory_node_of, symlink_node_of, directory_of}
-use Rattle.input_tree.specs.Names.{are_ordered, is_name}
+use Rattle.input_tree.specs.Names.{is_name}
 use Rattle.input_tree.specs.Directories.{is_file, is_child, is_symlink, has_order, valid_directory, written_digest}
 use Rattle.input_tree.specs.NodeTexts.{and_then, readable}
 use Rattle.input_tree.specs.Taken.{FileTakenValue, ChildTakenValue, DirectoryTakenValue, file_taken, child_taken, taken_of}
-use Rattle.input_tree.specs.Taking.{take_file, take_child, take_symlink, with_record, directory_with, with_node, with_nodes, with_nodes_left, no_nodes, is_ordered, in_order, last_of}
+use Rattle.input_tree.specs.Taking.{take_file, take_child, take_symlink, with_record, directory_with, with_node, with_nodes, with_nodes_left, no_nodes, in_order, last_of}
 
 -- ---- one kind of node
 

@@ -137,8 +137,10 @@ pub record IsOpened (look : Lookup) (keys : List Digest) (d : Digest) (reading :
   pub with_it : with_reading look keys reading ≡ with_listed look keys d
   pub reading_is : IfSome reading (IsReading look keys)
 
-pub opened_listed : (look : Lookup) (keys : List Digest) (d : Digest) → list_any (same_digest d) keys ≡ true → IsOpened look keys d None
-opened_listed look keys d h = record { with_it = sym (listed_before look keys d h); reading_is = tt }
+pub opened_listed : (look : Lookup) (keys : List Digest) (d : Digest) (reading : Option ChildReading) → reading ≡ None →
+    list_any (same_digest d) keys ≡ true → IsOpened look keys d reading
+opened_listed look keys d reading closed h =
+    rw closed (record { with_it = sym (listed_before look keys d h); reading_is = tt })
 
 pub opened_none : (look : Lookup) (keys : List Digest) (d : Digest) → children look d ≡ None → IsOpened look keys d None
 opened_none look keys d h = record { with_it = sym (none_listed look keys d h); reading_is = tt }

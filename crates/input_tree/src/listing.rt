@@ -175,7 +175,10 @@ impl Listing {
         ensures few { reading_left self.new.reading ≤ MOST_DIRECTORY_BYTES + 1 }
         ensures looks { work.new.looks ≤ work.old.looks + 1 }
     {
-        let digest = self.inside[self.next];
+        let Some(digest) = self.inside.get(self.next) else {
+            unreachable!()
+        };
+        let digest = *digest;
         self.next += 1;
         if self.known.listed.contains(&digest) {
             return Ok(());

@@ -1,6 +1,4 @@
 use Rattle.std.proofs.Common.{◌≡◌, Some, refl, rules, slice_get}
-use Rattle.std.specs.List.{list_any}
-use Rattle.digest.specs.Naming.{same_digest}
 use Rattle.instance_view.specs.Texts.{look_of}
 use Rattle.input_tree.proofs.Steps.{opened_listed, opens_child}
 use Rattle.input_tree.proofs.listing.Listing.open_child.Goals as goal
@@ -8,6 +6,6 @@ use Rattle.input_tree.proofs.listing.Listing.open_child.Goals as goal
 pub returns-then-contains-clause-opens : goal.returns-then-contains-clause-opens
 returns-then-contains-clause-opens c =
     let look = look_of c.args.texts.now in
-    let there : slice_get c.args.self.now.inside.items c.args.self.now.next ≡ Some c.index.result = search rules in
-    opens_child look c.args.self.now _ c.index.result c.requires.leads c.requires.begun c.requires.closed there refl refl refl refl refl refl
-    (opened_listed look c.args.self.now.known.listed.keys c.index.result (search rules))
+    let there : slice_get c.args.self.now.inside.items c.args.self.now.next ≡ Some c.in-Some.digest.now = search rules in
+    opens_child look c.args.self.now _ c.in-Some.digest.now c.requires.leads c.requires.begun c.requires.closed there refl refl refl refl refl refl
+    (opened_listed look c.args.self.now.known.listed.keys c.in-Some.digest.now c.args.self.now.reading c.requires.closed (search rules))

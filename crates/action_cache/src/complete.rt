@@ -20,7 +20,7 @@ use blob_pool::Pool;
 use digest::Digest;
 use input_tree::{digest_written, text_or_none};
 use instance_view::{Sight, Texts, Work};
-use protobuf_wire::{Message, MessageError};
+use protobuf_wire::{Decode, MessageError};
 use std::alloc::{AllocError, Global};
 use tree_messages::{ActionResult, OutputDirectory, OutputFile};
 

@@ -1,5 +1,5 @@
 mod Walks
-mod Levels
+mod Steps
 mod Trees
 pub mod Kept
 mod Places

@@ -7,5 +7,6 @@ pub mod Nodes
 pub mod Walk
 pub mod KeptNodes
 pub mod Answers
+pub mod TreeWalks
 pub mod Tree
 pub mod Paths

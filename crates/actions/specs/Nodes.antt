@@ -1,9 +1,10 @@
 -- Nodes of an input tree (remote_execution.proto: FileNode, SymlinkNode, DirectoryNode).
-use Rattle.std.specs.Prelude.{ℕ, Bool, List, ◌++◌, Option, Some, option_map}
+use Rattle.std.specs.Prelude.{ℕ, Bool, List, ◌++◌, map, Option, Some, option_map}
 use Rattle.std.specs.List.{filter_map}
 use Rattle.digest.specs.declared.Digest.{Digest}
 use Rattle.tree_messages.specs.Directories.{DirectoryValue, DirectoryNodeValue, FileNodeValue, SymlinkNodeValue}
 use Rattle.input_tree.specs.Directories.{written_digest, directory_in}
+use Rattle.input_tree.specs.Taken.{FileTakenValue, ChildTakenValue, DirectoryTakenValue}
 use Rattle.run_calls.specs.declared.tree_node.Node.{Node}
 use Rattle.run_calls.specs.Nodes.{NodeKindValue, NodeValue}
 pub use Rattle.run_calls.specs.Nodes.{file, symlink, directory}
@@ -41,3 +42,20 @@ nodes_of level v =
 -- the nodes of the directory that a text spells
 abbrev pub nodes_in : ℕ → List ℕ → Option (List PlanNodeValue)
 nodes_in level text = option_map (nodes_of level) (directory_in text)
+
+-- ---- of what is taken
+
+abbrev pub file_node : ℕ → FileTakenValue → PlanNodeValue
+file_node level n =
+    record { name = n.name; level = level; kind = file n.digest n.is_executable }
+
+abbrev pub symlink_node : ℕ → SymlinkNodeValue → PlanNodeValue
+symlink_node level n = record { name = n.name; level = level; kind = symlink n.target }
+
+abbrev pub child_node : ℕ → ChildTakenValue → PlanNodeValue
+child_node level n = record { name = n.name; level = level; kind = directory n.digest }
+
+abbrev pub nodes_taken : ℕ → DirectoryTakenValue → List PlanNodeValue
+nodes_taken level t =
+    map (file_node level) t.files
+    ++ (map (symlink_node level) t.symlinks ++ map (child_node level) t.directories)

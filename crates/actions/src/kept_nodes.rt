@@ -1,75 +1,45 @@
 //! Directories that stand in many places: the text of each is read at most twice.
 
-ghost use Rattle.std.specs.Prelude.{◌≡◌, ◌++◌, IfOk, IfSome, OnOk};
-ghost use Rattle.actions.specs.Shown.{nodes_shown};
-ghost use Rattle.actions.specs.KeptNodes.{AreKept, at_level};
-ghost use Rattle.actions.specs.Walk.{directory_nodes};
-ghost use Rattle.actions.specs.Answers.{Answers};
+ghost use Rattle.std.specs.Prelude.{◌≡◌, Some, IfSome, OnOk};
+ghost use Rattle.input_tree.specs.Listing.{Lookup};
+ghost use Rattle.input_tree.specs.Taken.{taken_at, taken_shown};
+ghost use Rattle.actions.specs.KeptNodes.{AreKept};
 
-use crate::fault::TreeFault;
-use crate::finding::Finds;
-use crate::node::PlanNode;
-use crate::reading::directory_nodes;
-use blob_pool::Pool;
 use digest::Digest;
+use input_tree::DirectoryTaken;
 use keyed_maps::KeyedMap;
-use std::alloc::{AllocError, Global};
+use std::alloc::AllocError;
 
-/// The directories that a walk has read, and the nodes of those that it has read twice.
-pub type KeptNodes = KeyedMap<Digest, Option<Vec<PlanNode>>>;
+/// The directories that a walk has read, and what is taken of those that it has read twice.
+pub type KeptNodes = KeyedMap<Digest, Option<DirectoryTaken>>;
 
-/// The same nodes in a directory of a level.
-fn copy_nodes(alloc: Global, level: usize, nodes: &[PlanNode]) -> Result<Vec<PlanNode>, AllocError>
-    ensures { IfOk result (λ copies. nodes_shown copies.items
-        ≡ at_level level (nodes_shown nodes.now)) }
+/// What is kept of a directory.
+pub(crate) fn kept_of<'a>(kept: &'a KeptNodes, digest: &Digest) -> Option<&'a DirectoryTaken>
+    ensures { (look : Lookup) → AreKept look kept.now.entries →
+        IfSome result (λ taken.
+        taken_at look digest.now ≡ Some (Some (taken_shown taken.now))) }
 {
-    let mut copies = Vec::with_capacity(alloc, nodes.len())?;
-    let mut left = nodes;
-    'nodes: while let [first, rest @ ..] = left {
-        copies.push(first.at_level(level)?)?;
-        left = rest;
+    match kept.get(digest) {
+        Some(Some(taken)) => Some(taken),
+        _ => None,
     }
-    Ok(copies)
 }
 
-/// What is kept of a directory that is read: nothing the first time, as most stand in one place,
-/// and then its nodes.
-fn nodes_to_keep(
-    alloc: Global,
-    level: usize,
-    nodes: &[PlanNode],
-    is_read_again: bool,
-) -> Result<Option<Vec<PlanNode>>, AllocError>
-    ensures { IfOk result (λ kept. IfSome kept (λ copies. nodes_shown copies.items
-        ≡ at_level level (nodes_shown nodes.now))) }
-{
-    if !is_read_again {
-        return Ok(None);
-    }
-    Ok(Some(copy_nodes(alloc, level, nodes)?))
-}
-
-/// The nodes of the directory of a digest, none where the instance sees no text of it. Its text is
-/// read the first two times, and then its nodes are copied.
-pub fn nodes_or_kept<F: Finds>(
-    alloc: Global,
-    view: &F,
-    pool: &Pool,
+/// Notes that a directory was read. What is taken of it is kept the second time, as most stand in
+/// one place.
+pub(crate) fn keep(
     kept: &mut KeptNodes,
-    level: usize,
     digest: &Digest,
-) -> Result<Vec<PlanNode>, TreeFault>
-    requires kept { AreKept (F.found_in pool.now view.now) kept.old.entries }
-    ensures nodes { Answers (λ nodes. nodes_shown nodes.items) result
-        (directory_nodes (F.found_in pool.now view.now) level digest.now) }
-    ensures kept { OnOk result (AreKept (F.found_in pool.now view.now) kept.new.entries) }
+    taken: DirectoryTaken,
+) -> Result<(), AllocError>
+    ensures { (look : Lookup) → AreKept look kept.old.entries →
+        taken_at look digest.now ≡ Some (Some (taken_shown taken)) →
+        OnOk result (AreKept look kept.new.entries) }
 {
-    if let Some(Some(nodes)) = kept.get(digest) {
-        return Ok(copy_nodes(alloc, level, nodes)?);
+    if kept.contains_key(digest) {
+        kept.insert(*digest, Some(taken))?;
+        return Ok(());
     }
-    let is_read_again = kept.contains_key(digest);
-    let nodes = directory_nodes(alloc, view, pool, level, digest)?;
-    let copies = nodes_to_keep(alloc, level, &nodes, is_read_again)?;
-    kept.insert(*digest, copies)?;
-    Ok(nodes)
+    kept.insert(*digest, None)?;
+    Ok(())
 }

@@ -13,6 +13,7 @@ mod laws;
 mod node;
 mod outputs;
 mod reading;
+mod tree_walk;
 mod walking;
 
 pub use action::{ActionTaken, read_action};
@@ -27,4 +28,5 @@ pub use laws::{
 };
 pub use node::PlanNode;
 pub use outputs::{AskedOutput, asked_outputs};
+pub use tree_walk::TreeWalk;
 pub use walking::{MOST_LEVELS, MOST_NODES, Plan, nodes_met, walk};

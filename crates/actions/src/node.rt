@@ -1,92 +1,87 @@
-//! Nodes of a plan, and those that the nodes of directories stand for.
+//! Nodes of a plan, and those that what is taken of a directory stands for.
 
-ghost use Rattle.std.specs.Prelude.{◌≡◌, ℕ, Option, IfOk, option_map};
+ghost use Rattle.std.specs.Prelude.{◌≡◌, ℕ, IfOk};
 ghost use Rattle.actions.specs.Nodes.{PlanNodeValue};
 ghost use Rattle.actions.specs.Shown.{node_shown};
 
 use digest::Digest;
-use input_tree::digest_written;
+use input_tree::{ChildTaken, FileTaken, LinkTaken};
 use run_calls::{Node, NodeKind};
-use std::alloc::{AllocError, Global};
-use std::rc::RcStr;
-use tree_messages::{DirectoryNode, FileNode, SymlinkNode};
+use std::alloc::AllocError;
 
 /// A node of a plan, which names texts by their digests.
 pub type PlanNode = Node<Digest>;
 
-/// A node of a directory, as its message says it.
-pub trait NodeMessage: Sized {
-    /// The message without where it lies in memory.
+/// A node of a directory that is taken.
+pub trait NodeTaken: Sized {
+    /// The node without where it lies in memory.
     ghost Value: { Type 0 };
 
     ghost shown: { Self → Value };
 
-    /// The plan's node in a directory of this level, where the message writes a digest that it
-    /// needs.
-    ghost at: { ℕ → Value → Option PlanNodeValue };
-
     /// The plan's node in a directory of this level.
-    fn node_at(&self, alloc: Global, level: usize) -> Result<Option<PlanNode>, AllocError>
-        ensures { IfOk result (λ node. option_map node_shown node ≡ at level (shown self.now)) };
+    ghost at: { ℕ → Value → PlanNodeValue };
+
+    /// The plan's node in a directory of this level. It shares the name, and the target of a link,
+    /// and takes no memory.
+    ///
+    /// Err: one of these is shared too often to be counted.
+    fn node_at(&self, level: usize) -> Result<PlanNode, AllocError>
+        ensures { IfOk result (λ node. node_shown node ≡ at level (shown self.now)) };
 }
 
-impl<'a> NodeMessage for FileNode<'a> {
-    ghost use Rattle.tree_messages.specs.Directories.{FileNodeValue, file_node_shown};
-    ghost use Rattle.actions.specs.Nodes.{file_at};
+impl NodeTaken for FileTaken {
+    ghost use Rattle.input_tree.specs.Taken.{FileTakenValue, file_taken_shown};
+    ghost use Rattle.actions.specs.Nodes.{file_node};
 
-    ghost Value = { FileNodeValue };
+    ghost Value = { FileTakenValue };
 
-    ghost shown = { file_node_shown };
+    ghost shown = { file_taken_shown };
 
-    ghost at = { file_at };
+    ghost at = { file_node };
 
-    fn node_at(&self, alloc: Global, level: usize) -> Result<Option<PlanNode>, AllocError> {
-        let Some(digest) = digest_written(&self.digest) else {
-            return Ok(None);
-        };
-        let name = RcStr::from_str(alloc, self.name)?;
+    fn node_at(&self, level: usize) -> Result<PlanNode, AllocError> {
         let kind = NodeKind::File {
-            text: digest,
+            text: self.digest,
             is_executable: self.is_executable,
         };
-        Ok(Some(Node { name, level, kind }))
+        let name = self.name.clone()?;
+        Ok(Node { name, level, kind })
     }
 }
 
-impl<'a> NodeMessage for SymlinkNode<'a> {
-    ghost use Rattle.tree_messages.specs.Directories.{SymlinkNodeValue, symlink_node_shown};
-    ghost use Rattle.actions.specs.Nodes.{symlink_at};
+impl NodeTaken for LinkTaken {
+    ghost use Rattle.tree_messages.specs.Directories.{SymlinkNodeValue};
+    ghost use Rattle.input_tree.specs.Taken.{link_taken_shown};
+    ghost use Rattle.actions.specs.Nodes.{symlink_node};
 
     ghost Value = { SymlinkNodeValue };
 
-    ghost shown = { symlink_node_shown };
+    ghost shown = { link_taken_shown };
 
-    ghost at = { symlink_at };
+    ghost at = { symlink_node };
 
-    fn node_at(&self, alloc: Global, level: usize) -> Result<Option<PlanNode>, AllocError> {
-        let name = RcStr::from_str(alloc, self.name)?;
-        let target = RcStr::from_str(alloc, self.target)?;
+    fn node_at(&self, level: usize) -> Result<PlanNode, AllocError> {
+        let target = self.target.clone()?;
+        let name = self.name.clone()?;
         let kind = NodeKind::Symlink { target };
-        Ok(Some(Node { name, level, kind }))
+        Ok(Node { name, level, kind })
     }
 }
 
-impl<'a> NodeMessage for DirectoryNode<'a> {
-    ghost use Rattle.tree_messages.specs.Directories.{DirectoryNodeValue, directory_node_shown};
-    ghost use Rattle.actions.specs.Nodes.{directory_at};
+impl NodeTaken for ChildTaken {
+    ghost use Rattle.input_tree.specs.Taken.{ChildTakenValue, child_taken_shown};
+    ghost use Rattle.actions.specs.Nodes.{child_node};
 
-    ghost Value = { DirectoryNodeValue };
+    ghost Value = { ChildTakenValue };
 
-    ghost shown = { directory_node_shown };
+    ghost shown = { child_taken_shown };
 
-    ghost at = { directory_at };
+    ghost at = { child_node };
 
-    fn node_at(&self, alloc: Global, level: usize) -> Result<Option<PlanNode>, AllocError> {
-        let Some(digest) = digest_written(&self.digest) else {
-            return Ok(None);
-        };
-        let name = RcStr::from_str(alloc, self.name)?;
-        let kind = NodeKind::Directory { text: digest };
-        Ok(Some(Node { name, level, kind }))
+    fn node_at(&self, level: usize) -> Result<PlanNode, AllocError> {
+        let kind = NodeKind::Directory { text: self.digest };
+        let name = self.name.clone()?;
+        Ok(Node { name, level, kind })
     }
 }

@@ -1,122 +1,73 @@
 //! The nodes of a directory whose text an instance sees.
 
-ghost use Rattle.std.specs.Prelude.{◌≡◌, ◌++◌, map, option_map, IfOk, OnOk};
-ghost use Rattle.std.specs.List.{filter_map};
-ghost use Rattle.tree_messages.specs.Directories.{directory_shown};
-ghost use Rattle.blob_pool.specs.Slots.{text_at};
-ghost use Rattle.instance_view.specs.Shown.{text_seen};
-ghost use Rattle.actions.specs.Nodes.{nodes_in, nodes_of};
+ghost use Rattle.std.specs.Prelude.{◌≡◌, ◌++◌, ◌≤◌, map, option_map, reverse, IfOk, IfSome, OnOk};
+ghost use Rattle.input_tree.specs.Taken.{taken_at, taken_shown};
+ghost use Rattle.input_tree.specs.Taking.{bytes_left, given_by};
+ghost use Rattle.input_tree.specs.declared.directory.TheConstants.{MOST_DIRECTORY_BYTES};
+ghost use Rattle.actions.specs.Nodes.{nodes_taken};
 ghost use Rattle.actions.specs.Shown.{nodes_shown};
-ghost use Rattle.actions.specs.Walk.{directory_nodes};
-ghost use Rattle.actions.specs.Answers.{Answers};
 
-use crate::fault::TreeFault;
 use crate::finding::Finds;
-use crate::node::{NodeMessage, PlanNode};
-use blob_pool::{Kept, Pool};
+use crate::node::{NodeTaken, PlanNode};
+use blob_pool::Pool;
 use digest::Digest;
-use input_tree::{MOST_DIRECTORY_BYTES, take_directory};
-use instance_view::Seen;
+use input_tree::{DirectoryReading, DirectoryTaken, MOST_DIRECTORY_BYTES};
+use instance_view::{Seen, copy_of};
 use std::alloc::{AllocError, Global};
-use tree_messages::Directory;
 
-/// Adds the nodes that messages of one kind stand for, in order.
-fn add_nodes<N: NodeMessage>(
+/// Begins to read the directory of a digest, where the instance sees a text of it. A text that is
+/// too long is not copied.
+pub(crate) fn open<F: Finds>(
     alloc: Global,
-    nodes: &mut Vec<PlanNode>,
-    level: usize,
-    messages: &[N],
-) -> Result<(), AllocError>
-    ensures { OnOk result (nodes_shown nodes.new.items ≡ nodes_shown nodes.old.items
-        ++ filter_map (N.at level) (map N.shown messages.now)) }
+    view: &F,
+    pool: &Pool,
+    digest: &Digest,
+) -> Result<Option<DirectoryReading>, AllocError>
+    ensures given { IfOk result (λ found. option_map given_by found
+        ≡ taken_at (F.found_in pool.now view.now) digest.now) }
+    ensures few { IfOk result (λ found.
+        IfSome found (λ r. bytes_left r ≤ MOST_DIRECTORY_BYTES)) }
 {
-    let mut left = messages;
-    'messages: while let [first, rest @ ..] = left {
-        if let Some(node) = first.node_at(alloc, level)? {
-            nodes.push(node)?;
+    let Some(seen) = view.get(digest) else {
+        return Ok(None);
+    };
+    if let Seen::Text(kept) = seen {
+        if pool.length(kept) > MOST_DIRECTORY_BYTES as u64 {
+            return Ok(Some(DirectoryReading::too_long(alloc)));
         }
+    }
+    let text = copy_of(alloc, pool, seen)?;
+    Ok(Some(DirectoryReading::begin(alloc, text)))
+}
+
+/// Puts the nodes of one kind on a stack, the first of them on top.
+fn stack<N: NodeTaken>(
+    todo: &mut Vec<PlanNode>,
+    level: usize,
+    nodes: &[N],
+) -> Result<(), AllocError>
+    ensures { OnOk result (nodes_shown todo.new.items ≡ nodes_shown todo.old.items
+        ++ reverse (map (N.at level) (map N.shown nodes.now))) }
+{
+    let mut left = nodes;
+    'nodes: while let [rest @ .., last] = left {
+        todo.push(last.node_at(level)?)?;
         left = rest;
     }
     Ok(())
 }
 
-/// The nodes of a directory: files, then symbolic links, then directories.
-fn nodes_of(
-    alloc: Global,
+/// Puts the nodes of a directory on a stack, the first of them on top: files, then symbolic links,
+/// then directories.
+pub(crate) fn stack_nodes(
+    todo: &mut Vec<PlanNode>,
     level: usize,
-    directory: &Directory<'_>,
-) -> Result<Vec<PlanNode>, AllocError>
-    ensures { IfOk result (λ nodes. nodes_shown nodes.items
-        ≡ nodes_of level (directory_shown directory.now)) }
+    taken: &DirectoryTaken,
+) -> Result<(), AllocError>
+    ensures { OnOk result (nodes_shown todo.new.items ≡ nodes_shown todo.old.items
+        ++ reverse (nodes_taken level (taken_shown taken.now))) }
 {
-    let mut nodes = Vec::new(alloc);
-    add_nodes(alloc, &mut nodes, level, &directory.files)?;
-    add_nodes(alloc, &mut nodes, level, &directory.symlinks)?;
-    add_nodes(alloc, &mut nodes, level, &directory.directories)?;
-    Ok(nodes)
-}
-
-/// The nodes of the directory that a text spells, or `None` where it spells none that is taken.
-fn nodes_in(alloc: Global, level: usize, text: &[u8]) -> Result<Option<Vec<PlanNode>>, AllocError>
-    ensures { IfOk result (λ found. option_map (λ nodes. nodes_shown nodes.items) found
-        ≡ nodes_in level text.now) }
-{
-    match take_directory(alloc, text)? {
-        None => Ok(None),
-        Some(directory) => Ok(Some(nodes_of(alloc, level, &directory)?)),
-    }
-}
-
-/// The same for a text of a pool, whose length is looked at before its bytes.
-fn nodes_kept(
-    alloc: Global,
-    level: usize,
-    pool: &Pool,
-    kept: Kept,
-) -> Result<Option<Vec<PlanNode>>, AllocError>
-    ensures { IfOk result (λ found. option_map (λ nodes. nodes_shown nodes.items) found
-        ≡ nodes_in level (text_at pool.now kept)) }
-{
-    if pool.length(kept) > MOST_DIRECTORY_BYTES as u64 {
-        return Ok(None);
-    }
-    let mut text = Vec::new(alloc);
-    pool.copy_into(kept, &mut text)?;
-    nodes_in(alloc, level, &text)
-}
-
-/// The same for a text that an instance sees.
-fn nodes_seen(
-    alloc: Global,
-    level: usize,
-    pool: &Pool,
-    seen: Seen,
-) -> Result<Option<Vec<PlanNode>>, AllocError>
-    ensures { IfOk result (λ found. option_map (λ nodes. nodes_shown nodes.items) found
-        ≡ nodes_in level (text_seen pool.now seen)) }
-{
-    match seen {
-        Seen::Empty => nodes_in(alloc, level, &[]),
-        Seen::Text(kept) => nodes_kept(alloc, level, pool, kept),
-    }
-}
-
-/// The nodes of the directory of a digest, none where the instance sees no text of it.
-pub fn directory_nodes<F: Finds>(
-    alloc: Global,
-    view: &F,
-    pool: &Pool,
-    level: usize,
-    digest: &Digest,
-) -> Result<Vec<PlanNode>, TreeFault>
-    ensures { Answers (λ nodes. nodes_shown nodes.items) result
-        (directory_nodes (F.found_in pool.now view.now) level digest.now) }
-{
-    match view.get(digest) {
-        None => Ok(Vec::new(alloc)),
-        Some(seen) => match nodes_seen(alloc, level, pool, seen)? {
-            None => Err(TreeFault::BadDirectory),
-            Some(nodes) => Ok(nodes),
-        },
-    }
+    stack(todo, level, &taken.directories)?;
+    stack(todo, level, &taken.symlinks)?;
+    stack(todo, level, &taken.files)
 }

@@ -14,7 +14,7 @@ ghost use Rattle.bytestream.specs.Querying.{status_of, query_reply};
 use crate::names::write_name;
 use cas_service::{CallError, check_instance};
 use instance_view::View;
-use reapi_messages::{Message, QueryWriteStatusRequest, QueryWriteStatusResponse};
+use reapi_messages::{Decode, Message, QueryWriteStatusRequest, QueryWriteStatusResponse};
 use rpc::Refusal;
 use std::alloc::Global;
 use uploads::{UploadKey, Uploads};

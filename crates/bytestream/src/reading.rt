@@ -17,7 +17,7 @@ use blob_pool::Pool;
 use cas_service::{CallError, check_instance};
 use digest::Digest;
 use instance_view::{Seen, Sight, View};
-use reapi_messages::{Message, ReadRequest};
+use reapi_messages::{Decode, ReadRequest};
 use rpc::Refusal;
 use std::alloc::Global;
 

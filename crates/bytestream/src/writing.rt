@@ -20,7 +20,7 @@ use blob_pool::Pool;
 use cas_service::{CallError, check_instance};
 use digest::Digest;
 use instance_view::View;
-use reapi_messages::{Message, WriteRequest, WriteResponse};
+use reapi_messages::{Decode, Message, WriteRequest, WriteResponse};
 use rpc::Refusal;
 use std::alloc::{AllocError, Global};
 use uploads::{Piece, UploadKey, Uploads};

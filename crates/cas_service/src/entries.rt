@@ -17,7 +17,7 @@ use crate::error::CallError;
 use crate::requests::{asked_function, check_instance};
 use digest::HashFunction;
 use protobuf_wire::{Content, Reader};
-use reapi_messages::{Field, Message, MessageError};
+use reapi_messages::{Decode, Field, MessageError};
 use rpc::Refusal;
 use std::alloc::Global;
 
@@ -117,7 +117,7 @@ pub fn admit_head(own: &str, head: &Head<'_>) -> Result<Option<HashFunction>, Re
 /// The message that a payload spells. In an empty one no record is looked for: a request may have
 /// two million of them.
 #[tactic(auto, unfolding(protobuf_wire::specs::Fields::records_in))]
-fn message_in<'a, M: Message<'a>>(alloc: Global, payload: &'a [u8]) -> Result<M, MessageError>
+fn message_in<'a, M: Decode<'a>>(alloc: Global, payload: &'a [u8]) -> Result<M, MessageError>
     ensures { Means M.shown result (value_of_text M.value_of payload.now) }
 {
     if payload.is_empty() {
@@ -127,7 +127,7 @@ fn message_in<'a, M: Message<'a>>(alloc: Global, payload: &'a [u8]) -> Result<M,
 }
 
 /// The entry of a record, where it has one.
-fn entry_of<'a, M: Message<'a>>(alloc: Global, found: &Field<'a>) -> Result<Option<M>, CallError>
+fn entry_of<'a, M: Decode<'a>>(alloc: Global, found: &Field<'a>) -> Result<Option<M>, CallError>
     ensures { Answers (option_map M.shown) result
         (entry_in M.value_of (payload_in 2 (record_shown found.now))) }
 {
@@ -139,7 +139,7 @@ fn entry_of<'a, M: Message<'a>>(alloc: Global, found: &Field<'a>) -> Result<Opti
 
 /// The next entry, or `None` where no more come.
 #[tactic(auto, using(crate::proofs::EachEntry::entry_next, crate::proofs::EachEntry::entries_end))]
-pub fn next_entry<'a, M: Message<'a>>(
+pub fn next_entry<'a, M: Decode<'a>>(
     alloc: Global,
     reader: &mut Reader<'a>,
 ) -> Result<Option<M>, CallError>
@@ -157,7 +157,7 @@ pub fn next_entry<'a, M: Message<'a>>(
 }
 
 /// Whether the entries that are left are well formed.
-fn check_entries<'a, M: Message<'a>>(alloc: Global, reader: Reader<'a>) -> Result<(), CallError>
+fn check_entries<'a, M: Decode<'a>>(alloc: Global, reader: Reader<'a>) -> Result<(), CallError>
     ensures { Answers (λ u. u) result (form_of (entries_left M.value_of reader.entry)) }
 {
     let mut reader = reader;
@@ -167,7 +167,7 @@ fn check_entries<'a, M: Message<'a>>(alloc: Global, reader: Reader<'a>) -> Resul
 
 /// What is answered to a refused request, of which some entries were not read yet: each of them has
 /// to be well formed.
-pub fn refused_before<'a, M: Message<'a>>(
+pub fn refused_before<'a, M: Decode<'a>>(
     alloc: Global,
     reader: Reader<'a>,
     refusal: Refusal,

@@ -6,7 +6,7 @@ ghost use Rattle.execution.specs.Asking.{execute_asked, execute_asked_shown, nam
 use crate::asked::Asked;
 use cas_service::{CallError, asked_function, check_instance, read_digest};
 use execution_messages::{ExecuteRequest, WaitExecutionRequest};
-use protobuf_wire::Message;
+use protobuf_wire::Decode;
 use std::alloc::Global;
 
 /// What an `ExecuteRequest` asks for.

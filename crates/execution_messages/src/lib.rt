@@ -1,6 +1,7 @@
 //! Messages of the Remote Execution API, v2, that are about the execution of actions: read and
 //! written as those of `reapi_messages` are. And those by which executions are told of
-//! (google.longrunning.Operation, and what remote_execution.proto puts into it).
+//! (google.longrunning.Operation, and what remote_execution.proto puts into it). Actions and
+//! commands are values alone: `actions` reads them, and nothing writes them.
 #![tactic(auto)]
 
 mod actions;

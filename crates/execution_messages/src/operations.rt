@@ -3,12 +3,10 @@
 ghost use Rattle.std.specs.Prelude.{◌≡◌};
 
 use protobuf_wire::{
-    Field, Message, MessageError, Writer, embedded, flag, int32, put_embedded, put_flag, put_int32,
-    put_repeated, put_sent, put_string, repeated, sent, string,
+    Message, Writer, put_embedded, put_flag, put_int32, put_repeated, put_sent, put_string,
 };
 use reapi_messages::{Any, Digest, Status};
 use std::alloc::{AllocError, Global};
-use tree_messages::ActionResult;
 
 /// `build.bazel.remote.execution.v2.ExecuteOperationMetadata`.
 #[derive(Clone, Copy, Debug)]
@@ -19,7 +17,7 @@ pub struct ExecuteOperationMetadata<'a> {
     pub action_digest: Option<Digest<'a>>,
 }
 
-impl<'a> Message<'a> for ExecuteOperationMetadata<'a> {
+impl Message for ExecuteOperationMetadata<'_> {
     ghost use Rattle.execution_messages.specs.Operations.{ExecuteOperationMetadataValue, execute_operation_metadata_shown, execute_operation_metadata_of, execute_operation_metadata_records};
 
     ghost Value = { ExecuteOperationMetadataValue };
@@ -30,14 +28,6 @@ impl<'a> Message<'a> for ExecuteOperationMetadata<'a> {
 
     ghost records_for = { execute_operation_metadata_records };
 
-    #[tactic(auto, unfolding(crate::specs::Operations::execute_operation_metadata_of))]
-    fn of_fields(alloc: Global, fields: &[Field<'a>]) -> Result<Self, MessageError> {
-        Ok(ExecuteOperationMetadata {
-            stage: int32(fields, 1),
-            action_digest: embedded(alloc, fields, 2)?,
-        })
-    }
-
     #[tactic(auto, using(crate::proofs::Texts::written_more))]
     fn write(&self, writer: &mut Writer) -> Result<(), AllocError> {
         put_int32(writer, 1, self.stage)?;
@@ -46,7 +36,7 @@ impl<'a> Message<'a> for ExecuteOperationMetadata<'a> {
 }
 
 /// `build.bazel.remote.execution.v2.ExecuteResponse`.
-#[derive(Drop)]
+#[derive(Drop, Debug)]
 pub struct ExecuteResponse<'a> {
     /// The text of an `ActionResult`, which can be read as one.
     pub result: Option<Vec<u8>>,
@@ -56,7 +46,7 @@ pub struct ExecuteResponse<'a> {
     pub status: Option<Status<'a>>,
 }
 
-impl<'a> Message<'a> for ExecuteResponse<'a> {
+impl Message for ExecuteResponse<'_> {
     ghost use Rattle.execution_messages.specs.Operations.{ExecuteResponseValue, execute_response_shown, execute_response_of, execute_response_records};
 
     ghost Value = { ExecuteResponseValue };
@@ -66,15 +56,6 @@ impl<'a> Message<'a> for ExecuteResponse<'a> {
     ghost value_of = { execute_response_of };
 
     ghost records_for = { execute_response_records };
-
-    #[tactic(auto, unfolding(crate::specs::Operations::execute_response_of))]
-    fn of_fields(alloc: Global, fields: &[Field<'a>]) -> Result<Self, MessageError> {
-        Ok(ExecuteResponse {
-            result: sent::<ActionResult<'a>>(alloc, fields, 1)?,
-            cached_result: flag(fields, 2),
-            status: embedded(alloc, fields, 3)?,
-        })
-    }
 
     #[tactic(auto, using(crate::proofs::Texts::written_more))]
     fn write(&self, writer: &mut Writer) -> Result<(), AllocError> {
@@ -95,7 +76,7 @@ pub struct Operation<'a> {
     pub response: Option<Any<'a>>,
 }
 
-impl<'a> Message<'a> for Operation<'a> {
+impl Message for Operation<'_> {
     ghost use Rattle.execution_messages.specs.Operations.{OperationValue, operation_shown, operation_of, operation_records};
 
     ghost Value = { OperationValue };
@@ -105,16 +86,6 @@ impl<'a> Message<'a> for Operation<'a> {
     ghost value_of = { operation_of };
 
     ghost records_for = { operation_records };
-
-    #[tactic(auto, unfolding(crate::specs::Operations::operation_of))]
-    fn of_fields(alloc: Global, fields: &[Field<'a>]) -> Result<Self, MessageError> {
-        Ok(Operation {
-            name: string(fields, 1)?,
-            metadata: embedded(alloc, fields, 2)?,
-            done: flag(fields, 3),
-            response: embedded(alloc, fields, 5)?,
-        })
-    }
 
     #[tactic(auto, using(crate::proofs::Texts::written_more))]
     fn write(&self, writer: &mut Writer) -> Result<(), AllocError> {
@@ -134,7 +105,7 @@ pub struct Violation<'a> {
     pub subject: &'a str,
 }
 
-impl<'a> Message<'a> for Violation<'a> {
+impl Message for Violation<'_> {
     ghost use Rattle.execution_messages.specs.Operations.{ViolationValue, violation_shown, violation_of, violation_records};
 
     ghost Value = { ViolationValue };
@@ -145,14 +116,6 @@ impl<'a> Message<'a> for Violation<'a> {
 
     ghost records_for = { violation_records };
 
-    #[tactic(auto, unfolding(crate::specs::Operations::violation_of))]
-    fn of_fields(_alloc: Global, fields: &[Field<'a>]) -> Result<Self, MessageError> {
-        Ok(Violation {
-            kind: string(fields, 1)?,
-            subject: string(fields, 2)?,
-        })
-    }
-
     #[tactic(auto, using(crate::proofs::Texts::written_more))]
     fn write(&self, writer: &mut Writer) -> Result<(), AllocError> {
         put_string(writer, 1, self.kind)?;
@@ -161,12 +124,12 @@ impl<'a> Message<'a> for Violation<'a> {
 }
 
 /// `google.rpc.PreconditionFailure`.
-#[derive(Drop)]
+#[derive(Drop, Debug)]
 pub struct PreconditionFailure<'a> {
     pub violations: Vec<Violation<'a>>,
 }
 
-impl<'a> Message<'a> for PreconditionFailure<'a> {
+impl Message for PreconditionFailure<'_> {
     ghost use Rattle.execution_messages.specs.Operations.{PreconditionFailureValue, precondition_failure_shown, precondition_failure_of, precondition_failure_records};
 
     ghost Value = { PreconditionFailureValue };
@@ -176,13 +139,6 @@ impl<'a> Message<'a> for PreconditionFailure<'a> {
     ghost value_of = { precondition_failure_of };
 
     ghost records_for = { precondition_failure_records };
-
-    #[tactic(auto, unfolding(crate::specs::Operations::precondition_failure_of))]
-    fn of_fields(alloc: Global, fields: &[Field<'a>]) -> Result<Self, MessageError> {
-        Ok(PreconditionFailure {
-            violations: repeated(alloc, fields, 1)?,
-        })
-    }
 
     #[tactic(auto, using(crate::proofs::Texts::written_more))]
     fn write(&self, writer: &mut Writer) -> Result<(), AllocError> {

@@ -29,7 +29,7 @@ pub enum ExecutionStage {
 }
 
 /// How an execution ends.
-#[derive(Drop)]
+#[derive(Drop, Debug)]
 pub enum End {
     /// The stored result of the action is found, which is this text.
     Finds(Vec<u8>),

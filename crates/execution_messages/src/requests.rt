@@ -3,8 +3,8 @@
 ghost use Rattle.std.specs.Prelude.{◌≡◌};
 
 use protobuf_wire::{
-    Field, Message, MessageError, Writer, embedded, flag, int32, put_embedded, put_flag, put_int32,
-    put_string, string,
+    Decode, Field, Message, MessageError, Writer, embedded, flag, int32, put_embedded, put_flag,
+    put_int32, put_string, string,
 };
 use reapi_messages::Digest;
 use std::alloc::{AllocError, Global};
@@ -21,7 +21,7 @@ pub struct ExecuteRequest<'a> {
     pub digest_function: i32,
 }
 
-impl<'a> Message<'a> for ExecuteRequest<'a> {
+impl Message for ExecuteRequest<'_> {
     ghost use Rattle.execution_messages.specs.Requests.{ExecuteRequestValue, execute_request_shown, execute_request_of, execute_request_records};
 
     ghost Value = { ExecuteRequestValue };
@@ -32,6 +32,16 @@ impl<'a> Message<'a> for ExecuteRequest<'a> {
 
     ghost records_for = { execute_request_records };
 
+    #[tactic(auto, using(crate::proofs::Texts::written_more))]
+    fn write(&self, writer: &mut Writer) -> Result<(), AllocError> {
+        put_string(writer, 1, self.instance_name)?;
+        put_flag(writer, 3, self.skip_cache_lookup)?;
+        put_embedded(writer, 6, &self.action_digest)?;
+        put_int32(writer, 9, self.digest_function)
+    }
+}
+
+impl<'a> Decode<'a> for ExecuteRequest<'a> {
     #[tactic(auto, unfolding(crate::specs::Requests::execute_request_of))]
     fn of_fields(alloc: Global, fields: &[Field<'a>]) -> Result<Self, MessageError> {
         Ok(ExecuteRequest {
@@ -40,14 +50,6 @@ impl<'a> Message<'a> for ExecuteRequest<'a> {
             action_digest: embedded(alloc, fields, 6)?,
             digest_function: int32(fields, 9),
         })
-    }
-
-    #[tactic(auto, using(crate::proofs::Texts::written_more))]
-    fn write(&self, writer: &mut Writer) -> Result<(), AllocError> {
-        put_string(writer, 1, self.instance_name)?;
-        put_flag(writer, 3, self.skip_cache_lookup)?;
-        put_embedded(writer, 6, &self.action_digest)?;
-        put_int32(writer, 9, self.digest_function)
     }
 }
 
@@ -58,7 +60,7 @@ pub struct WaitExecutionRequest<'a> {
     pub name: &'a str,
 }
 
-impl<'a> Message<'a> for WaitExecutionRequest<'a> {
+impl Message for WaitExecutionRequest<'_> {
     ghost use Rattle.execution_messages.specs.Requests.{WaitExecutionRequestValue, wait_execution_request_shown, wait_execution_request_of, wait_execution_request_records};
 
     ghost Value = { WaitExecutionRequestValue };
@@ -69,15 +71,17 @@ impl<'a> Message<'a> for WaitExecutionRequest<'a> {
 
     ghost records_for = { wait_execution_request_records };
 
+    #[tactic(auto, using(crate::proofs::Texts::written_more))]
+    fn write(&self, writer: &mut Writer) -> Result<(), AllocError> {
+        put_string(writer, 1, self.name)
+    }
+}
+
+impl<'a> Decode<'a> for WaitExecutionRequest<'a> {
     #[tactic(auto, unfolding(crate::specs::Requests::wait_execution_request_of))]
     fn of_fields(_alloc: Global, fields: &[Field<'a>]) -> Result<Self, MessageError> {
         Ok(WaitExecutionRequest {
             name: string(fields, 1)?,
         })
-    }
-
-    #[tactic(auto, using(crate::proofs::Texts::written_more))]
-    fn write(&self, writer: &mut Writer) -> Result<(), AllocError> {
-        put_string(writer, 1, self.name)
     }
 }

@@ -107,19 +107,6 @@ module _ {W S : Type 0} (c : ℕ) (news : News) (old new : HashMap ℕ (Watched 
         λ so. writes ∙ or_other w.may_write news.may_write so,
       )
 
--- of none nothing is told
-pub none_is_told : {W : Type 0} (o : Option (Watched W)) (P : Watched W → Type 0) → o ≡ None
-    → IfSome o P
-none_is_told None P is = tt
-none_is_told (Some w) P is = absurd (true≢false (ap is_some is))
-
--- one that was put in is told
-pub put_is_told : {W : Type 0} (c : ℕ) (new : List (ℕ × Watched W)) (w : Watched W)
-    → wire_at c new ≡ Some w → w.may_read ≡ true
-    → IsSomeAnd (wire_at c new) (λ v. v.may_read ≡ true)
-put_is_told {W} c new w there is =
-    subst (λ (o : Option (Watched W)). IsSomeAnd o (λ v. v.may_read ≡ true)) (sym there) is
-
 module _ {W : Type 0} (happened : W → Option (List WireEvent)) where
   -- what was shut is put among those that linger, where there is room
   pub pushed : (w : Watched W) (v : W) (kept : Lingering W)

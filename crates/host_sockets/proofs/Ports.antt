@@ -23,12 +23,6 @@ becomes B [] i x after is so = refl
 becomes B (y ∷ xs) zero x after is so = subst (λ z. B z after) is so
 becomes B (y ∷ xs) (suc i) x after is so = becomes B xs i x after is so
 
--- where none is, none is afterwards
-pub none_becomes : {X : Type 0} (Becomes : X → X → Type 0) (o : Option X) → o ≡ None
-    → Turns Becomes o o
-none_becomes B None is = refl
-none_becomes B (Some x) is = absurd (true≢false (ap is_some is))
-
 -- what holds of each, by its place, holds of one more that stands behind them
 of_more : {X : Type 0} (P : ℕ → X → Type 0) (xs : List X) (x : X)
     → ((i : ℕ) (y : X) → slice_get xs i ≡ Some y → P i y) → P (length xs) x

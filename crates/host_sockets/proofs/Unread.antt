@@ -5,7 +5,7 @@ use Rattle.std.specs.List.{list_any, sum_by}
 use Rattle.std.specs.Option.{option_map, option_map_or}
 use Rattle.std.specs.List.Sorted.{IsPermutation}
 use Rattle.std.specs.HashMap.{HashMap, IsReordered, PutsEntry, Updates, WritesThrough, get}
-use Rattle.std.specs.Map.{lookup, remove_entry, set_value, values_of}
+use Rattle.std.specs.Map.{remove_entry, values_of}
 use Rattle.std.proofs.lemmas.Bool.{ne_eqb}
 use Rattle.std.proofs.lemmas.List.Sums.{count_by-le-length, sum_by-cons}
 use Rattle.std.proofs.lemmas.Map.Entries.{length-values_of, sum_by-remove_entry, sum_by-set_value, sum_by_puts_entry, sum_by_values_permutation}

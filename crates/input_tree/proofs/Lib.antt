@@ -1,9 +1,11 @@
 mod Order
 mod Listed
+mod Steps
 mod Using
 mod Paging
 mod Lengths
 pub mod NodeRecords
 pub mod Records
+mod Readings
 pub mod Counts
 pub mod LastUses

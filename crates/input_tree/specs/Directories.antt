@@ -8,7 +8,7 @@ use Rattle.digest.specs.Text.{digest_in}
 use Rattle.reapi_messages.specs.Digests.{DigestValue}
 use Rattle.tree_messages.specs.Directories.{DirectoryValue, DirectoryNodeValue, FileNodeValue, SymlinkNodeValue, directory_of}
 use Rattle.input_tree.specs.declared.directory.TheConstants.{MOST_DIRECTORY_BYTES}
-use Rattle.input_tree.specs.Names.{is_name, is_target, are_rising, are_apart}
+use Rattle.input_tree.specs.Names.{is_name, is_target, are_ordered}
 
 -- the digest that a node writes, where it writes one
 abbrev pub written_digest : Option DigestValue → Option Digest
@@ -38,14 +38,8 @@ abbrev pub has_nodes : DirectoryValue → Bool
 has_nodes v =
     list_all is_file v.files && (list_all is_child v.directories && list_all is_symlink v.symlinks)
 
--- each list is sorted by names, and no name stands twice
 abbrev pub has_order : DirectoryValue → Bool
-has_order v =
-    are_rising (file_names v) &&
-    (are_rising (child_names v) &&
-    (are_rising (symlink_names v) &&
-    (are_apart (file_names v) (child_names v) &&
-    (are_apart (file_names v) (symlink_names v) && are_apart (child_names v) (symlink_names v)))))
+has_order v = are_ordered (file_names v) (child_names v) (symlink_names v)
 
 abbrev pub is_directory : DirectoryValue → Bool
 is_directory v = has_nodes v && has_order v

@@ -1,6 +1,7 @@
 pub mod Names
 pub mod NameSteps
 pub mod Directories
+pub mod Taken
 pub mod Listing
 pub mod ListingSteps
 pub mod Answers
@@ -11,3 +12,4 @@ pub use Rattle.numerals.specs.Number
 pub mod NodeTexts
 pub mod Taking
 pub mod Work
+pub mod Listings

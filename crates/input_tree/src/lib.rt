@@ -3,6 +3,7 @@
 #![tactic(auto)]
 
 mod directory;
+mod directory_reading;
 mod error;
 mod laws;
 mod listing;
@@ -10,17 +11,20 @@ mod names;
 mod node_texts;
 mod nodes;
 mod pages;
+mod taken;
 mod taking;
 mod tree;
 mod uses;
 
 pub use directory::{MOST_DIRECTORY_BYTES, check, text_or_none};
+pub use directory_reading::DirectoryReading;
 pub use error::{GetTreeError, TreeRefusal};
 pub use laws::only_the_last_use_counts;
-pub use listing::{MOST_DIRECTORIES, list_tree};
+pub use listing::{Listing, MOST_DIRECTORIES, list_tree};
 pub use node_texts::Unread;
 pub use nodes::{Node, digest_written, is_name};
 pub use pages::{MOST_PAGE_BYTES, MOST_PAGE_DIRECTORIES};
-pub use taking::{payload_of, take_directory};
+pub use taken::{ChildTaken, DirectoryTaken, FileTaken, LinkTaken};
+pub use taking::payload_of;
 pub use tree::{PageAsked, get_tree};
 pub use uses::use_all;

@@ -1,6 +1,6 @@
 //! The nodes of a directory: files, directories and symbolic links.
 
-ghost use Rattle.std.specs.Prelude.{◌≡◌, Bool, ℕ, List, Result, option_map};
+ghost use Rattle.std.specs.Prelude.{◌≡◌, Bool, List, Result, option_map};
 ghost use Rattle.std.specs.List.{list_all};
 ghost use Rattle.protobuf_wire.specs.declared.error.MessageError.{MessageError};
 ghost use Rattle.protobuf_wire.specs.Record.{Record};
@@ -10,6 +10,7 @@ ghost use Rattle.input_tree.specs.Directories.{written_digest};
 ghost use Rattle.input_tree.specs.Names as names;
 ghost use Rattle.input_tree.specs.NodeTexts.{Reads, readable};
 
+use crate::names::Named;
 use crate::node_texts::{Unread, read_child, read_file, read_symlink};
 use digest::Digest;
 use reapi_messages as messages;
@@ -22,8 +23,6 @@ pub trait Node<'a>: Sized + Drop {
 
     ghost shown: { Self → Value };
 
-    ghost name_of: { Value → List ℕ };
-
     /// Whether its name, and its digest or target, have their form.
     ghost is_node: { Value → Bool };
 
@@ -33,9 +32,6 @@ pub trait Node<'a>: Sized + Drop {
     /// The node that a text spells. It takes no memory.
     fn read(text: &'a [u8]) -> Result<Self, Unread>
         ensures { Reads shown result (readable (value_of_text node_of text.now)) };
-
-    fn name(&self) -> &str
-        ensures { result.now ≡ name_of (shown self.now) };
 
     fn has_form(&self) -> bool
         ensures { result ≡ is_node (shown self.now) };
@@ -68,7 +64,7 @@ pub fn is_name(name: &str) -> bool
 }
 
 /// Whether a symbolic link may have the target: a relative path.
-fn is_target(target: &str) -> bool
+pub(crate) fn is_target(target: &str) -> bool
     ensures { result ≡ names.is_target target.now }
 {
     match target.as_bytes() {
@@ -95,18 +91,12 @@ impl<'a> Node<'a> for FileNode<'a> {
 
     ghost shown = { file_node_shown };
 
-    ghost name_of = { λ n. n.name };
-
     ghost is_node = { is_file };
 
     ghost node_of = { file_node_of };
 
     fn read(text: &'a [u8]) -> Result<Self, Unread> {
         read_file(text)
-    }
-
-    fn name(&self) -> &str {
-        self.name
     }
 
     fn has_form(&self) -> bool {
@@ -122,18 +112,12 @@ impl<'a> Node<'a> for DirectoryNode<'a> {
 
     ghost shown = { directory_node_shown };
 
-    ghost name_of = { λ n. n.name };
-
     ghost is_node = { is_child };
 
     ghost node_of = { directory_node_of };
 
     fn read(text: &'a [u8]) -> Result<Self, Unread> {
         read_child(text)
-    }
-
-    fn name(&self) -> &str {
-        self.name
     }
 
     fn has_form(&self) -> bool {
@@ -149,8 +133,6 @@ impl<'a> Node<'a> for SymlinkNode<'a> {
 
     ghost shown = { symlink_node_shown };
 
-    ghost name_of = { λ n. n.name };
-
     ghost is_node = { is_symlink };
 
     ghost node_of = { symlink_node_of };
@@ -159,11 +141,49 @@ impl<'a> Node<'a> for SymlinkNode<'a> {
         read_symlink(text)
     }
 
+    fn has_form(&self) -> bool {
+        is_name(self.name) && is_target(self.target)
+    }
+}
+
+impl<'a> Named for FileNode<'a> {
+    ghost use Rattle.tree_messages.specs.Directories.{FileNodeValue, file_node_shown};
+
+    ghost Value = { FileNodeValue };
+
+    ghost shown = { file_node_shown };
+
+    ghost name_of = { λ n. n.name };
+
     fn name(&self) -> &str {
         self.name
     }
+}
 
-    fn has_form(&self) -> bool {
-        is_name(self.name) && is_target(self.target)
+impl<'a> Named for DirectoryNode<'a> {
+    ghost use Rattle.tree_messages.specs.Directories.{DirectoryNodeValue, directory_node_shown};
+
+    ghost Value = { DirectoryNodeValue };
+
+    ghost shown = { directory_node_shown };
+
+    ghost name_of = { λ n. n.name };
+
+    fn name(&self) -> &str {
+        self.name
+    }
+}
+
+impl<'a> Named for SymlinkNode<'a> {
+    ghost use Rattle.tree_messages.specs.Directories.{SymlinkNodeValue, symlink_node_shown};
+
+    ghost Value = { SymlinkNodeValue };
+
+    ghost shown = { symlink_node_shown };
+
+    ghost name_of = { λ n. n.name };
+
+    fn name(&self) -> &str {
+        self.name
     }
 }

@@ -7,7 +7,7 @@ ghost use Rattle.instance_core.specs.Capabilities.{version, cache, execution, ca
 
 use cas_service::{CallError, MOST_BATCH_BYTES, check_instance};
 use reapi_messages::{
-    ActionCacheUpdateCapabilities, CacheCapabilities, ExecutionCapabilities,
+    ActionCacheUpdateCapabilities, CacheCapabilities, Decode, ExecutionCapabilities,
     GetCapabilitiesRequest, Message, SemVer, ServerCapabilities,
 };
 use std::alloc::{AllocError, Global};

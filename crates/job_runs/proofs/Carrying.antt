@@ -1,6 +1,6 @@
 -- What ran so far goes on with each call of the runs.
 use Rattle.std.proofs.Common.{◌≡◌, ℕ, Bool, true, false, List, [], ◌∷◌, ◌++◌, map, refl, sym, ap, subst, ◌∙◌, append-nil, inl, inr}
-use Rattle.std.specs.Prelude.{◌||◌, ◌⊎◌, ⊤, Option, Some, None, Result, Ok, Err, IfSome}
+use Rattle.std.specs.Prelude.{◌||◌, ◌⊎◌, ⊤, Option, Some, None, Result, Ok, Err}
 use Rattle.std.proofs.lemmas.Bool.{true≢false}
 use Rattle.execution.specs.Job.{TaskValue}
 use Rattle.execution.specs.Orders.{start, kill}
@@ -426,27 +426,7 @@ asked_carries key t r runs now to_begin noted f g p q h answered taken was =
 
 -- ---- nothing happens
 
-pub still_carries : (runs now : List Run) (to_begin noted : List RunKey) (f g : Option (List FolderCall)) (p q : Option (List ProgramCall))
-    (h : List RunEvent)
-    → now ≡ runs → noted ≡ to_begin → g ≡ f → q ≡ p → Carry runs to_begin f p h → Carry now noted g q (h ++ [])
-still_carries runs now to_begin noted f g p q h same notes fs ps was =
-    rw (same, notes, fs, ps) (subst (Carry runs to_begin f p) (sym (append-nil h)) was)
-
 -- ---- at first, and in the end
-
-pub none_carries : (f : Option (List FolderCall)) (p : Option (List ProgramCall)) → IfSome f (λ h. h ≡ []) → IfSome p (λ h. h ≡ []) →
-    Carry [] [] f p []
-none_carries None p fs ps = tt
-none_carries (Some f) None fs ps = tt
-none_carries (Some f) (Some p) fs ps = λ jobs. record {
-  steps = [];
-  told_so = refl;
-  folders_so = sym fs;
-  programs_so = sym ps;
-  right = tt;
-  linked = λ key. refl;
-  noted = λ key there. refl;
-}
 
 pub ran_so : (runs : List Run) (to_begin : List RunKey) (f : Option (List FolderCall)) (p : Option (List ProgramCall)) (h : List RunEvent)
     (fs : List FolderCall) (ps : List ProgramCall)

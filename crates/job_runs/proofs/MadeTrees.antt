@@ -1,5 +1,5 @@
 -- Directories that may be made once for many runs.
-use Rattle.std.proofs.Common.{◌≡◌, ◌⊎◌, inl, inr, ℕ, zero, suc, ◌+◌, ◌-◌, ◌<◌, ◌≤◌, Bool, true, false, not, cond, ◌&&◌, List, [], ◌∷◌, ◌++◌, map, length, take, drop, get_or, slice_set, filter, min, nat_eq, nat_lt, nat_le, Option, Some, None, IfSome, option_map, refl, sym, ap, ap₂, ◌∙◌, append_assoc, append-nil, length-drop, take_all, arith}
+use Rattle.std.proofs.Common.{◌≡◌, ◌⊎◌, inl, inr, ℕ, zero, suc, ◌+◌, ◌-◌, ◌≤◌, Bool, true, false, not, ◌&&◌, List, [], ◌∷◌, ◌++◌, map, length, take, drop, get_or, slice_set, min, nat_eq, nat_lt, Option, Some, None, IfSome, option_map, refl, sym, ap, ap₂, ◌∙◌, append_assoc, append-nil, length-drop, take_all, arith}
 use Rattle.std.specs.List.{flat_map, join_by, list_all, starts_with}
 use Rattle.std.specs.Borrow.{Bor}
 use Rattle.std.specs.Global.{Vec}
@@ -16,7 +16,7 @@ use Rattle.actions.specs.Shown.{node_shown, nodes_shown}
 use Rattle.run_calls.specs.declared.folder.InputTree.{InputTree}
 use Rattle.job_runs.specs.declared.trees.FoundTrees.{FoundTrees}
 use Rattle.job_runs.specs.Commands.{output_paths}
-use Rattle.job_runs.specs.Made.{InputTreeValue, are_apart, file_count, is_file, is_free, is_free_of, is_large, may_be_first, may_be_made, node_size, nodes_size, path_text, slashed, tree_at, tree_of_first, tree_of_kind, tree_shown, within}
+use Rattle.job_runs.specs.Made.{InputTreeValue, are_apart, file_count, is_free, is_free_of, is_large, may_be_first, may_be_made, nodes_size, path_text, slashed, tree_at, tree_of_first, tree_of_kind, tree_shown, within}
 
 -- ---- what stands in a directory
 

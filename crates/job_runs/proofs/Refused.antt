@@ -1,5 +1,5 @@
 -- What ran so far goes on where a fault is told in the place of an outcome.
-use Rattle.std.proofs.Common.{◌≡◌, Bool, true, false, List, [], ◌∷◌, ◌++◌, map, refl, sym, ap, subst, ◌∙◌, inl, inr}
+use Rattle.std.proofs.Common.{◌≡◌, Bool, true, false, List, [], ◌∷◌, ◌++◌, map, refl, sym, ap, subst, inl, inr}
 use Rattle.std.specs.Prelude.{fold, Option, Some, None, Result, Ok, Err}
 use Rattle.std.specs.List.{list_any}
 use Rattle.std.specs.Option.{option_map}
@@ -12,7 +12,7 @@ use Rattle.run_calls.specs.declared.outcome.Outcome.TheVariants as outcomes
 use Rattle.run_calls.specs.Outcomes.{OutcomeValue, failed}
 use Rattle.run_calls.specs.Shown.{exited_shown, outcome_shown}
 use Rattle.runner.specs.declared.fault.RunFault.{RunFault}
-use Rattle.runner.specs.declared.fault.RunFault.TheVariants.{Folder, NoMemory}
+use Rattle.runner.specs.declared.fault.RunFault.TheVariants.{NoMemory}
 use Rattle.runner.specs.declared.stage.Run.{Run}
 use Rattle.runner.specs.Runs.{HasNone, IsAsked, is_run_of}
 use Rattle.serve.specs.RunEvents.{RunEvent, lent, gave, asked_events, outcome_events}

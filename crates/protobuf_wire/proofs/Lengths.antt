@@ -15,7 +15,7 @@ use Rattle.protobuf_wire.proofs.FieldTexts.{text_append}
 use Rattle.protobuf_wire.proofs.ReadAgain.{int32_below}
 
 -- what a record needs besides a length that fits
-abbrev HasContent : Value → Type 0
+abbrev pub HasContent : Value → Type 0
 HasContent (Number n) = n < 2 ^ 64
 HasContent (Eight bytes) = length bytes ≡ 8
 HasContent (Payload bytes) = Unit {0}
@@ -63,44 +63,51 @@ pub numbered_both : (a b : List Record) → AllByRecursion IsNumbered a → AllB
 numbered_both [] b h g = g
 numbered_both (r ∷ a) b h g = (h.0, numbered_both a b h.1 g)
 
-module _ (field : ℕ) (positive : 0 < field) (small : field < 2 ^ 29) where
-  pub message_numbered : (t : List ℕ) → AllByRecursion IsNumbered (message_field field t)
-  message_numbered t = (record { positive = positive; small = small; content = tt }, tt)
+-- a record of the field
+pub record IsOf (field : ℕ) (r : Record) : Type 0 where
+  pub number : r.number ≡ field
+  pub content : HasContent r.value
 
-  pub number_numbered : (n : ℕ) → n < 2 ^ 64 → AllByRecursion IsNumbered (number_field field n)
-  number_numbered n fits = go (eqb n 0) where
-    go : (b : Bool) → AllByRecursion IsNumbered (cond b [] (record { number = field; value = Number n } ∷ []))
+abbrev pub AreOf : ℕ → List Record → Type 0
+AreOf field rs = AllByRecursion (IsOf field) rs
+
+module _ (field : ℕ) where
+  message_of : (t : List ℕ) → AreOf field (message_field field t)
+  message_of t = (record { number = refl; content = tt }, tt)
+
+  number_of : (n : ℕ) → n < 2 ^ 64 → AreOf field (number_field field n)
+  number_of n fits = go (eqb n 0) where
+    go : (b : Bool) → AreOf field (cond b [] (record { number = field; value = Number n } ∷ []))
     go true = tt
-    go false = (record { positive = positive; small = small; content = fits }, tt)
+    go false = (record { number = refl; content = fits }, tt)
 
-  pub int64_numbered : (z : ℤ) → FitsSigned w64 z → AllByRecursion IsNumbered (int64_field field z)
-  int64_numbered z fits = number_numbered (cast_unsigned w64 z) (Fits-of_z fits).fits
+  pub int64_of : (z : ℤ) → FitsSigned w64 z → AreOf field (int64_field field z)
+  int64_of z fits = number_of (cast_unsigned w64 z) (Fits-of_z fits).fits
 
-  pub int32_numbered : (z : ℤ) → FitsSigned w32 z → AllByRecursion IsNumbered (int32_field field z)
-  int32_numbered z fits = number_numbered (cast_unsigned w64 z) (int32_below z fits)
+  pub int32_of : (z : ℤ) → FitsSigned w32 z → AreOf field (int32_field field z)
+  int32_of z fits = number_of (cast_unsigned w64 z) (int32_below z fits)
 
-  pub flag_numbered : (b : Bool) → AllByRecursion IsNumbered (flag_field field b)
-  flag_numbered true = number_numbered 1 (omega arith)
-  flag_numbered false = number_numbered 0 (omega arith)
+  pub flag_of : (b : Bool) → AreOf field (flag_field field b)
+  flag_of true = number_of 1 (omega arith)
+  flag_of false = number_of 0 (omega arith)
 
-  pub bytes_numbered : (t : List ℕ) → AllByRecursion IsNumbered (bytes_field field t)
-  bytes_numbered t = go (eqb (length t) 0) where
-    go : (b : Bool) → AllByRecursion IsNumbered (cond b [] (message_field field t))
+  pub bytes_of : (t : List ℕ) → AreOf field (bytes_field field t)
+  bytes_of t = go (eqb (length t) 0) where
+    go : (b : Bool) → AreOf field (cond b [] (message_field field t))
     go true = tt
-    go false = message_numbered t
+    go false = message_of t
 
-  pub each_numbered : (ts : List (List ℕ)) → AllByRecursion IsNumbered (each_field field ts)
-  each_numbered [] = tt
-  each_numbered (t ∷ ts) = (record { positive = positive; small = small; content = tt }, each_numbered ts)
+  pub each_of : (ts : List (List ℕ)) → AreOf field (each_field field ts)
+  each_of [] = tt
+  each_of (t ∷ ts) = (record { number = refl; content = tt }, each_of ts)
 
-  pub embedded_numbered : {V : Type 0} (records_for : V → List Record) (o : Option V) →
-      AllByRecursion IsNumbered (embedded_field records_for field o)
-  embedded_numbered records_for None = tt
-  embedded_numbered records_for (Some v) = message_numbered (text_for records_for v)
+  pub embedded_of : {V : Type 0} (records_for : V → List Record) (o : Option V) → AreOf field (embedded_field records_for field o)
+  embedded_of records_for None = tt
+  embedded_of records_for (Some v) = message_of (text_for records_for v)
 
-  pub sent_numbered : (o : Option (List ℕ)) → AllByRecursion IsNumbered (sent_field field o)
-  sent_numbered None = tt
-  sent_numbered (Some t) = message_numbered t
+  pub sent_of : (o : Option (List ℕ)) → AreOf field (sent_field field o)
+  sent_of None = tt
+  sent_of (Some t) = message_of t
 
 -- ---- embedded texts are no longer than the text that they stand in
 

@@ -1,15 +1,13 @@
 -- What a field's readers see of records is what they see of the part that has the field.
-use Rattle.std.proofs.Common.{◌≡◌, ◌≢◌, ℕ, Bool, true, false, cond, eqb, List, [], ◌∷◌, ◌++◌, length, Option, Some, None, Result, Ok, Err, refl, sym, ap, ◌∙◌, append_assoc}
+use Rattle.std.proofs.Common.{◌≡◌, ◌≢◌, ℕ, false, eqb, List, [], ◌∷◌, ◌++◌, Option, None, Result, Ok, Err, refl, sym, ap, ◌∙◌, append_assoc}
 use Rattle.std.specs.List.{filter_map}
 use Rattle.std.proofs.lemmas.Bool.{ne_eqb}
 use Rattle.std.proofs.lemmas.List.{append-nil}
 use Rattle.std.proofs.lemmas.List.Elements.{filter_map-append}
 use Rattle.protobuf_wire.specs.Results.{◌>>=◌}
-use Rattle.protobuf_wire.specs.Record.{Number, Record}
-use Rattle.protobuf_wire.specs.Writing.{number_field, bytes_field, message_field}
+use Rattle.protobuf_wire.specs.Record.{Record}
 use Rattle.protobuf_wire.specs.declared.error.MessageError.{MessageError}
 use Rattle.protobuf_wire.specs.Fields.{number_in, payload_in, numbers, payloads, each_of, record_numbers, concatenation, repeated_numbers}
-use Rattle.protobuf_wire.specs.Parts.{each_field, embedded_field, sent_field}
 use Rattle.protobuf_wire.specs.Again.{Lacks, HasField}
 
 other : (r : Record) (field : ℕ) → r.number ≢ field → eqb r.number field ≡ false
@@ -94,12 +92,9 @@ repeated_numbers_in_part field part rs h =
 
 -- ---- finding the place of a part
 
-pub lacks_both : (field : ℕ) (a b : List Record) → Lacks field a → Lacks field b → Lacks field (a ++ b)
+lacks_both : (field : ℕ) (a b : List Record) → Lacks field a → Lacks field b → Lacks field (a ++ b)
 lacks_both field [] b h g = g
 lacks_both field (r ∷ a) b h g = (h.0, lacks_both field a b h.1 g)
-
-pub alone : (field : ℕ) (part : List Record) → HasField field part part
-alone field part = record { front = []; back = []; parts = sym (append-nil part); before = tt; behind = tt }
 
 pub after : (field : ℕ) (a part : List Record) → Lacks field a → HasField field part (a ++ part)
 after field a part h = record { front = a; back = []; parts = sym (append-nil (a ++ part)); before = h; behind = tt }
@@ -114,33 +109,3 @@ before field part rs b h g = record {
   behind =
       lacks_both field h.back b h.behind g;
 }
-
--- ---- a part of another field lacks this one
-
-module _ (field another : ℕ) (ne : another ≢ field) where
-  pub lacks_message : (t : List ℕ) → Lacks field (message_field another t)
-  lacks_message t = (ne, tt)
-
-  pub lacks_number : (n : ℕ) → Lacks field (number_field another n)
-  lacks_number n = go (eqb n 0) where
-    go : (b : Bool) → Lacks field (cond b [] (record { number = another; value = Number n } ∷ []))
-    go true = tt
-    go false = (ne, tt)
-
-  pub lacks_bytes : (t : List ℕ) → Lacks field (bytes_field another t)
-  lacks_bytes t = go (eqb (length t) 0) where
-    go : (b : Bool) → Lacks field (cond b [] (message_field another t))
-    go true = tt
-    go false = (ne, tt)
-
-  pub lacks_each : (ts : List (List ℕ)) → Lacks field (each_field another ts)
-  lacks_each [] = tt
-  lacks_each (t ∷ ts) = (ne, lacks_each ts)
-
-  pub lacks_embedded : {V : Type 0} (records_for : V → List Record) (o : Option V) → Lacks field (embedded_field records_for another o)
-  lacks_embedded records_for None = tt
-  lacks_embedded records_for (Some v) = (ne, tt)
-
-  pub lacks_sent : (o : Option (List ℕ)) → Lacks field (sent_field another o)
-  lacks_sent None = tt
-  lacks_sent (Some t) = (ne, tt)

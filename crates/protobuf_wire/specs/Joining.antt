@@ -1,13 +1,13 @@
 -- What the readers of fields keep while they go over the records. For the code alone: no public
 -- contract speaks of it.
-use Rattle.std.specs.Prelude.{ℕ, ℤ, List, [], ◌∷◌, ◌++◌, length, map, Option, Some, None, Result, Ok, unwrap_or}
+use Rattle.std.specs.Prelude.{ℕ, List, [], ◌∷◌, ◌++◌, length, Option, Some, None, Result, Ok, unwrap_or}
 use Rattle.std.specs.List.{concat}
 use Rattle.protobuf_wire.specs.declared.field.WireError.{WireError}
 use Rattle.protobuf_wire.specs.Results.{◌>>=◌}
 use Rattle.protobuf_wire.specs.Reading.{records_of}
 use Rattle.protobuf_wire.specs.Record.{Record}
 use Rattle.protobuf_wire.specs.declared.error.MessageError.{MessageError}
-use Rattle.protobuf_wire.specs.Fields.{records_in, value_of_text, payloads, int32_of, joined_payloads}
+use Rattle.protobuf_wire.specs.Fields.{records_in, value_of_text, payloads, joined_payloads}
 
 -- how many records a text spells
 abbrev pub record_count : List ℕ → Result ℕ WireError
@@ -42,7 +42,3 @@ embedded_value_by_records value_of field rs =
 abbrev pub payloads_after : Option (List ℕ) → List (List ℕ) → Option (List ℕ)
 payloads_after None bs = joined_payloads bs
 payloads_after (Some front) bs = Some (front ++ concat bs)
-
--- the enums so far, and those of more numbers
-abbrev pub with_numbers : List ℤ → Result (List ℕ) MessageError → Result (List ℤ) MessageError
-with_numbers so_far more = more >>= λ ns. Ok (so_far ++ map int32_of ns)

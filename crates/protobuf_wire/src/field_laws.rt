@@ -35,7 +35,7 @@ pub fn a_field_is_read_again()
 {}
 
 /// Messages that are written as fields are read again, where each of them by itself is.
-pub fn a_message_field_is_read_again<'a, M: Message<'a>>()
+pub fn a_message_field_is_read_again<M: Message>()
     ensures set { (field : ℕ) (v : M.Value) (rs : List Record) →
         IsReadAgain M.value_of M.records_for v →
         HasField field (embedded_field M.records_for field (Some v)) rs →

@@ -5,16 +5,15 @@
 ghost use Rattle.std.specs.Prelude.{◌≡◌, ◌≢◌, ℕ, List, [], Result, Ok, Err, Option, None, Some, map, option_map, length, take, ◌≤◌, ◌++◌, ◌∷◌, IfOk, IfErr, IfSome};
 ghost use Rattle.std.specs.Option.{option_copied};
 ghost use Rattle.protobuf_wire.specs.Results.{Gives};
-ghost use Rattle.protobuf_wire.specs.Reading.{numbers_of, records_of};
+ghost use Rattle.protobuf_wire.specs.Reading.{records_of};
 ghost use Rattle.protobuf_wire.specs.Shown.{record_shown};
 ghost use Rattle.protobuf_wire.specs.declared.error.MessageError.TheVariants.{NoMemory};
-ghost use Rattle.protobuf_wire.specs.Answers.{Means, of_wire};
-ghost use Rattle.protobuf_wire.specs.Fields.{records_in, number_in, payload_in, numbers, payloads, last_or, utf8, repeated_string, repeated_octets, string, octets, int64, int32, int32_of, flag, repeated_enum, record_numbers, bytes_as_sent};
-ghost use Rattle.protobuf_wire.specs.Joining.{record_count, with_records, joined_records, with_numbers, payloads_after};
+ghost use Rattle.protobuf_wire.specs.Answers.{Means};
+ghost use Rattle.protobuf_wire.specs.Fields.{records_in, number_in, payload_in, numbers, payloads, last_or, utf8, string, octets, int64, int32, int32_of, flag, bytes_as_sent};
+ghost use Rattle.protobuf_wire.specs.Joining.{record_count, with_records, joined_records, payloads_after};
 
 use crate::error::MessageError;
 use crate::field::{Content, Field, WireError};
-use crate::packed::PackedReader;
 use crate::reader::Reader;
 use std::alloc::{AllocError, Global};
 
@@ -194,96 +193,6 @@ pub fn string<'a>(records: &[Field<'a>], field: u32) -> Result<&'a str, MessageE
         left = rest;
     }
     Ok(last)
-}
-
-/// A `repeated string`: all payloads in order. Each of them is UTF-8.
-#[tactic(auto, unfolding(crate::specs::Fields::payloads, crate::specs::Fields::each_of), using(crate::proofs::Lists::after_next, crate::proofs::Lists::after_none))]
-pub fn repeated_string<'a>(
-    alloc: Global,
-    records: &[Field<'a>],
-    field: u32,
-) -> Result<Vec<&'a str>, MessageError>
-    ensures { Means (λ v. map (λ s. s.now) v.items) result
-        (repeated_string field (map record_shown records.now)) }
-{
-    let mut texts = Vec::with_capacity(alloc, payload_count(records, field))?;
-    let mut left = records;
-    'records: while let [record, rest @ ..] = left {
-        if let Some(payload) = payload_of(record, field) {
-            texts.push(text_of(payload)?)?;
-        }
-        left = rest;
-    }
-    Ok(texts)
-}
-
-/// A `repeated bytes`: all payloads in order.
-#[tactic(auto, unfolding(crate::specs::Fields::payloads))]
-pub fn repeated_octets<'a>(
-    alloc: Global,
-    records: &[Field<'a>],
-    field: u32,
-) -> Result<Vec<&'a [u8]>, AllocError>
-    ensures { IfOk result (λ v. map (λ b. b.now) v.items
-        ≡ repeated_octets field (map record_shown records.now)) }
-{
-    let mut all = Vec::with_capacity(alloc, payload_count(records, field))?;
-    let mut left = records;
-    'records: while let [record, rest @ ..] = left {
-        if let Some(payload) = payload_of(record, field) {
-            all.push(payload)?;
-        }
-        left = rest;
-    }
-    Ok(all)
-}
-
-/// Adds the numbers of a packed field's payload, each as an enum.
-fn add_packed(values: &mut Vec<i32>, payload: &[u8]) -> Result<(), MessageError>
-    ensures { Means (λ _. values.new.items) result
-        (with_numbers values.old.items (of_wire (numbers_of payload.now))) }
-{
-    let mut numbers = PackedReader::new(payload);
-    while let Some(number) = numbers.next()? {
-        values.push(low_half(number))?;
-    }
-    Ok(())
-}
-
-/// Adds the numbers of one record, which holds one by itself or several packed.
-fn add_numbers(values: &mut Vec<i32>, entry: &Field<'_>, field: u32) -> Result<(), MessageError>
-    ensures { Means (λ _. values.new.items) result
-        (with_numbers values.old.items (record_numbers field (record_shown entry.now))) }
-{
-    if entry.number != field {
-        return Ok(());
-    }
-    match entry.content {
-        Content::Varint(number) => {
-            values.push(low_half(number))?;
-            Ok(())
-        }
-        Content::Bytes(payload) => add_packed(values, payload),
-        _ => Ok(()),
-    }
-}
-
-/// A repeated enum: the numbers of all records in order, whether packed or one by one.
-#[tactic(auto, unfolding(crate::specs::Fields::each_of, crate::specs::Fields::concatenation))]
-pub fn repeated_enum(
-    alloc: Global,
-    records: &[Field<'_>],
-    field: u32,
-) -> Result<Vec<i32>, MessageError>
-    ensures { Means (λ v. v.items) result (repeated_enum field (map record_shown records.now)) }
-{
-    let mut values = Vec::new(alloc);
-    let mut left = records;
-    'records: while let [record, rest @ ..] = left {
-        add_numbers(&mut values, record, field)?;
-        left = rest;
-    }
-    Ok(values)
 }
 
 fn with_payload<'a>(

@@ -18,8 +18,8 @@ use crate::fields::{
 use crate::writer::Writer;
 use std::alloc::{AllocError, Global};
 
-/// A type of message, read from records and written as records.
-pub trait Message<'a>: Sized + Drop {
+/// A type of message: what its records mean, and how it is written.
+pub trait Message: Sized + Drop {
     /// The message without where it lies in memory.
     ghost Value: { Type 0 };
 
@@ -30,10 +30,6 @@ pub trait Message<'a>: Sized + Drop {
 
     /// The records of the canonical writing.
     ghost records_for: { Value → List Record };
-
-    /// The message that records mean.
-    fn of_fields(alloc: Global, fields: &[Field<'a>]) -> Result<Self, MessageError>
-        ensures { Means shown result (value_of (map record_shown fields.now)) };
 
     /// Adds the message's records, by rising field numbers.
     fn write(&self, writer: &mut Writer) -> Result<(), AllocError>
@@ -60,6 +56,13 @@ pub trait Message<'a>: Sized + Drop {
         self.write(&mut writer)?;
         Ok(writer.into_vec())
     }
+}
+
+/// A type of message that is read as one value.
+pub trait Decode<'a>: Message {
+    /// The message that records mean.
+    fn of_fields(alloc: Global, fields: &[Field<'a>]) -> Result<Self, MessageError>
+        ensures { Means Self.shown result (Self.value_of (map record_shown fields.now)) };
 
     /// The message that a text spells.
     ///
@@ -69,7 +72,7 @@ pub trait Message<'a>: Sized + Drop {
     /// bytes lie in `text`.
     #[tactic(auto, unfolding(crate::specs::Fields::records_in))]
     final fn decode(alloc: Global, text: &'a [u8]) -> Result<Self, MessageError>
-        ensures { Means shown result (value_of_text value_of text.now) }
+        ensures { Means Self.shown result (value_of_text Self.value_of text.now) }
     {
         let mut few = [BLANK; FEW];
         if let Some(count) = read_few(text, &mut few)? {
@@ -80,7 +83,7 @@ pub trait Message<'a>: Sized + Drop {
     }
 }
 
-fn one_of_joined<'a, M: Message<'a>>(
+fn one_of_joined<'a, M: Decode<'a>>(
     alloc: Global,
     records: &[Field<'a>],
     field: u32,
@@ -94,7 +97,7 @@ fn one_of_joined<'a, M: Message<'a>>(
     }
 }
 
-fn one_of_text<'a, M: Message<'a>>(
+fn one_of_text<'a, M: Decode<'a>>(
     alloc: Global,
     payload: &'a [u8],
 ) -> Result<Option<M>, MessageError>
@@ -105,7 +108,7 @@ fn one_of_text<'a, M: Message<'a>>(
 
 /// An embedded message, read from the concatenation of its payloads, or `None` where there are
 /// none. Each payload is well formed by itself.
-pub fn embedded<'a, M: Message<'a>>(
+pub fn embedded<'a, M: Decode<'a>>(
     alloc: Global,
     records: &[Field<'a>],
     field: u32,
@@ -122,7 +125,7 @@ pub fn embedded<'a, M: Message<'a>>(
 
 /// The bytes of an embedded message as they were sent, or `None` where there are none. They are
 /// read as an `M`, whose faults are answered, and then kept as they are.
-pub fn sent<'a, M: Message<'a>>(
+pub fn sent<'a, M: Decode<'a>>(
     alloc: Global,
     records: &[Field<'a>],
     field: u32,
@@ -136,7 +139,7 @@ pub fn sent<'a, M: Message<'a>>(
 
 /// Repeated messages, in order.
 #[tactic(auto, unfolding(crate::specs::Fields::payloads, crate::specs::Fields::each_of), using(crate::proofs::Lists::after_next, crate::proofs::Lists::after_none))]
-pub fn repeated<'a, M: Message<'a>>(
+pub fn repeated<'a, M: Decode<'a>>(
     alloc: Global,
     records: &[Field<'a>],
     field: u32,
@@ -156,11 +159,7 @@ pub fn repeated<'a, M: Message<'a>>(
 }
 
 #[tactic(auto, using(crate::proofs::Written::payload_behind_head))]
-fn put_message<'a, M: Message<'a>>(
-    writer: &mut Writer,
-    field: u32,
-    message: &M,
-) -> Result<(), AllocError>
+fn put_message<M: Message>(writer: &mut Writer, field: u32, message: &M) -> Result<(), AllocError>
     requires positive { 0 < field }
     requires small { field < field_number_limit }
     ensures { OnOk result (writer.new ≡ followed_by_records writer.old
@@ -173,7 +172,7 @@ fn put_message<'a, M: Message<'a>>(
 
 /// Adds an embedded message where it is set, also one of length 0.
 #[tactic(auto, using(crate::proofs::Written::followed_by_none))]
-pub fn put_embedded<'a, M: Message<'a>>(
+pub fn put_embedded<M: Message>(
     writer: &mut Writer,
     field: u32,
     message: &Option<M>,
@@ -190,7 +189,7 @@ pub fn put_embedded<'a, M: Message<'a>>(
 }
 
 /// Adds repeated messages, in order, also those of length 0.
-pub fn put_repeated<'a, M: Message<'a>>(
+pub fn put_repeated<M: Message>(
     writer: &mut Writer,
     field: u32,
     messages: &[M],

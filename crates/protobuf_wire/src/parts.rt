@@ -4,7 +4,7 @@ ghost use Rattle.std.specs.Prelude.{◌≡◌, ◌<◌, ℕ, List, map, option_m
 ghost use Rattle.std.specs.Int.{w64, cast_unsigned};
 ghost use Rattle.protobuf_wire.specs.Record.{field_number_limit};
 ghost use Rattle.protobuf_wire.specs.Writing.{records_text, bytes_field, varint, packed_text, followed_by, followed_by_records};
-ghost use Rattle.protobuf_wire.specs.Parts.{int64_field, int32_field, flag_field, string_field, repeated_enum_field, repeated_octets_field, repeated_string_field, sent_field};
+ghost use Rattle.protobuf_wire.specs.Parts.{int64_field, int32_field, flag_field, string_field, repeated_enum_field, repeated_octets_field, sent_field};
 
 use crate::writer::Writer;
 use std::alloc::AllocError;
@@ -54,25 +54,6 @@ pub fn put_string(writer: &mut Writer, field: u32, value: &str) -> Result<(), Al
         (string_field field value.now)) }
 {
     writer.bytes(field, value.as_bytes())
-}
-
-/// Adds a `repeated string`, empty strings too.
-pub fn put_repeated_string(
-    writer: &mut Writer,
-    field: u32,
-    values: &[&str],
-) -> Result<(), AllocError>
-    requires positive { 0 < field }
-    requires small { field < field_number_limit }
-    ensures { OnOk result (writer.new ≡ followed_by_records writer.old
-        (repeated_string_field field (map (λ s. s.now) values.now))) }
-{
-    let mut left = values;
-    'values: while let [first, rest @ ..] = left {
-        writer.message(field, first.as_bytes())?;
-        left = rest;
-    }
-    Ok(())
 }
 
 /// Adds a `repeated bytes`, empty ones too.

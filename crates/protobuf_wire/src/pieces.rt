@@ -10,7 +10,7 @@ use crate::writer::Writer;
 use std::alloc::AllocError;
 
 /// The value of a `bytes` field, in one piece or in several that follow one another.
-#[derive(Drop)]
+#[derive(Drop, Debug)]
 pub enum Pieces<'a> {
     One(&'a [u8]),
     Several(Vec<&'a [u8]>),

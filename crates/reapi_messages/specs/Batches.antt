@@ -12,9 +12,6 @@ use Rattle.protobuf_wire.specs.Writing.{bytes_field}
 use Rattle.protobuf_wire.specs.Pieces.{pieces_text}
 use Rattle.reapi_messages.specs.declared.batches.UpdateBlobRequest.{UpdateBlobRequest}
 use Rattle.reapi_messages.specs.declared.batches.BatchUpdateBlobsRequest.{BatchUpdateBlobsRequest}
-use Rattle.reapi_messages.specs.declared.batches.UpdateBlobResponse.{UpdateBlobResponse}
-use Rattle.reapi_messages.specs.declared.batches.BatchUpdateBlobsResponse.{BatchUpdateBlobsResponse}
-use Rattle.reapi_messages.specs.declared.batches.BatchReadBlobsRequest.{BatchReadBlobsRequest}
 use Rattle.reapi_messages.specs.declared.batches.ReadBlobResponse.{ReadBlobResponse}
 use Rattle.reapi_messages.specs.declared.batches.BatchReadBlobsResponse.{BatchReadBlobsResponse}
 use Rattle.reapi_messages.specs.Digests.{DigestValue, FitsDigest, digest_shown, digest_of, digest_records}
@@ -77,10 +74,6 @@ pub record UpdateBlobResponseValue : Type 0 where
   pub digest : Option DigestValue
   pub status : Option StatusValue
 
-abbrev pub update_blob_response_shown : UpdateBlobResponse → UpdateBlobResponseValue
-update_blob_response_shown m =
-    record { digest = option_map digest_shown m.digest; status = option_map status_shown m.status }
-
 unfoldable pub update_blob_response_of : List Record → Result UpdateBlobResponseValue MessageError
 update_blob_response_of rs = do
   digest ← embedded_value digest_of 1 rs
@@ -94,11 +87,6 @@ update_blob_response_records v =
 -- responses 1 repeated
 pub record BatchUpdateBlobsResponseValue : Type 0 where
   pub responses : List UpdateBlobResponseValue
-
-abbrev pub batch_update_blobs_response_shown : BatchUpdateBlobsResponse →
-    BatchUpdateBlobsResponseValue
-batch_update_blobs_response_shown m =
-    record { responses = map update_blob_response_shown m.responses.items }
 
 unfoldable pub batch_update_blobs_response_of : List Record →
     Result BatchUpdateBlobsResponseValue MessageError
@@ -116,13 +104,6 @@ pub record BatchReadBlobsRequestValue : Type 0 where
   pub instance_name : List ℕ
   pub digests : List DigestValue
   pub digest_function : ℤ
-
-abbrev pub batch_read_blobs_request_shown : BatchReadBlobsRequest → BatchReadBlobsRequestValue
-batch_read_blobs_request_shown m = record {
-  instance_name = m.instance_name.now;
-  digests = map digest_shown m.digests.items;
-  digest_function = m.digest_function;
-}
 
 unfoldable pub batch_read_blobs_request_of : List Record →
     Result BatchReadBlobsRequestValue MessageError

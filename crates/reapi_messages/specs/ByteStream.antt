@@ -9,7 +9,6 @@ use Rattle.protobuf_wire.specs.Fields.{flag, int64, octets, string}
 use Rattle.protobuf_wire.specs.Parts.{flag_field, int64_field, string_field}
 use Rattle.protobuf_wire.specs.Writing.{bytes_field}
 use Rattle.reapi_messages.specs.declared.byte_stream.ReadRequest.{ReadRequest}
-use Rattle.reapi_messages.specs.declared.byte_stream.ReadResponse.{ReadResponse}
 use Rattle.reapi_messages.specs.declared.byte_stream.WriteRequest.{WriteRequest}
 use Rattle.reapi_messages.specs.declared.byte_stream.WriteResponse.{WriteResponse}
 use Rattle.reapi_messages.specs.declared.byte_stream.QueryWriteStatusRequest.{QueryWriteStatusRequest}
@@ -40,9 +39,6 @@ read_request_records v =
 -- data 10
 pub record ReadResponseValue : Type 0 where
   pub content : List ℕ
-
-abbrev pub read_response_shown : ReadResponse → ReadResponseValue
-read_response_shown m = record { content = m.content.now }
 
 unfoldable pub read_response_of : List Record → Result ReadResponseValue MessageError
 read_response_of rs = Ok (record { content = octets 10 rs })

@@ -9,7 +9,6 @@ use Rattle.protobuf_wire.specs.Record.{Record}
 use Rattle.protobuf_wire.specs.Fields.{string, int32, repeated_values}
 use Rattle.protobuf_wire.specs.Parts.{string_field, int32_field, repeated_field}
 use Rattle.reapi_messages.specs.declared.find_missing.FindMissingBlobsRequest.{FindMissingBlobsRequest}
-use Rattle.reapi_messages.specs.declared.find_missing.FindMissingBlobsResponse.{FindMissingBlobsResponse}
 use Rattle.reapi_messages.specs.Digests.{DigestValue, FitsDigest, digest_shown, digest_of, digest_records}
 
 -- instance_name 1, blob_digests 2 repeated, digest_function 3
@@ -44,11 +43,6 @@ find_missing_blobs_request_records v =
 -- missing_blob_digests 2 repeated
 pub record FindMissingBlobsResponseValue : Type 0 where
   pub missing_blob_digests : List DigestValue
-
-abbrev pub find_missing_blobs_response_shown : FindMissingBlobsResponse →
-    FindMissingBlobsResponseValue
-find_missing_blobs_response_shown m =
-    record { missing_blob_digests = map digest_shown m.missing_blob_digests.items }
 
 unfoldable pub find_missing_blobs_response_of : List Record →
     Result FindMissingBlobsResponseValue MessageError

@@ -1,12 +1,13 @@
-//! BatchUpdateBlobs and BatchReadBlobs of the ContentAddressableStorage service.
+//! BatchUpdateBlobs and BatchReadBlobs of the ContentAddressableStorage service: the messages that
+//! are read or written as one value.
 
 ghost use Rattle.std.specs.Prelude.{◌≡◌};
 
 use crate::digest::Digest;
 use crate::status::Status;
 use protobuf_wire::{
-    Field, Message, MessageError, Pieces, Writer, embedded, int32, octets, put_embedded, put_int32,
-    put_octets, put_pieces, put_repeated, put_string, repeated, string,
+    Decode, Field, Message, MessageError, Pieces, Writer, embedded, int32, octets, put_embedded,
+    put_int32, put_octets, put_pieces, put_repeated, put_string,
 };
 use std::alloc::{AllocError, Global};
 
@@ -20,7 +21,7 @@ pub struct UpdateBlobRequest<'a> {
     pub compressor: i32,
 }
 
-impl<'a> Message<'a> for UpdateBlobRequest<'a> {
+impl Message for UpdateBlobRequest<'_> {
     ghost use Rattle.reapi_messages.specs.Batches.{UpdateBlobRequestValue, update_blob_request_shown, update_blob_request_of, update_blob_request_records};
 
     ghost Value = { UpdateBlobRequestValue };
@@ -31,15 +32,6 @@ impl<'a> Message<'a> for UpdateBlobRequest<'a> {
 
     ghost records_for = { update_blob_request_records };
 
-    #[tactic(auto, unfolding(crate::specs::Batches::update_blob_request_of))]
-    fn of_fields(alloc: Global, fields: &[Field<'a>]) -> Result<Self, MessageError> {
-        Ok(UpdateBlobRequest {
-            digest: embedded(alloc, fields, 1)?,
-            content: octets(fields, 2),
-            compressor: int32(fields, 3),
-        })
-    }
-
     #[tactic(auto, using(crate::proofs::Texts::written_more))]
     fn write(&self, writer: &mut Writer) -> Result<(), AllocError> {
         put_embedded(writer, 1, &self.digest)?;
@@ -48,8 +40,19 @@ impl<'a> Message<'a> for UpdateBlobRequest<'a> {
     }
 }
 
+impl<'a> Decode<'a> for UpdateBlobRequest<'a> {
+    #[tactic(auto, unfolding(crate::specs::Batches::update_blob_request_of))]
+    fn of_fields(alloc: Global, fields: &[Field<'a>]) -> Result<Self, MessageError> {
+        Ok(UpdateBlobRequest {
+            digest: embedded(alloc, fields, 1)?,
+            content: octets(fields, 2),
+            compressor: int32(fields, 3),
+        })
+    }
+}
+
 /// `build.bazel.remote.execution.v2.BatchUpdateBlobsRequest`.
-#[derive(Drop)]
+#[derive(Drop, Debug)]
 pub struct BatchUpdateBlobsRequest<'a> {
     pub instance_name: &'a str,
     pub requests: Vec<UpdateBlobRequest<'a>>,
@@ -57,7 +60,7 @@ pub struct BatchUpdateBlobsRequest<'a> {
     pub digest_function: i32,
 }
 
-impl<'a> Message<'a> for BatchUpdateBlobsRequest<'a> {
+impl Message for BatchUpdateBlobsRequest<'_> {
     ghost use Rattle.reapi_messages.specs.Batches.{BatchUpdateBlobsRequestValue, batch_update_blobs_request_shown, batch_update_blobs_request_of, batch_update_blobs_request_records};
 
     ghost Value = { BatchUpdateBlobsRequestValue };
@@ -68,15 +71,6 @@ impl<'a> Message<'a> for BatchUpdateBlobsRequest<'a> {
 
     ghost records_for = { batch_update_blobs_request_records };
 
-    #[tactic(auto, unfolding(crate::specs::Batches::batch_update_blobs_request_of))]
-    fn of_fields(alloc: Global, fields: &[Field<'a>]) -> Result<Self, MessageError> {
-        Ok(BatchUpdateBlobsRequest {
-            instance_name: string(fields, 1)?,
-            requests: repeated(alloc, fields, 2)?,
-            digest_function: int32(fields, 5),
-        })
-    }
-
     #[tactic(auto, using(crate::proofs::Texts::written_more))]
     fn write(&self, writer: &mut Writer) -> Result<(), AllocError> {
         put_string(writer, 1, self.instance_name)?;
@@ -85,117 +79,16 @@ impl<'a> Message<'a> for BatchUpdateBlobsRequest<'a> {
     }
 }
 
-/// `build.bazel.remote.execution.v2.BatchUpdateBlobsResponse.Response`.
-#[derive(Drop)]
-pub struct UpdateBlobResponse<'a> {
-    pub digest: Option<Digest<'a>>,
-    pub status: Option<Status<'a>>,
-}
-
-impl<'a> Message<'a> for UpdateBlobResponse<'a> {
-    ghost use Rattle.reapi_messages.specs.Batches.{UpdateBlobResponseValue, update_blob_response_shown, update_blob_response_of, update_blob_response_records};
-
-    ghost Value = { UpdateBlobResponseValue };
-
-    ghost shown = { update_blob_response_shown };
-
-    ghost value_of = { update_blob_response_of };
-
-    ghost records_for = { update_blob_response_records };
-
-    #[tactic(auto, unfolding(crate::specs::Batches::update_blob_response_of))]
-    fn of_fields(alloc: Global, fields: &[Field<'a>]) -> Result<Self, MessageError> {
-        Ok(UpdateBlobResponse {
-            digest: embedded(alloc, fields, 1)?,
-            status: embedded(alloc, fields, 2)?,
-        })
-    }
-
-    #[tactic(auto, using(crate::proofs::Texts::written_more))]
-    fn write(&self, writer: &mut Writer) -> Result<(), AllocError> {
-        put_embedded(writer, 1, &self.digest)?;
-        put_embedded(writer, 2, &self.status)
-    }
-}
-
-/// `build.bazel.remote.execution.v2.BatchUpdateBlobsResponse`.
-#[derive(Drop)]
-pub struct BatchUpdateBlobsResponse<'a> {
-    pub responses: Vec<UpdateBlobResponse<'a>>,
-}
-
-impl<'a> Message<'a> for BatchUpdateBlobsResponse<'a> {
-    ghost use Rattle.reapi_messages.specs.Batches.{BatchUpdateBlobsResponseValue, batch_update_blobs_response_shown, batch_update_blobs_response_of, batch_update_blobs_response_records};
-
-    ghost Value = { BatchUpdateBlobsResponseValue };
-
-    ghost shown = { batch_update_blobs_response_shown };
-
-    ghost value_of = { batch_update_blobs_response_of };
-
-    ghost records_for = { batch_update_blobs_response_records };
-
-    #[tactic(auto, unfolding(crate::specs::Batches::batch_update_blobs_response_of))]
-    fn of_fields(alloc: Global, fields: &[Field<'a>]) -> Result<Self, MessageError> {
-        Ok(BatchUpdateBlobsResponse {
-            responses: repeated(alloc, fields, 1)?,
-        })
-    }
-
-    #[tactic(auto, using(crate::proofs::Texts::written_more))]
-    fn write(&self, writer: &mut Writer) -> Result<(), AllocError> {
-        put_repeated(writer, 1, &self.responses)
-    }
-}
-
-/// `build.bazel.remote.execution.v2.BatchReadBlobsRequest`. The field `acceptable_compressors` is
-/// skipped.
-#[derive(Drop)]
-pub struct BatchReadBlobsRequest<'a> {
-    pub instance_name: &'a str,
-    pub digests: Vec<Digest<'a>>,
-    /// A number of the enum `DigestFunction.Value`; 0 where it is not set.
-    pub digest_function: i32,
-}
-
-impl<'a> Message<'a> for BatchReadBlobsRequest<'a> {
-    ghost use Rattle.reapi_messages.specs.Batches.{BatchReadBlobsRequestValue, batch_read_blobs_request_shown, batch_read_blobs_request_of, batch_read_blobs_request_records};
-
-    ghost Value = { BatchReadBlobsRequestValue };
-
-    ghost shown = { batch_read_blobs_request_shown };
-
-    ghost value_of = { batch_read_blobs_request_of };
-
-    ghost records_for = { batch_read_blobs_request_records };
-
-    #[tactic(auto, unfolding(crate::specs::Batches::batch_read_blobs_request_of))]
-    fn of_fields(alloc: Global, fields: &[Field<'a>]) -> Result<Self, MessageError> {
-        Ok(BatchReadBlobsRequest {
-            instance_name: string(fields, 1)?,
-            digests: repeated(alloc, fields, 2)?,
-            digest_function: int32(fields, 4),
-        })
-    }
-
-    #[tactic(auto, using(crate::proofs::Texts::written_more))]
-    fn write(&self, writer: &mut Writer) -> Result<(), AllocError> {
-        put_string(writer, 1, self.instance_name)?;
-        put_repeated(writer, 2, &self.digests)?;
-        put_int32(writer, 4, self.digest_function)
-    }
-}
-
 /// `build.bazel.remote.execution.v2.BatchReadBlobsResponse.Response`.
-#[derive(Drop)]
+#[derive(Drop, Debug)]
 pub struct ReadBlobResponse<'a> {
     pub digest: Option<Digest<'a>>,
-    /// The field `data`. It is read as one piece.
+    /// The field `data`.
     pub content: Pieces<'a>,
     pub status: Option<Status<'a>>,
 }
 
-impl<'a> Message<'a> for ReadBlobResponse<'a> {
+impl Message for ReadBlobResponse<'_> {
     ghost use Rattle.reapi_messages.specs.Batches.{ReadBlobResponseValue, read_blob_response_shown, read_blob_response_of, read_blob_response_records};
 
     ghost Value = { ReadBlobResponseValue };
@@ -206,15 +99,6 @@ impl<'a> Message<'a> for ReadBlobResponse<'a> {
 
     ghost records_for = { read_blob_response_records };
 
-    #[tactic(auto, unfolding(crate::specs::Batches::read_blob_response_of))]
-    fn of_fields(alloc: Global, fields: &[Field<'a>]) -> Result<Self, MessageError> {
-        Ok(ReadBlobResponse {
-            digest: embedded(alloc, fields, 1)?,
-            content: Pieces::One(octets(fields, 2)),
-            status: embedded(alloc, fields, 3)?,
-        })
-    }
-
     #[tactic(auto, using(crate::proofs::Texts::written_more))]
     fn write(&self, writer: &mut Writer) -> Result<(), AllocError> {
         put_embedded(writer, 1, &self.digest)?;
@@ -224,12 +108,12 @@ impl<'a> Message<'a> for ReadBlobResponse<'a> {
 }
 
 /// `build.bazel.remote.execution.v2.BatchReadBlobsResponse`.
-#[derive(Drop)]
+#[derive(Drop, Debug)]
 pub struct BatchReadBlobsResponse<'a> {
     pub responses: Vec<ReadBlobResponse<'a>>,
 }
 
-impl<'a> Message<'a> for BatchReadBlobsResponse<'a> {
+impl Message for BatchReadBlobsResponse<'_> {
     ghost use Rattle.reapi_messages.specs.Batches.{BatchReadBlobsResponseValue, batch_read_blobs_response_shown, batch_read_blobs_response_of, batch_read_blobs_response_records};
 
     ghost Value = { BatchReadBlobsResponseValue };
@@ -239,13 +123,6 @@ impl<'a> Message<'a> for BatchReadBlobsResponse<'a> {
     ghost value_of = { batch_read_blobs_response_of };
 
     ghost records_for = { batch_read_blobs_response_records };
-
-    #[tactic(auto, unfolding(crate::specs::Batches::batch_read_blobs_response_of))]
-    fn of_fields(alloc: Global, fields: &[Field<'a>]) -> Result<Self, MessageError> {
-        Ok(BatchReadBlobsResponse {
-            responses: repeated(alloc, fields, 1)?,
-        })
-    }
 
     #[tactic(auto, using(crate::proofs::Texts::written_more))]
     fn write(&self, writer: &mut Writer) -> Result<(), AllocError> {

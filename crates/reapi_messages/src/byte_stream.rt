@@ -3,8 +3,8 @@
 ghost use Rattle.std.specs.Prelude.{◌≡◌};
 
 use protobuf_wire::{
-    Field, Message, MessageError, Writer, flag, int64, octets, put_flag, put_int64, put_octets,
-    put_string, string,
+    Decode, Field, Message, MessageError, Writer, flag, int64, octets, put_flag, put_int64,
+    put_octets, put_string, string,
 };
 use std::alloc::{AllocError, Global};
 
@@ -18,7 +18,7 @@ pub struct ReadRequest<'a> {
     pub read_limit: i64,
 }
 
-impl<'a> Message<'a> for ReadRequest<'a> {
+impl Message for ReadRequest<'_> {
     ghost use Rattle.reapi_messages.specs.ByteStream.{ReadRequestValue, read_request_shown, read_request_of, read_request_records};
 
     ghost Value = { ReadRequestValue };
@@ -29,15 +29,6 @@ impl<'a> Message<'a> for ReadRequest<'a> {
 
     ghost records_for = { read_request_records };
 
-    #[tactic(auto, unfolding(crate::specs::ByteStream::read_request_of))]
-    fn of_fields(_alloc: Global, fields: &[Field<'a>]) -> Result<Self, MessageError> {
-        Ok(ReadRequest {
-            resource_name: string(fields, 1)?,
-            read_offset: int64(fields, 2),
-            read_limit: int64(fields, 3),
-        })
-    }
-
     #[tactic(auto, using(crate::proofs::Texts::written_more))]
     fn write(&self, writer: &mut Writer) -> Result<(), AllocError> {
         put_string(writer, 1, self.resource_name)?;
@@ -46,34 +37,14 @@ impl<'a> Message<'a> for ReadRequest<'a> {
     }
 }
 
-/// `google.bytestream.ReadResponse`.
-#[derive(Clone, Copy, Debug)]
-pub struct ReadResponse<'a> {
-    /// The field `data`.
-    pub content: &'a [u8],
-}
-
-impl<'a> Message<'a> for ReadResponse<'a> {
-    ghost use Rattle.reapi_messages.specs.ByteStream.{ReadResponseValue, read_response_shown, read_response_of, read_response_records};
-
-    ghost Value = { ReadResponseValue };
-
-    ghost shown = { read_response_shown };
-
-    ghost value_of = { read_response_of };
-
-    ghost records_for = { read_response_records };
-
-    #[tactic(auto, unfolding(crate::specs::ByteStream::read_response_of))]
+impl<'a> Decode<'a> for ReadRequest<'a> {
+    #[tactic(auto, unfolding(crate::specs::ByteStream::read_request_of))]
     fn of_fields(_alloc: Global, fields: &[Field<'a>]) -> Result<Self, MessageError> {
-        Ok(ReadResponse {
-            content: octets(fields, 10),
+        Ok(ReadRequest {
+            resource_name: string(fields, 1)?,
+            read_offset: int64(fields, 2),
+            read_limit: int64(fields, 3),
         })
-    }
-
-    #[tactic(auto, using(crate::proofs::Texts::written_more))]
-    fn write(&self, writer: &mut Writer) -> Result<(), AllocError> {
-        put_octets(writer, 10, self.content)
     }
 }
 
@@ -90,7 +61,7 @@ pub struct WriteRequest<'a> {
     pub content: &'a [u8],
 }
 
-impl<'a> Message<'a> for WriteRequest<'a> {
+impl Message for WriteRequest<'_> {
     ghost use Rattle.reapi_messages.specs.ByteStream.{WriteRequestValue, write_request_shown, write_request_of, write_request_records};
 
     ghost Value = { WriteRequestValue };
@@ -101,6 +72,16 @@ impl<'a> Message<'a> for WriteRequest<'a> {
 
     ghost records_for = { write_request_records };
 
+    #[tactic(auto, using(crate::proofs::Texts::written_more))]
+    fn write(&self, writer: &mut Writer) -> Result<(), AllocError> {
+        put_string(writer, 1, self.resource_name)?;
+        put_int64(writer, 2, self.write_offset)?;
+        put_flag(writer, 3, self.finish_write)?;
+        put_octets(writer, 10, self.content)
+    }
+}
+
+impl<'a> Decode<'a> for WriteRequest<'a> {
     #[tactic(auto, unfolding(crate::specs::ByteStream::write_request_of))]
     fn of_fields(_alloc: Global, fields: &[Field<'a>]) -> Result<Self, MessageError> {
         Ok(WriteRequest {
@@ -109,14 +90,6 @@ impl<'a> Message<'a> for WriteRequest<'a> {
             finish_write: flag(fields, 3),
             content: octets(fields, 10),
         })
-    }
-
-    #[tactic(auto, using(crate::proofs::Texts::written_more))]
-    fn write(&self, writer: &mut Writer) -> Result<(), AllocError> {
-        put_string(writer, 1, self.resource_name)?;
-        put_int64(writer, 2, self.write_offset)?;
-        put_flag(writer, 3, self.finish_write)?;
-        put_octets(writer, 10, self.content)
     }
 }
 
@@ -127,7 +100,7 @@ pub struct WriteResponse {
     pub committed_size: i64,
 }
 
-impl<'a> Message<'a> for WriteResponse {
+impl Message for WriteResponse {
     ghost use Rattle.reapi_messages.specs.ByteStream.{WriteResponseValue, write_response_shown, write_response_of, write_response_records};
 
     ghost Value = { WriteResponseValue };
@@ -137,13 +110,6 @@ impl<'a> Message<'a> for WriteResponse {
     ghost value_of = { write_response_of };
 
     ghost records_for = { write_response_records };
-
-    #[tactic(auto, unfolding(crate::specs::ByteStream::write_response_of))]
-    fn of_fields(_alloc: Global, fields: &[Field<'a>]) -> Result<Self, MessageError> {
-        Ok(WriteResponse {
-            committed_size: int64(fields, 1),
-        })
-    }
 
     #[tactic(auto, using(crate::proofs::Texts::written_more))]
     fn write(&self, writer: &mut Writer) -> Result<(), AllocError> {
@@ -157,7 +123,7 @@ pub struct QueryWriteStatusRequest<'a> {
     pub resource_name: &'a str,
 }
 
-impl<'a> Message<'a> for QueryWriteStatusRequest<'a> {
+impl Message for QueryWriteStatusRequest<'_> {
     ghost use Rattle.reapi_messages.specs.ByteStream.{QueryWriteStatusRequestValue, query_write_status_request_shown, query_write_status_request_of, query_write_status_request_records};
 
     ghost Value = { QueryWriteStatusRequestValue };
@@ -168,16 +134,18 @@ impl<'a> Message<'a> for QueryWriteStatusRequest<'a> {
 
     ghost records_for = { query_write_status_request_records };
 
+    #[tactic(auto, using(crate::proofs::Texts::written_more))]
+    fn write(&self, writer: &mut Writer) -> Result<(), AllocError> {
+        put_string(writer, 1, self.resource_name)
+    }
+}
+
+impl<'a> Decode<'a> for QueryWriteStatusRequest<'a> {
     #[tactic(auto, unfolding(crate::specs::ByteStream::query_write_status_request_of))]
     fn of_fields(_alloc: Global, fields: &[Field<'a>]) -> Result<Self, MessageError> {
         Ok(QueryWriteStatusRequest {
             resource_name: string(fields, 1)?,
         })
-    }
-
-    #[tactic(auto, using(crate::proofs::Texts::written_more))]
-    fn write(&self, writer: &mut Writer) -> Result<(), AllocError> {
-        put_string(writer, 1, self.resource_name)
     }
 }
 
@@ -189,7 +157,7 @@ pub struct QueryWriteStatusResponse {
     pub complete: bool,
 }
 
-impl<'a> Message<'a> for QueryWriteStatusResponse {
+impl Message for QueryWriteStatusResponse {
     ghost use Rattle.reapi_messages.specs.ByteStream.{QueryWriteStatusResponseValue, query_write_status_response_shown, query_write_status_response_of, query_write_status_response_records};
 
     ghost Value = { QueryWriteStatusResponseValue };
@@ -199,14 +167,6 @@ impl<'a> Message<'a> for QueryWriteStatusResponse {
     ghost value_of = { query_write_status_response_of };
 
     ghost records_for = { query_write_status_response_records };
-
-    #[tactic(auto, unfolding(crate::specs::ByteStream::query_write_status_response_of))]
-    fn of_fields(_alloc: Global, fields: &[Field<'a>]) -> Result<Self, MessageError> {
-        Ok(QueryWriteStatusResponse {
-            committed_size: int64(fields, 1),
-            complete: flag(fields, 2),
-        })
-    }
 
     #[tactic(auto, using(crate::proofs::Texts::written_more))]
     fn write(&self, writer: &mut Writer) -> Result<(), AllocError> {

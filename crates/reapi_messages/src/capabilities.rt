@@ -3,8 +3,8 @@
 ghost use Rattle.std.specs.Prelude.{◌≡◌};
 
 use protobuf_wire::{
-    Field, Message, MessageError, Writer, embedded, flag, int32, int64, put_embedded, put_flag,
-    put_int32, put_int64, put_repeated_enum, put_string, repeated_enum, string,
+    Decode, Field, Message, MessageError, Writer, put_embedded, put_flag, put_int32, put_int64,
+    put_repeated_enum, put_string, string,
 };
 use std::alloc::{AllocError, Global};
 
@@ -14,7 +14,7 @@ pub struct GetCapabilitiesRequest<'a> {
     pub instance_name: &'a str,
 }
 
-impl<'a> Message<'a> for GetCapabilitiesRequest<'a> {
+impl Message for GetCapabilitiesRequest<'_> {
     ghost use Rattle.reapi_messages.specs.Capabilities.{GetCapabilitiesRequestValue, get_capabilities_request_shown, get_capabilities_request_of, get_capabilities_request_records};
 
     ghost Value = { GetCapabilitiesRequestValue };
@@ -25,16 +25,18 @@ impl<'a> Message<'a> for GetCapabilitiesRequest<'a> {
 
     ghost records_for = { get_capabilities_request_records };
 
+    #[tactic(auto, using(crate::proofs::Texts::written_more))]
+    fn write(&self, writer: &mut Writer) -> Result<(), AllocError> {
+        put_string(writer, 1, self.instance_name)
+    }
+}
+
+impl<'a> Decode<'a> for GetCapabilitiesRequest<'a> {
     #[tactic(auto, unfolding(crate::specs::Capabilities::get_capabilities_request_of))]
     fn of_fields(_alloc: Global, fields: &[Field<'a>]) -> Result<Self, MessageError> {
         Ok(GetCapabilitiesRequest {
             instance_name: string(fields, 1)?,
         })
-    }
-
-    #[tactic(auto, using(crate::proofs::Texts::written_more))]
-    fn write(&self, writer: &mut Writer) -> Result<(), AllocError> {
-        put_string(writer, 1, self.instance_name)
     }
 }
 
@@ -45,7 +47,7 @@ pub struct SemVer {
     pub minor: i32,
 }
 
-impl<'a> Message<'a> for SemVer {
+impl Message for SemVer {
     ghost use Rattle.reapi_messages.specs.Capabilities.{SemVerValue, sem_ver_shown, sem_ver_of, sem_ver_records};
 
     ghost Value = { SemVerValue };
@@ -55,14 +57,6 @@ impl<'a> Message<'a> for SemVer {
     ghost value_of = { sem_ver_of };
 
     ghost records_for = { sem_ver_records };
-
-    #[tactic(auto, unfolding(crate::specs::Capabilities::sem_ver_of))]
-    fn of_fields(_alloc: Global, fields: &[Field<'a>]) -> Result<Self, MessageError> {
-        Ok(SemVer {
-            major: int32(fields, 1),
-            minor: int32(fields, 2),
-        })
-    }
 
     #[tactic(auto, using(crate::proofs::Texts::written_more))]
     fn write(&self, writer: &mut Writer) -> Result<(), AllocError> {
@@ -77,7 +71,7 @@ pub struct ActionCacheUpdateCapabilities {
     pub update_enabled: bool,
 }
 
-impl<'a> Message<'a> for ActionCacheUpdateCapabilities {
+impl Message for ActionCacheUpdateCapabilities {
     ghost use Rattle.reapi_messages.specs.Capabilities.{ActionCacheUpdateCapabilitiesValue, action_cache_update_capabilities_shown, action_cache_update_capabilities_of, action_cache_update_capabilities_records};
 
     ghost Value = { ActionCacheUpdateCapabilitiesValue };
@@ -88,13 +82,6 @@ impl<'a> Message<'a> for ActionCacheUpdateCapabilities {
 
     ghost records_for = { action_cache_update_capabilities_records };
 
-    #[tactic(auto, unfolding(crate::specs::Capabilities::action_cache_update_capabilities_of))]
-    fn of_fields(_alloc: Global, fields: &[Field<'a>]) -> Result<Self, MessageError> {
-        Ok(ActionCacheUpdateCapabilities {
-            update_enabled: flag(fields, 1),
-        })
-    }
-
     #[tactic(auto, using(crate::proofs::Texts::written_more))]
     fn write(&self, writer: &mut Writer) -> Result<(), AllocError> {
         put_flag(writer, 1, self.update_enabled)
@@ -102,7 +89,7 @@ impl<'a> Message<'a> for ActionCacheUpdateCapabilities {
 }
 
 /// `build.bazel.remote.execution.v2.CacheCapabilities`.
-#[derive(Drop)]
+#[derive(Drop, Debug)]
 pub struct CacheCapabilities {
     /// Numbers of the enum `DigestFunction.Value`.
     pub digest_functions: Vec<i32>,
@@ -113,7 +100,7 @@ pub struct CacheCapabilities {
     pub symlink_absolute_path_strategy: i32,
 }
 
-impl<'a> Message<'a> for CacheCapabilities {
+impl Message for CacheCapabilities {
     ghost use Rattle.reapi_messages.specs.Capabilities.{CacheCapabilitiesValue, cache_capabilities_shown, cache_capabilities_of, cache_capabilities_records};
 
     ghost Value = { CacheCapabilitiesValue };
@@ -123,16 +110,6 @@ impl<'a> Message<'a> for CacheCapabilities {
     ghost value_of = { cache_capabilities_of };
 
     ghost records_for = { cache_capabilities_records };
-
-    #[tactic(auto, unfolding(crate::specs::Capabilities::cache_capabilities_of))]
-    fn of_fields(alloc: Global, fields: &[Field<'a>]) -> Result<Self, MessageError> {
-        Ok(CacheCapabilities {
-            digest_functions: repeated_enum(alloc, fields, 1)?,
-            action_cache_update_capabilities: embedded(alloc, fields, 2)?,
-            max_batch_total_size_bytes: int64(fields, 4),
-            symlink_absolute_path_strategy: int32(fields, 5),
-        })
-    }
 
     #[tactic(auto, using(crate::proofs::Texts::written_more))]
     fn write(&self, writer: &mut Writer) -> Result<(), AllocError> {
@@ -151,7 +128,7 @@ pub struct ExecutionCapabilities {
     pub exec_enabled: bool,
 }
 
-impl<'a> Message<'a> for ExecutionCapabilities {
+impl Message for ExecutionCapabilities {
     ghost use Rattle.reapi_messages.specs.Capabilities.{ExecutionCapabilitiesValue, execution_capabilities_shown, execution_capabilities_of, execution_capabilities_records};
 
     ghost Value = { ExecutionCapabilitiesValue };
@@ -162,14 +139,6 @@ impl<'a> Message<'a> for ExecutionCapabilities {
 
     ghost records_for = { execution_capabilities_records };
 
-    #[tactic(auto, unfolding(crate::specs::Capabilities::execution_capabilities_of))]
-    fn of_fields(_alloc: Global, fields: &[Field<'a>]) -> Result<Self, MessageError> {
-        Ok(ExecutionCapabilities {
-            digest_function: int32(fields, 1),
-            exec_enabled: flag(fields, 2),
-        })
-    }
-
     #[tactic(auto, using(crate::proofs::Texts::written_more))]
     fn write(&self, writer: &mut Writer) -> Result<(), AllocError> {
         put_int32(writer, 1, self.digest_function)?;
@@ -178,7 +147,7 @@ impl<'a> Message<'a> for ExecutionCapabilities {
 }
 
 /// `build.bazel.remote.execution.v2.ServerCapabilities`.
-#[derive(Drop)]
+#[derive(Drop, Debug)]
 pub struct ServerCapabilities {
     pub cache_capabilities: Option<CacheCapabilities>,
     pub execution_capabilities: Option<ExecutionCapabilities>,
@@ -186,7 +155,7 @@ pub struct ServerCapabilities {
     pub high_api_version: Option<SemVer>,
 }
 
-impl<'a> Message<'a> for ServerCapabilities {
+impl Message for ServerCapabilities {
     ghost use Rattle.reapi_messages.specs.Capabilities.{ServerCapabilitiesValue, server_capabilities_shown, server_capabilities_of, server_capabilities_records};
 
     ghost Value = { ServerCapabilitiesValue };
@@ -196,16 +165,6 @@ impl<'a> Message<'a> for ServerCapabilities {
     ghost value_of = { server_capabilities_of };
 
     ghost records_for = { server_capabilities_records };
-
-    #[tactic(auto, unfolding(crate::specs::Capabilities::server_capabilities_of))]
-    fn of_fields(alloc: Global, fields: &[Field<'a>]) -> Result<Self, MessageError> {
-        Ok(ServerCapabilities {
-            cache_capabilities: embedded(alloc, fields, 1)?,
-            execution_capabilities: embedded(alloc, fields, 2)?,
-            low_api_version: embedded(alloc, fields, 4)?,
-            high_api_version: embedded(alloc, fields, 5)?,
-        })
-    }
 
     #[tactic(auto, using(crate::proofs::Texts::written_more))]
     fn write(&self, writer: &mut Writer) -> Result<(), AllocError> {

@@ -2,7 +2,9 @@
 
 ghost use Rattle.std.specs.Prelude.{◌≡◌};
 
-use protobuf_wire::{Field, Message, MessageError, Writer, int64, put_int64, put_string, string};
+use protobuf_wire::{
+    Decode, Field, Message, MessageError, Writer, int64, put_int64, put_string, string,
+};
 use std::alloc::{AllocError, Global};
 
 /// `build.bazel.remote.execution.v2.Digest`, as it was sent: neither field is checked.
@@ -13,7 +15,7 @@ pub struct Digest<'a> {
     pub size_bytes: i64,
 }
 
-impl<'a> Message<'a> for Digest<'a> {
+impl Message for Digest<'_> {
     ghost use Rattle.reapi_messages.specs.Digests.{DigestValue, digest_shown, digest_of, digest_records};
 
     ghost Value = { DigestValue };
@@ -24,17 +26,19 @@ impl<'a> Message<'a> for Digest<'a> {
 
     ghost records_for = { digest_records };
 
+    #[tactic(auto, using(crate::proofs::Texts::written_more))]
+    fn write(&self, writer: &mut Writer) -> Result<(), AllocError> {
+        put_string(writer, 1, self.hash)?;
+        put_int64(writer, 2, self.size_bytes)
+    }
+}
+
+impl<'a> Decode<'a> for Digest<'a> {
     #[tactic(auto, unfolding(crate::specs::Digests::digest_of))]
     fn of_fields(_alloc: Global, fields: &[Field<'a>]) -> Result<Self, MessageError> {
         Ok(Digest {
             hash: string(fields, 1)?,
             size_bytes: int64(fields, 2),
         })
-    }
-
-    #[tactic(auto, using(crate::proofs::Texts::written_more))]
-    fn write(&self, writer: &mut Writer) -> Result<(), AllocError> {
-        put_string(writer, 1, self.hash)?;
-        put_int64(writer, 2, self.size_bytes)
     }
 }

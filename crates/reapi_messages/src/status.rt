@@ -2,10 +2,7 @@
 
 ghost use Rattle.std.specs.Prelude.{◌≡◌};
 
-use protobuf_wire::{
-    Field, Message, MessageError, Writer, int32, octets, put_int32, put_octets, put_repeated,
-    put_string, repeated, string,
-};
+use protobuf_wire::{Message, Writer, put_int32, put_octets, put_repeated, put_string};
 use std::alloc::{AllocError, Global};
 
 /// `google.protobuf.Any`.
@@ -16,7 +13,7 @@ pub struct Any<'a> {
     pub value: &'a [u8],
 }
 
-impl<'a> Message<'a> for Any<'a> {
+impl Message for Any<'_> {
     ghost use Rattle.reapi_messages.specs.Statuses.{AnyValue, any_shown, any_of, any_records};
 
     ghost Value = { AnyValue };
@@ -27,14 +24,6 @@ impl<'a> Message<'a> for Any<'a> {
 
     ghost records_for = { any_records };
 
-    #[tactic(auto, unfolding(crate::specs::Statuses::any_of))]
-    fn of_fields(_alloc: Global, fields: &[Field<'a>]) -> Result<Self, MessageError> {
-        Ok(Any {
-            type_url: string(fields, 1)?,
-            value: octets(fields, 2),
-        })
-    }
-
     #[tactic(auto, using(crate::proofs::Texts::written_more))]
     fn write(&self, writer: &mut Writer) -> Result<(), AllocError> {
         put_string(writer, 1, self.type_url)?;
@@ -43,7 +32,7 @@ impl<'a> Message<'a> for Any<'a> {
 }
 
 /// `google.rpc.Status`.
-#[derive(Drop)]
+#[derive(Drop, Debug)]
 pub struct Status<'a> {
     /// A number of the enum `google.rpc.Code`; 0 is OK.
     pub code: i32,
@@ -51,7 +40,7 @@ pub struct Status<'a> {
     pub details: Vec<Any<'a>>,
 }
 
-impl<'a> Message<'a> for Status<'a> {
+impl Message for Status<'_> {
     ghost use Rattle.reapi_messages.specs.Statuses.{StatusValue, status_shown, status_of, status_records};
 
     ghost Value = { StatusValue };
@@ -61,15 +50,6 @@ impl<'a> Message<'a> for Status<'a> {
     ghost value_of = { status_of };
 
     ghost records_for = { status_records };
-
-    #[tactic(auto, unfolding(crate::specs::Statuses::status_of))]
-    fn of_fields(alloc: Global, fields: &[Field<'a>]) -> Result<Self, MessageError> {
-        Ok(Status {
-            code: int32(fields, 1),
-            message: string(fields, 2)?,
-            details: repeated(alloc, fields, 3)?,
-        })
-    }
 
     #[tactic(auto, using(crate::proofs::Texts::written_more))]
     fn write(&self, writer: &mut Writer) -> Result<(), AllocError> {

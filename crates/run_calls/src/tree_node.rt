@@ -21,7 +21,7 @@ pub enum NodeKind<T> {
 #[derive(Drop)]
 pub struct Node<T> {
     /// Its name in the directory that it stands in. The places at which a directory stands share the
-    /// names in it.
+    /// names in it, from the second one on.
     pub name: RcStr,
     /// The number of directories from the root on in which it stands: 1 in the root itself.
     pub level: usize,

@@ -43,7 +43,7 @@ pub(crate) enum Doing {
 }
 
 /// Whether a call failed since a process has gone.
-pub(crate) fn is_gone(error: &io::Error) -> bool {
+fn is_gone(error: &io::Error) -> bool {
     error.kind() == ErrorKind::NotFound || error.raw_os_error() == Some(NO_PROCESS)
 }
 

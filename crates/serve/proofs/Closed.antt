@@ -1,8 +1,7 @@
 -- What was served before a connection was closed.
-use Rattle.std.proofs.Common.{◌≡◌, ℕ, List, [], ◌∷◌, ◌++◌, map, refl, ap, subst}
+use Rattle.std.proofs.Common.{◌≡◌, ℕ, List, [], ◌∷◌, ◌++◌, map, refl, subst}
 use Rattle.std.specs.Prelude.{fold, Bool, Option}
 use Rattle.server_events.specs.Configs.{ConfigValue, parents_of}
-use Rattle.execution.specs.Orders.{OrderValue}
 use Rattle.serve.specs.SocketEvents.{SocketEvent, port, shut}
 use Rattle.serve.specs.RunEvents.{RunEvent}
 use Rattle.serve.specs.Happenings.{MarkedHappening, at_sockets, moment_then, sockets_on, sockets_then}

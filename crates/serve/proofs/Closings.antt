@@ -1,6 +1,6 @@
 -- For which reason a connection is closed.
-use Rattle.std.proofs.Common.{◌≡◌, ◌≢◌, ℕ, ◌<◌, ◌≤◌, ◌-◌, List, [], ◌∷◌, ◌++◌, map, length, take, get_or, refl, ap, ◌∙◌, sym, subst, arith, inl, inr, append-nil, append_assoc}
-use Rattle.std.specs.Prelude.{◌⊎◌, ◌==◌, min, Bool, true, false, cond, nat_le, nat_lt, is_some, Option, Some, None, IfSome, IfErr, IsSomeAnd, Result, Ok, Err, slice_get}
+use Rattle.std.proofs.Common.{◌≡◌, ◌≢◌, ℕ, ◌<◌, ◌≤◌, ◌-◌, List, [], ◌∷◌, ◌++◌, map, length, take, get_or, refl, ap, ◌∙◌, sym, subst, arith, inl, inr, append_assoc}
+use Rattle.std.specs.Prelude.{◌⊎◌, ◌==◌, min, Bool, true, false, cond, nat_le, nat_lt, is_some, Option, Some, None, IfSome, IfErr, IsSomeAnd, Result, Ok, Err}
 use Rattle.std.specs.IoError.{error_kind}
 use Rattle.std.specs.Option.{option_map, option_map_or}
 use Rattle.std.specs.declared.io.Error.{Error}
@@ -10,9 +10,7 @@ use Rattle.std.proofs.lemmas.Option.{none-some, same_Some, slice_get_cases, slic
 use Rattle.instance_core.specs.Visible.{Blob}
 use Rattle.server_events.specs.Configs.{ConfigValue}
 use Rattle.server_events.specs.Events.{opened, closed}
-use Rattle.served_instance.specs.Bytes.{pending_bytes}
 use Rattle.served_instance.specs.Past.{Past}
-use Rattle.served_instance.specs.History.{has_failed}
 use Rattle.served_instance.specs.Connections.{LoneConnection, open_at, open_ones}
 use Rattle.served_instance.specs.Lone.{LoneInstance}
 use Rattle.served_instance.specs.Refusals.{IsRefusalOutcome, refusal_of}
@@ -30,7 +28,7 @@ use Rattle.serve.specs.declared.sockets.Socket.{Socket}
 use Rattle.serve.specs.SocketEvents.{SocketEvent, PortEvent, port, failed, accepted, read, written, shut, failure_events, moment_after, moment_of, Adds, AddsAll}
 use Rattle.serve.specs.RunEvents.{RunEvent, ordered}
 use Rattle.serve.specs.Happenings.{event_told}
-use Rattle.serve.specs.Closings.{Client, HasTurnedAway, IsFaulty, IsFull, IsIdle, IsSilent, MakesRoom, MayBeShut, not_there, faulty, left, gives_way, own_from, own_past, silence_limit}
+use Rattle.serve.specs.Closings.{Client, HasTurnedAway, IsFull, IsSilent, MakesRoom, MayBeShut, not_there, gives_way, own_from, own_past, silence_limit}
 use Rattle.serve.specs.KeepsOpen.{HasOpen, IsGoneAt, IsKept, LacksRoom, MayClose, client_at}
 use Rattle.serve.specs.KeepsServing.{IsServerAt, IsServing, TakesEvent, most_counted}
 use Rattle.serve.specs.Silence.{IsLongestSilent, IsSilentLongerThan, MayMakeRoom}
@@ -55,13 +53,6 @@ known_then P old new more adds f = elim adds [
 
 of_known : (P : List SocketEvent → Type 0) (o : Option (List SocketEvent)) (h : List SocketEvent) → o ≡ Some h → IfSome o P → P h
 of_known P o h is holds = subst (λ (x : Option (List SocketEvent)). IfSome x P) is holds
-
--- a call that failed, and one for which nothing was ready
-pub unready_adds : (old new : Option (List SocketEvent)) (a : Socket) (e : Error) (b : Bool) → b ≡ is_unready (error_kind e) → b ≡ true →
-    Adds old new (failure_events a e) → Adds old new []
-unready_adds old new a e b is so adds =
-    subst (λ (es : List SocketEvent). Adds old new es)
-    (ap (λ (t : Bool). cond t [] (failed a.instance a.connection ∷ [])) (sym is ∙ so)) adds
 
 pub failed_adds : (old new : Option (List SocketEvent)) (a : Socket) (e : Error) (b : Bool) → b ≡ is_unready (error_kind e) → b ≡ false →
     Adds old new (failure_events a e) → Adds old new (failed a.instance a.connection ∷ [])
@@ -89,12 +80,6 @@ written_gone old new a bytes adds was =
     known_then (λ h. (client_at a h).is_gone ≡ true) old new (port a.instance (written a.connection bytes) ∷ []) adds
     (λ h is. ap (λ (k : Client). k.is_gone) (written_here a h bytes) ∙ of_known (λ g. (client_at a g).is_gone ≡ true) old h is was)
 
-pub none_gone : (old new : Option (List SocketEvent)) (a : Socket) → Adds old new [] → IsGoneAt a old → IsGoneAt a new
-none_gone old new a adds was =
-    known_then (λ h. (client_at a h).is_gone ≡ true) old new [] adds
-    (λ h is. ap (λ (g : List SocketEvent). (client_at a g).is_gone) (append-nil h)
-    ∙ of_known (λ g. (client_at a g).is_gone ≡ true) old h is was)
-
 -- ---- what may be closed
 
 -- a reason of each state that the instance may have come to
@@ -105,34 +90,9 @@ may_by a server None runs f = tt
 may_by a server (Some h) None f = tt
 may_by a server (Some h) (Some r) f = λ l stands. f h refl l stands
 
-pub gone_may_close : (a : Socket) (server : ServerState) (known : Option (List SocketEvent)) (runs : Option (List RunEvent)) →
-    IsGoneAt a known → MayClose a server known runs
-gone_may_close a server known runs gone =
-    may_by a server known runs (λ h is l stands. left (of_known (λ g. (client_at a g).is_gone ≡ true) known h is gone))
-
-pub ended_may_close : (a : Socket) (server : ServerState) (known : Option (List SocketEvent)) (runs : Option (List RunEvent)) →
-    ((l : LoneInstance) → StandsAt a.instance server.instances l → (open_at a.connection l.connections ≡ None) ⊎ IsFaulty a.connection l) →
-    MayClose a server known runs
-ended_may_close a server known runs ended =
-    may_by a server known runs (λ h is l stands. elim (ended l stands) [
-      | inl none ↦ not_there none
-      | inr met ↦ faulty met
-    ])
-
 none_may_close : (a : Socket) (server : ServerState) (known : Option (List SocketEvent)) (runs : Option (List RunEvent)) →
     ((l : LoneInstance) → StandsAt a.instance server.instances l → open_at a.connection l.connections ≡ None) → MayClose a server known runs
 none_may_close a server known runs none = may_by a server known runs (λ h is l stands. not_there (none l stands))
-
--- where nothing waits, and an error was met
-pub met_is_faulty : (o : Option Past) (bytes : List ℕ) → bytes ≡ [] → Some bytes ≡ option_map (λ (p : Past). pending_bytes p.history) o →
-    option_map (λ (p : Past). has_failed p.history) o ≡ Some true →
-    IsSomeAnd o (λ p. (has_failed p.history ≡ true) × (pending_bytes p.history ≡ []))
-met_is_faulty None bytes none waits met = absurd (none-some true met)
-met_is_faulty (Some p) bytes none waits met = (
-  same_Some (has_failed p.history) true met,
-  sym
-      (same_Some bytes (pending_bytes p.history) waits) ∙ none,
-)
 
 -- ---- what stands for one instance alone
 

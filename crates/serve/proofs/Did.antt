@@ -1,6 +1,6 @@
 -- A run of each instance, beside what the instances came to together.
 use Rattle.std.proofs.Common.{◌≡◌, ◌≢◌, ℕ, ◌+◌, List, [], ◌∷◌, ◌++◌, map, length, refl, ap, ◌∙◌, sym, subst, arith, inl, inr, append-nil, append_assoc}
-use Rattle.std.specs.Prelude.{◌⊎◌, ◌==◌, Bool, true, false, cond, fold, slice_set, Option, Some, None, IfSome, IsSomeAnd}
+use Rattle.std.specs.Prelude.{◌==◌, Bool, true, false, cond, fold, slice_set, Option, Some, None, IfSome, IsSomeAnd}
 use Rattle.std.specs.Option.{option_map, option_map_or, option_and_then}
 use Rattle.std.specs.List.{AllByRecursion, cons_option, filter_map, slice_get}
 use Rattle.std.specs.Io.{StartsWith}
@@ -13,7 +13,7 @@ use Rattle.instance_core.specs.Visible.{Blob}
 use Rattle.run_calls.specs.Outcomes.{OutcomeValue}
 use Rattle.server_events.specs.Configs.{ConfigValue, parent_of, parents_of}
 use Rattle.server_events.specs.Faults.{AreParents}
-use Rattle.server_events.specs.Events.{EventValue, LoneEvent, WhatValue, opened, received, took, closed, tick, ended}
+use Rattle.server_events.specs.Events.{EventValue, LoneEvent, opened, received, took, closed, tick, ended}
 use Rattle.served_instance.specs.declared.refusal.EventRefusal.{EventRefusal}
 use Rattle.served_instance.specs.declared.refusal.EventRefusal.TheVariants.{NoMemory}
 use Rattle.served_instance.specs.Bytes.{pending_bytes}
@@ -24,14 +24,13 @@ use Rattle.served_instance.specs.Refusals.{refusal_of, lone_orders, lone_step, a
 use Rattle.served_instance.specs.Short.{Short}
 use Rattle.served_instance.proofs.Growth.{connections_after, accepted_more}
 use Rattle.server_core.specs.Families.{Family, FamilyEvent, own_event as of_own, parent_event as of_parent, family_in, family_event}
-use Rattle.server_core.specs.LoneOutput.{config_at, lone_output}
+use Rattle.server_core.specs.LoneOutput.{lone_output}
 use Rattle.server_core.specs.Marked.{MarkedEvent, event_of, IsRunStep, IsParentStep, IsFamilyStep, IsRun}
-use Rattle.server_core.specs.Parents.{parent_at}
-use Rattle.server_core.specs.Runs.{Run, FamilyRun, new_run, orders_at, run_step, new_family_run, texts_of_parent, family_step, run_of_family, output_of_run}
+use Rattle.server_core.specs.Runs.{Run, FamilyRun, new_run, orders_at, run_step, new_family_run, texts_of_parent, family_step, output_of_run}
 use Rattle.serve.specs.SocketEvents.{PortEvent, SocketEvent, clock, port, failed, accepted, read, written, shut, what_of}
 use Rattle.serve.specs.RunEvents.{RunEvent, ordered, lent, gave}
-use Rattle.serve.specs.Happenings.{Happening, MarkedHappening, at_sockets, told, at_runs, cuts, moment_then, sockets_then, event_told, event_then}
-use Rattle.serve.specs.Served.{AtWork, with_orders, texts_beside, MayStep, IsFaithful, IsTaken, IsTakenIf, AreFaithful, Comes, Happens, MayServe, ServesAll, IsServed, begun}
+use Rattle.serve.specs.Happenings.{MarkedHappening, at_sockets, told, at_runs, cuts, moment_then, sockets_then, event_told, event_then}
+use Rattle.serve.specs.Served.{AtWork, with_orders, texts_beside, MayStep, IsFaithful, IsTaken, AreFaithful, Happens, MayServe, IsServed, begun}
 use Rattle.serve.specs.Did.{marked_at, GoesOn, order_of, carried_by, Did, beside, AllDid, marked_from, with_written, written_on, written_by, AreFronts}
 use Rattle.serve.proofs.Keeps.{set_here, set_other}
 use Rattle.serve.proofs.Written.{Fits, fits_grown, fits_closed, fits_all_closed, fits_refused, fits_opened, fits_taken, fits_fronts}

@@ -84,10 +84,6 @@ pub lines_none : (configs : List ConfigValue) (were : Option (List FaultValue)) 
     WritesLines configs were were before b before b
 lines_none configs were before b = ([], adds_none were, (refl, refl))
 
-pub lines_at_none : (moment : ℕ) (configs : List ConfigValue) (were : Option (List FaultValue)) (before : Option (List ℕ)) (b : Backlog) →
-    WritesLinesAt moment configs were were before b before b
-lines_at_none moment configs were before b = ([], tt, adds_none were, (refl, refl))
-
 -- some are told at a moment, no other comes, and then others are
 pub lines_at_on : (moment : ℕ) (configs : List ConfigValue) (f g h k : Option (List FaultValue)) (a b c : Option (List ℕ))
     (x y z : Backlog) → WritesLinesAt moment configs f g a x b y → h ≡ g → WritesLinesAt moment configs h k b y c z →

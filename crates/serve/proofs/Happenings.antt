@@ -1,6 +1,6 @@
 -- More that happens.
-use Rattle.std.proofs.Common.{◌≡◌, ◌≢◌, ℕ, ◌+◌, ◌<◌, ◌≤◌, List, [], ◌∷◌, ◌++◌, map, length, refl, ap, ◌∙◌, sym, subst, inl, inr, arith, append-nil, append_assoc, length-append}
-use Rattle.std.specs.Prelude.{fold, filter, Bool, true, false, Option, Some, None}
+use Rattle.std.proofs.Common.{◌≡◌, ℕ, ◌+◌, ◌≤◌, List, [], ◌∷◌, ◌++◌, map, length, refl, ap, ◌∙◌, sym, subst, inl, inr, arith, append-nil, append_assoc, length-append}
+use Rattle.std.specs.Prelude.{fold, filter, Bool, true, false, Option}
 use Rattle.std.specs.List.{filter_map, flat_map, range_with_len}
 use Rattle.std.proofs.lemmas.List.Elements.{filter-append, filter_map-append}
 use Rattle.std.proofs.lemmas.List.Sums.{fold-append}
@@ -78,10 +78,6 @@ pub moment_together : (count : ℕ) (sockets : List SocketEvent) (runs : List Ru
 moment_together count sockets runs h t = timed_moment h 0 ∙ ap (fold moment_then 0) t.at_sockets_so ∙ sockets_moment count sockets 0
 
 -- ---- what happened at the sockets
-
-pub runs_sockets : (more : List RunEvent) (before : List SocketEvent) → fold sockets_on before (map ran more) ≡ before
-runs_sockets [] before = refl
-runs_sockets (r ∷ more) before = runs_sockets more before
 
 told_sockets : (is : List ℕ) (before : List SocketEvent) → fold sockets_then before (map told is) ≡ before
 told_sockets [] before = refl

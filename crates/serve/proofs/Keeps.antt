@@ -12,7 +12,7 @@ use Rattle.std.proofs.lemmas.List.{length-map, length-set, length-take-le, map-a
 use Rattle.std.proofs.lemmas.Grind.{flat_map-append}
 use Rattle.std.proofs.lemmas.List.Elements.{filter_map-append}
 use Rattle.std.proofs.lemmas.List.Sums.{fold_push}
-use Rattle.std.proofs.lemmas.Option.{none-some, same_Some, slice_get_cases, slice_get_within}
+use Rattle.std.proofs.lemmas.Option.{none-some, same_Some, slice_get_cases}
 use Rattle.runner.proofs.Lists.{first_and_rest, no_rest}
 use Rattle.run_calls.specs.Outcomes.{OutcomeValue}
 use Rattle.execution.specs.declared.orders.Order.{Order}
@@ -45,7 +45,7 @@ use Rattle.serve.specs.KeepsOpen.{MayClose}
 use Rattle.serve.specs.declared.sockets.Socket.{Socket}
 use Rattle.serve.specs.Served.{AtWork, with_orders, texts_beside, IsTaken, IsTakenIf, Comes, Happens, MayStep, IsFaithful, WasServed, begun}
 use Rattle.serve.specs.declared.counts.ServeCounts.{ServeCounts}
-use Rattle.serve.specs.KeepsServing.{IsCount, most_counted, ran, moment_on, moment_behind, AreCarriedOut, HasParents, StandsServing, AllServing, IsServerAt, IsServing, TakesEvent, cut_after, is_for_memory}
+use Rattle.serve.specs.KeepsServing.{IsCount, most_counted, ran, moment_behind, AreCarriedOut, HasParents, StandsServing, AllServing, IsServerAt, IsServing, TakesEvent, cut_after, is_for_memory}
 use Rattle.served_instance.proofs.Moments.{took_taken}
 use Rattle.serve.proofs.Happenings.{run_events, timed_events, all_timed, AreOf, parts_of, parts_on, parts_ordered, moment_more, cut_more, none_cut, moment_together, sockets_together, may_serve_on, carried, may_within}
 

@@ -22,7 +22,7 @@ use Rattle.serve.specs.RunEvents.{RunEvent, ordered, lent, gave, AddsRuns, AddsA
 use Rattle.serve.specs.declared.carrying.Counting.{Counting}
 use Rattle.run_calls.specs.declared.task.RunKey.{RunKey}
 use Rattle.serve.specs.Happenings.{Happening, MarkedHappening, at_sockets, told, at_runs, with_times, moment_then, sockets_in, event_told, event_then}
-use Rattle.serve.specs.Served.{AtWork, with_orders, IsTaken, IsTakenIf, Comes, Happens, MayServe, IsFaithful, begun}
+use Rattle.serve.specs.Served.{AtWork, with_orders, IsTaken, IsTakenIf, Comes, Happens, MayServe, begun}
 use Rattle.serve.specs.KeepsServing.{unmarked, moment_behind, StandsServing, AllServing, IsServing, TakesEvent}
 use Rattle.serve.proofs.Happenings.{run_events, all_timed, AreOf, parts_of, parts_on, moment_more, may_serve_on}
 use Rattle.serve.proofs.Keeps.{IsOneOf, Premise, counted_more, after_outcome, after_no_run, asked_adds, none_serves}

@@ -98,11 +98,6 @@ none_stays old new adds = λ sockets was. elim adds [
   | inr all ↦ none_known old new sockets all was
 ]
 
--- nothing happens
-pub no_event : (known : Option (List SocketEvent)) → Adds known known []
-no_event None = inr refl
-no_event (Some h) = inr (ap Some (sym (append-nil h)))
-
 -- ---- by what happened
 
 pub clock_stays : (old new : Option (List SocketEvent)) (n : ℕ) → Adds old new (clock n ∷ []) → AllStay old new

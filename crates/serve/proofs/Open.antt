@@ -1,6 +1,6 @@
 -- What a server has open, as more happens.
-use Rattle.std.proofs.Common.{◌≡◌, ◌≢◌, ℕ, ◌<◌, ◌≤◌, ◌+◌, List, [], ◌∷◌, ◌++◌, map, length, take, drop, take-append-drop, get_or, refl, ap, ◌∙◌, sym, subst, arith, add-one, inl, inr, append-nil}
-use Rattle.std.specs.Prelude.{◌==◌, ◌||◌, Contains, min, fold, Bool, true, false, Option, Some, None, IfSome}
+use Rattle.std.proofs.Common.{◌≡◌, ◌≢◌, ℕ, ◌<◌, ◌≤◌, ◌+◌, List, [], ◌∷◌, ◌++◌, length, take, drop, take-append-drop, get_or, refl, ap, ◌∙◌, sym, subst, arith, add-one, inl, inr, append-nil}
+use Rattle.std.specs.Prelude.{◌==◌, ◌||◌, Contains, min, Bool, true, false, Option, Some, None, IfSome}
 use Rattle.std.specs.List.{AllByRecursion, list_any}
 use Rattle.std.proofs.Math.ListN.{set}
 use Rattle.std.proofs.lemmas.Bool.{cases_lt, eq-eqb, ne_eqb, true≢false}
@@ -394,24 +394,6 @@ refused_open old mid new i n count cs held seen was next m lt is adds reserved l
     (closes count held c [] next m refl (accepted_by old mid i n c count cs held seen was next m refl refl refl lt is adds reserved looked
     after has))
 
--- a number that is taken is passed over
-pub passed_over : (n : ℕ) (count : ℕ) (cs : List OpenSocket) (was next : Option ℕ) (m : ℕ) (known : Option (List SocketEvent)) →
-    IsNext n (sockets_of cs) next → HasOpen count cs was m known → HasOpen count cs next m known
-passed_over n count cs was next m known after has =
-    record {
-      within = has.within;
-      at_sockets = has.at_sockets;
-      apart = has.apart;
-      free = go next after;
-      kept = has.kept;
-      moment =
-          has.moment;
-    }
-  where
-    go : (o : Option ℕ) → IsNext n (sockets_of cs) o → IfSome o (λ k. is_taken k (sockets_of cs) ≡ false)
-    go None is = tt
-    go (Some k) is = is.1
-
 any_mapped : (n : ℕ) (cs : List OpenSocket) → is_taken n (sockets_of cs) ≡ list_any (λ c. c.socket.connection == n) cs
 any_mapped n [] = refl
 any_mapped n (c ∷ cs) = ap (λ (b : Bool). (c.socket.connection == n) || b) (any_mapped n cs)
@@ -423,9 +405,6 @@ found_free n number cs answer ne is free = (ne, any_mapped n cs ∙ sym is ∙ f
 -- all of these numbers are taken
 abbrev pub AreTaken : List OpenSocket → ℕ → ℕ → Type 0
 AreTaken cs first end = (n : ℕ) → first ≤ n → n < end → is_taken n (sockets_of cs) ≡ true
-
-pub none_taken : (cs : List OpenSocket) (n : ℕ) → AreTaken cs n n
-none_taken cs n m le lt = absurd (omega (arith, le, lt))
 
 -- one more is
 pub one_taken : (cs : List OpenSocket) (first end n : ℕ) (answer : Bool) → end ≡ n →

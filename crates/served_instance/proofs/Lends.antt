@@ -2,7 +2,6 @@
 use Rattle.std.proofs.Common.{◌≡◌, ◌≤◌, ◌++◌, ℕ, List, length, map, take, drop, refl, sym, ap, ◌∙◌, subst, arith}
 use Rattle.std.proofs.lemmas.List.{length-map}
 use Rattle.blob_pool.specs.Slots.{Slots, count_at}
-use Rattle.blob_pool.specs.Moves.{Moves}
 use Rattle.blob_pool.proofs.Moves.{moves_none, moves_trans}
 use Rattle.instance_core.specs.Slots.{state_in}
 use Rattle.instance_core.specs.InstanceViewShown.{ViewValue}

@@ -1,7 +1,7 @@
 -- What is refused by what is kept is refused by all that happened.
 use Rattle.std.proofs.Common.{◌≡◌, ◌<◌, ◌≤◌, refl, sym, ap, ◌∙◌, subst, get_or}
 use Rattle.std.proofs.lemmas.Bool.{le-ltb, lt-ltb}
-use Rattle.std.specs.Prelude.{ℕ, nat_le, nat_lt, ◌==◌, ◌&&◌, if◌then◌else◌, Bool, true, false, not, List, [], length, map, count_by, position, Option, Some, None, Err}
+use Rattle.std.specs.Prelude.{ℕ, nat_le, nat_lt, ◌&&◌, if◌then◌else◌, Bool, true, false, not, List, [], length, map, count_by, position, Option, Some, None, Err}
 use Rattle.std.specs.List.{list_any}
 use Rattle.std.specs.Option.{is_some, option_map, option_map_or}
 use Rattle.conn_core.specs.History.{has_failed}

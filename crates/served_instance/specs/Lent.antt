@@ -1,6 +1,6 @@
 -- What an event works on, as the clauses of the code see it, and what all its parts require and
 -- keep. For the code alone: no public contract speaks of it.
-use Rattle.std.specs.Prelude.{◌≡◌, ℕ, List, length, map}
+use Rattle.std.specs.Prelude.{◌≡◌, ℕ, List, map}
 use Rattle.blob_pool.specs.Moves.{Moves}
 use Rattle.blob_pool.specs.Slots.{Slots}
 use Rattle.instance_core.specs.InstanceViewShown.{ViewValue}

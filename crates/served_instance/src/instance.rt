@@ -9,7 +9,7 @@ ghost use Rattle.conn_core.specs.History.{has_failed};
 ghost use Rattle.conn_core.specs.CallsInCourse.{has_calls, half_calls};
 ghost use Rattle.conn_core.specs.Past.{Past, with_pumped};
 ghost use Rattle.served_instance.specs.Connections.{LoneConnection, AreApart, open_at, open_ones, at_all_open};
-ghost use Rattle.served_instance.specs.Lone.{LoneInstance, new_lone, effect_of, after_opening, after_pump};
+ghost use Rattle.served_instance.specs.Lone.{LoneInstance, new_lone, after_opening, after_pump};
 ghost use Rattle.served_instance.specs.Refusals.{NeedsNoMemory, refusal_of, lone_step, lone_orders, IsRefusalOutcome};
 ghost use Rattle.served_instance.specs.StandsFor.{IsServedInstance, IsServedWithin, AreServed, AreSettled};
 ghost use Rattle.served_instance.specs.Present.{IsPlaceFor, IsPlaceOf, refusal_by, refusal_by_what, refusal_to_open, unless_present, unless_running, refusal_to_take};

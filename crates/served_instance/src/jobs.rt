@@ -40,7 +40,8 @@ impl<'a> Lent<'a> {
             CanTake (steps_shown turn.steps.items) (state_in old.pool old.instance).jobs }
         requires kept { IsKept (lent_value self.old) }
         ensures orders { IfOk result (λ orders. orders ≡ turn.orders) }
-        ensures told { OnOk result (let old = lent_value self.old in let new = lent_value self.new in
+        ensures told { OnOk result
+            (let old = lent_value self.old in let new = lent_value self.new in
             (texts : SourceTexts) (l : LoneInstance)
             → AreServed texts (map connection_shown old.connections) (open_ones l.connections)
             → AreServed texts (map connection_shown new.connections)

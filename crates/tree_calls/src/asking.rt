@@ -5,7 +5,7 @@ ghost use Rattle.tree_calls.specs.Asking.{tree_asked, tree_asked_shown, action_a
 
 use cas_service::{CallError, asked_function, check_instance, read_digest};
 use digest::Digest;
-use protobuf_wire::Message;
+use protobuf_wire::Decode;
 use std::alloc::Global;
 use tree_messages::{GetActionResultRequest, GetTreeRequest, UpdateActionResultRequest};
 

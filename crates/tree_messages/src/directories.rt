@@ -2,10 +2,7 @@
 
 ghost use Rattle.std.specs.Prelude.{◌≡◌};
 
-use protobuf_wire::{
-    Field, Message, MessageError, Writer, embedded, flag, put_embedded, put_flag, put_repeated,
-    put_string, repeated, string,
-};
+use protobuf_wire::{Message, Writer, put_embedded, put_flag, put_repeated, put_string};
 use reapi_messages::Digest;
 use std::alloc::{AllocError, Global};
 
@@ -17,7 +14,7 @@ pub struct FileNode<'a> {
     pub is_executable: bool,
 }
 
-impl<'a> Message<'a> for FileNode<'a> {
+impl Message for FileNode<'_> {
     ghost use Rattle.tree_messages.specs.Directories.{FileNodeValue, file_node_shown, file_node_of, file_node_records};
 
     ghost Value = { FileNodeValue };
@@ -27,15 +24,6 @@ impl<'a> Message<'a> for FileNode<'a> {
     ghost value_of = { file_node_of };
 
     ghost records_for = { file_node_records };
-
-    #[tactic(auto, unfolding(crate::specs::Directories::file_node_of))]
-    fn of_fields(alloc: Global, fields: &[Field<'a>]) -> Result<Self, MessageError> {
-        Ok(FileNode {
-            name: string(fields, 1)?,
-            digest: embedded(alloc, fields, 2)?,
-            is_executable: flag(fields, 4),
-        })
-    }
 
     #[tactic(auto, using(crate::proofs::Texts::written_more))]
     fn write(&self, writer: &mut Writer) -> Result<(), AllocError> {
@@ -53,7 +41,7 @@ pub struct DirectoryNode<'a> {
     pub digest: Option<Digest<'a>>,
 }
 
-impl<'a> Message<'a> for DirectoryNode<'a> {
+impl Message for DirectoryNode<'_> {
     ghost use Rattle.tree_messages.specs.Directories.{DirectoryNodeValue, directory_node_shown, directory_node_of, directory_node_records};
 
     ghost Value = { DirectoryNodeValue };
@@ -63,14 +51,6 @@ impl<'a> Message<'a> for DirectoryNode<'a> {
     ghost value_of = { directory_node_of };
 
     ghost records_for = { directory_node_records };
-
-    #[tactic(auto, unfolding(crate::specs::Directories::directory_node_of))]
-    fn of_fields(alloc: Global, fields: &[Field<'a>]) -> Result<Self, MessageError> {
-        Ok(DirectoryNode {
-            name: string(fields, 1)?,
-            digest: embedded(alloc, fields, 2)?,
-        })
-    }
 
     #[tactic(auto, using(crate::proofs::Texts::written_more))]
     fn write(&self, writer: &mut Writer) -> Result<(), AllocError> {
@@ -86,7 +66,7 @@ pub struct SymlinkNode<'a> {
     pub target: &'a str,
 }
 
-impl<'a> Message<'a> for SymlinkNode<'a> {
+impl Message for SymlinkNode<'_> {
     ghost use Rattle.tree_messages.specs.Directories.{SymlinkNodeValue, symlink_node_shown, symlink_node_of, symlink_node_records};
 
     ghost Value = { SymlinkNodeValue };
@@ -97,14 +77,6 @@ impl<'a> Message<'a> for SymlinkNode<'a> {
 
     ghost records_for = { symlink_node_records };
 
-    #[tactic(auto, unfolding(crate::specs::Directories::symlink_node_of))]
-    fn of_fields(_alloc: Global, fields: &[Field<'a>]) -> Result<Self, MessageError> {
-        Ok(SymlinkNode {
-            name: string(fields, 1)?,
-            target: string(fields, 2)?,
-        })
-    }
-
     #[tactic(auto, using(crate::proofs::Texts::written_more))]
     fn write(&self, writer: &mut Writer) -> Result<(), AllocError> {
         put_string(writer, 1, self.name)?;
@@ -113,14 +85,14 @@ impl<'a> Message<'a> for SymlinkNode<'a> {
 }
 
 /// `build.bazel.remote.execution.v2.Directory`, as it was sent: nothing is checked.
-#[derive(Drop)]
+#[derive(Drop, Debug)]
 pub struct Directory<'a> {
     pub files: Vec<FileNode<'a>>,
     pub directories: Vec<DirectoryNode<'a>>,
     pub symlinks: Vec<SymlinkNode<'a>>,
 }
 
-impl<'a> Message<'a> for Directory<'a> {
+impl Message for Directory<'_> {
     ghost use Rattle.tree_messages.specs.Directories.{DirectoryValue, directory_shown, directory_of, directory_records};
 
     ghost Value = { DirectoryValue };
@@ -131,15 +103,6 @@ impl<'a> Message<'a> for Directory<'a> {
 
     ghost records_for = { directory_records };
 
-    #[tactic(auto, unfolding(crate::specs::Directories::directory_of))]
-    fn of_fields(alloc: Global, fields: &[Field<'a>]) -> Result<Self, MessageError> {
-        Ok(Directory {
-            files: repeated(alloc, fields, 1)?,
-            directories: repeated(alloc, fields, 2)?,
-            symlinks: repeated(alloc, fields, 3)?,
-        })
-    }
-
     #[tactic(auto, using(crate::proofs::Texts::written_more))]
     fn write(&self, writer: &mut Writer) -> Result<(), AllocError> {
         put_repeated(writer, 1, &self.files)?;
@@ -149,14 +112,14 @@ impl<'a> Message<'a> for Directory<'a> {
 }
 
 /// `build.bazel.remote.execution.v2.Tree`.
-#[derive(Drop)]
+#[derive(Drop, Debug)]
 pub struct Tree<'a> {
     pub root: Option<Directory<'a>>,
     /// All directories below the root.
     pub children: Vec<Directory<'a>>,
 }
 
-impl<'a> Message<'a> for Tree<'a> {
+impl Message for Tree<'_> {
     ghost use Rattle.tree_messages.specs.Directories.{TreeValue, tree_shown, tree_of, tree_records};
 
     ghost Value = { TreeValue };
@@ -166,14 +129,6 @@ impl<'a> Message<'a> for Tree<'a> {
     ghost value_of = { tree_of };
 
     ghost records_for = { tree_records };
-
-    #[tactic(auto, unfolding(crate::specs::Directories::tree_of))]
-    fn of_fields(alloc: Global, fields: &[Field<'a>]) -> Result<Self, MessageError> {
-        Ok(Tree {
-            root: embedded(alloc, fields, 1)?,
-            children: repeated(alloc, fields, 2)?,
-        })
-    }
 
     #[tactic(auto, using(crate::proofs::Texts::written_more))]
     fn write(&self, writer: &mut Writer) -> Result<(), AllocError> {

@@ -3,8 +3,8 @@
 ghost use Rattle.std.specs.Prelude.{◌≡◌};
 
 use protobuf_wire::{
-    Field, Message, MessageError, Writer, embedded, int32, put_embedded, put_int32,
-    put_repeated_octets, put_string, repeated_octets, string,
+    Decode, Field, Message, MessageError, Writer, embedded, int32, put_embedded, put_int32,
+    put_repeated_octets, put_string, string,
 };
 use reapi_messages::Digest;
 use std::alloc::{AllocError, Global};
@@ -22,7 +22,7 @@ pub struct GetTreeRequest<'a> {
     pub digest_function: i32,
 }
 
-impl<'a> Message<'a> for GetTreeRequest<'a> {
+impl Message for GetTreeRequest<'_> {
     ghost use Rattle.tree_messages.specs.GetTree.{GetTreeRequestValue, get_tree_request_shown, get_tree_request_of, get_tree_request_records};
 
     ghost Value = { GetTreeRequestValue };
@@ -32,17 +32,6 @@ impl<'a> Message<'a> for GetTreeRequest<'a> {
     ghost value_of = { get_tree_request_of };
 
     ghost records_for = { get_tree_request_records };
-
-    #[tactic(auto, unfolding(crate::specs::GetTree::get_tree_request_of))]
-    fn of_fields(alloc: Global, fields: &[Field<'a>]) -> Result<Self, MessageError> {
-        Ok(GetTreeRequest {
-            instance_name: string(fields, 1)?,
-            root_digest: embedded(alloc, fields, 2)?,
-            page_size: int32(fields, 3),
-            page_token: string(fields, 4)?,
-            digest_function: int32(fields, 5),
-        })
-    }
 
     #[tactic(auto, using(crate::proofs::Texts::written_more))]
     fn write(&self, writer: &mut Writer) -> Result<(), AllocError> {
@@ -54,8 +43,21 @@ impl<'a> Message<'a> for GetTreeRequest<'a> {
     }
 }
 
+impl<'a> Decode<'a> for GetTreeRequest<'a> {
+    #[tactic(auto, unfolding(crate::specs::GetTree::get_tree_request_of))]
+    fn of_fields(alloc: Global, fields: &[Field<'a>]) -> Result<Self, MessageError> {
+        Ok(GetTreeRequest {
+            instance_name: string(fields, 1)?,
+            root_digest: embedded(alloc, fields, 2)?,
+            page_size: int32(fields, 3),
+            page_token: string(fields, 4)?,
+            digest_function: int32(fields, 5),
+        })
+    }
+}
+
 /// `build.bazel.remote.execution.v2.GetTreeResponse`.
-#[derive(Drop)]
+#[derive(Drop, Debug)]
 pub struct GetTreeResponse<'a> {
     /// The texts of `Directory` messages, which are neither read nor changed.
     pub directories: Vec<&'a [u8]>,
@@ -63,7 +65,7 @@ pub struct GetTreeResponse<'a> {
     pub next_page_token: &'a str,
 }
 
-impl<'a> Message<'a> for GetTreeResponse<'a> {
+impl Message for GetTreeResponse<'_> {
     ghost use Rattle.tree_messages.specs.GetTree.{GetTreeResponseValue, get_tree_response_shown, get_tree_response_of, get_tree_response_records};
 
     ghost Value = { GetTreeResponseValue };
@@ -73,14 +75,6 @@ impl<'a> Message<'a> for GetTreeResponse<'a> {
     ghost value_of = { get_tree_response_of };
 
     ghost records_for = { get_tree_response_records };
-
-    #[tactic(auto, unfolding(crate::specs::GetTree::get_tree_response_of))]
-    fn of_fields(alloc: Global, fields: &[Field<'a>]) -> Result<Self, MessageError> {
-        Ok(GetTreeResponse {
-            directories: repeated_octets(alloc, fields, 1)?,
-            next_page_token: string(fields, 2)?,
-        })
-    }
 
     #[tactic(auto, using(crate::proofs::Texts::written_more))]
     fn write(&self, writer: &mut Writer) -> Result<(), AllocError> {

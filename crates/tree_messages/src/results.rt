@@ -3,8 +3,8 @@
 ghost use Rattle.std.specs.Prelude.{◌≡◌};
 
 use protobuf_wire::{
-    Field, Message, MessageError, Writer, embedded, flag, int32, octets, put_embedded, put_flag,
-    put_int32, put_octets, put_repeated, put_string, repeated, string,
+    Decode, Field, Message, MessageError, Writer, embedded, flag, int32, octets, put_embedded,
+    put_flag, put_int32, put_octets, put_repeated, put_string, repeated, string,
 };
 use reapi_messages::Digest;
 use std::alloc::{AllocError, Global};
@@ -17,7 +17,7 @@ pub struct OutputFile<'a> {
     pub is_executable: bool,
 }
 
-impl<'a> Message<'a> for OutputFile<'a> {
+impl Message for OutputFile<'_> {
     ghost use Rattle.tree_messages.specs.Results.{OutputFileValue, output_file_shown, output_file_of, output_file_records};
 
     ghost Value = { OutputFileValue };
@@ -28,6 +28,15 @@ impl<'a> Message<'a> for OutputFile<'a> {
 
     ghost records_for = { output_file_records };
 
+    #[tactic(auto, using(crate::proofs::Texts::written_more))]
+    fn write(&self, writer: &mut Writer) -> Result<(), AllocError> {
+        put_string(writer, 1, self.path)?;
+        put_embedded(writer, 2, &self.digest)?;
+        put_flag(writer, 4, self.is_executable)
+    }
+}
+
+impl<'a> Decode<'a> for OutputFile<'a> {
     #[tactic(auto, unfolding(crate::specs::Results::output_file_of))]
     fn of_fields(alloc: Global, fields: &[Field<'a>]) -> Result<Self, MessageError> {
         Ok(OutputFile {
@@ -35,13 +44,6 @@ impl<'a> Message<'a> for OutputFile<'a> {
             digest: embedded(alloc, fields, 2)?,
             is_executable: flag(fields, 4),
         })
-    }
-
-    #[tactic(auto, using(crate::proofs::Texts::written_more))]
-    fn write(&self, writer: &mut Writer) -> Result<(), AllocError> {
-        put_string(writer, 1, self.path)?;
-        put_embedded(writer, 2, &self.digest)?;
-        put_flag(writer, 4, self.is_executable)
     }
 }
 
@@ -53,7 +55,7 @@ pub struct OutputDirectory<'a> {
     pub tree_digest: Option<Digest<'a>>,
 }
 
-impl<'a> Message<'a> for OutputDirectory<'a> {
+impl Message for OutputDirectory<'_> {
     ghost use Rattle.tree_messages.specs.Results.{OutputDirectoryValue, output_directory_shown, output_directory_of, output_directory_records};
 
     ghost Value = { OutputDirectoryValue };
@@ -64,14 +66,6 @@ impl<'a> Message<'a> for OutputDirectory<'a> {
 
     ghost records_for = { output_directory_records };
 
-    #[tactic(auto, unfolding(crate::specs::Results::output_directory_of))]
-    fn of_fields(alloc: Global, fields: &[Field<'a>]) -> Result<Self, MessageError> {
-        Ok(OutputDirectory {
-            path: string(fields, 1)?,
-            tree_digest: embedded(alloc, fields, 3)?,
-        })
-    }
-
     #[tactic(auto, using(crate::proofs::Texts::written_more))]
     fn write(&self, writer: &mut Writer) -> Result<(), AllocError> {
         put_string(writer, 1, self.path)?;
@@ -79,8 +73,18 @@ impl<'a> Message<'a> for OutputDirectory<'a> {
     }
 }
 
+impl<'a> Decode<'a> for OutputDirectory<'a> {
+    #[tactic(auto, unfolding(crate::specs::Results::output_directory_of))]
+    fn of_fields(alloc: Global, fields: &[Field<'a>]) -> Result<Self, MessageError> {
+        Ok(OutputDirectory {
+            path: string(fields, 1)?,
+            tree_digest: embedded(alloc, fields, 3)?,
+        })
+    }
+}
+
 /// `build.bazel.remote.execution.v2.ActionResult`, as it was sent: nothing is checked.
-#[derive(Drop)]
+#[derive(Drop, Debug)]
 pub struct ActionResult<'a> {
     pub output_files: Vec<OutputFile<'a>>,
     pub output_directories: Vec<OutputDirectory<'a>>,
@@ -91,7 +95,7 @@ pub struct ActionResult<'a> {
     pub stderr_digest: Option<Digest<'a>>,
 }
 
-impl<'a> Message<'a> for ActionResult<'a> {
+impl Message for ActionResult<'_> {
     ghost use Rattle.tree_messages.specs.Results.{ActionResultValue, action_result_shown, action_result_of, action_result_records};
 
     ghost Value = { ActionResultValue };
@@ -102,6 +106,19 @@ impl<'a> Message<'a> for ActionResult<'a> {
 
     ghost records_for = { action_result_records };
 
+    #[tactic(auto, using(crate::proofs::Texts::written_more))]
+    fn write(&self, writer: &mut Writer) -> Result<(), AllocError> {
+        put_repeated(writer, 2, &self.output_files)?;
+        put_repeated(writer, 3, &self.output_directories)?;
+        put_int32(writer, 4, self.exit_code)?;
+        put_octets(writer, 5, self.stdout_raw)?;
+        put_embedded(writer, 6, &self.stdout_digest)?;
+        put_octets(writer, 7, self.stderr_raw)?;
+        put_embedded(writer, 8, &self.stderr_digest)
+    }
+}
+
+impl<'a> Decode<'a> for ActionResult<'a> {
     #[tactic(auto, unfolding(crate::specs::Results::action_result_of))]
     fn of_fields(alloc: Global, fields: &[Field<'a>]) -> Result<Self, MessageError> {
         Ok(ActionResult {
@@ -113,16 +130,5 @@ impl<'a> Message<'a> for ActionResult<'a> {
             stderr_raw: octets(fields, 7),
             stderr_digest: embedded(alloc, fields, 8)?,
         })
-    }
-
-    #[tactic(auto, using(crate::proofs::Texts::written_more))]
-    fn write(&self, writer: &mut Writer) -> Result<(), AllocError> {
-        put_repeated(writer, 2, &self.output_files)?;
-        put_repeated(writer, 3, &self.output_directories)?;
-        put_int32(writer, 4, self.exit_code)?;
-        put_octets(writer, 5, self.stdout_raw)?;
-        put_embedded(writer, 6, &self.stdout_digest)?;
-        put_octets(writer, 7, self.stderr_raw)?;
-        put_embedded(writer, 8, &self.stderr_digest)
     }
 }

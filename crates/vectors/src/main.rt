@@ -6,6 +6,7 @@
 //! operations, but for empty ones. [`octets`] says how bytes are written.
 #![tactic(auto)]
 
+mod blobs;
 mod compression;
 mod frames;
 mod messages;
@@ -23,7 +24,6 @@ use tool_programs::{Fault, Output, Status, read_all};
 #[derive(Clone, Copy)]
 enum Subject {
     Records,
-    PackedNumbers,
     Message,
     Huffman,
     HeaderBlocks,
@@ -34,9 +34,8 @@ enum Subject {
     Window,
 }
 
-static SUBJECTS: [(&[u8], Subject); 10] = [
+static SUBJECTS: [(&[u8], Subject); 9] = [
     (b"records", Subject::Records),
-    (b"packed", Subject::PackedNumbers),
     (b"message", Subject::Message),
     (b"huffman", Subject::Huffman),
     (b"blocks", Subject::HeaderBlocks),
@@ -51,7 +50,6 @@ static SUBJECTS: [(&[u8], Subject); 10] = [
 fn carry_out_on(subject: Subject, name: &[u8], operations: &[&[u8]], out: &mut Output) {
     match subject {
         Subject::Records => records::records(operations, out),
-        Subject::PackedNumbers => records::packed(operations, out),
         Subject::Message => messages::messages(name, operations, out),
         Subject::Huffman => compression::huffman(operations, out),
         Subject::HeaderBlocks => compression::blocks(operations, out),

@@ -1,8 +1,9 @@
 //! Messages of the remote execution API, and messages as gRPC frames them.
 
+use crate::blobs::{show_action, show_command, show_directory};
 use crate::octets::{BAD_LINE, named, octets};
 use crate::records::word_of;
-use execution_messages::*;
+use execution_messages::{ExecuteRequest, WaitExecutionRequest};
 use grpc_messages::{Messages, MessagesError};
 use reapi_messages::*;
 use std::alloc::Global;
@@ -10,72 +11,42 @@ use tool_programs::{Fault, Output};
 use tree_messages::*;
 
 /// How the bytes are encoded again that a message is read from.
-fn encoded_again<'a, M: Message<'a>>(
+fn encoded_again<'a, M: Decode<'a>>(
     alloc: Global,
     text: &'a [u8],
 ) -> Result<Vec<u8>, MessageError> {
     Ok(M::decode(alloc, text)?.encode(alloc)?)
 }
 
-/// A type of messages.
+/// A type of messages that the server reads.
 #[derive(Clone, Copy)]
 enum Type {
     Digest,
-    Status,
-    FindMissingBlobsRequest,
-    FindMissingBlobsResponse,
-    BatchUpdateBlobsRequest,
-    BatchUpdateBlobsResponse,
-    BatchReadBlobsRequest,
-    BatchReadBlobsResponse,
+    UpdateBlobRequest,
     GetCapabilitiesRequest,
-    ServerCapabilities,
     ReadRequest,
-    ReadResponse,
     WriteRequest,
-    WriteResponse,
     QueryWriteStatusRequest,
-    QueryWriteStatusResponse,
-    Directory,
-    Tree,
     ActionResult,
     GetTreeRequest,
-    GetTreeResponse,
     GetActionResultRequest,
     UpdateActionResultRequest,
     ExecuteRequest,
     WaitExecutionRequest,
+    Directory,
     Action,
-    Duration,
     Command,
-    Operation,
-    ExecuteOperationMetadata,
-    ExecuteResponse,
-    PreconditionFailure,
 }
 
-static TYPES: [(&[u8], Type); 32] = [
+static TYPES: [(&[u8], Type); 15] = [
     (b"Digest", Type::Digest),
-    (b"Status", Type::Status),
-    (b"FindMissingBlobsRequest", Type::FindMissingBlobsRequest),
-    (b"FindMissingBlobsResponse", Type::FindMissingBlobsResponse),
-    (b"BatchUpdateBlobsRequest", Type::BatchUpdateBlobsRequest),
-    (b"BatchUpdateBlobsResponse", Type::BatchUpdateBlobsResponse),
-    (b"BatchReadBlobsRequest", Type::BatchReadBlobsRequest),
-    (b"BatchReadBlobsResponse", Type::BatchReadBlobsResponse),
+    (b"UpdateBlobRequest", Type::UpdateBlobRequest),
     (b"GetCapabilitiesRequest", Type::GetCapabilitiesRequest),
-    (b"ServerCapabilities", Type::ServerCapabilities),
     (b"ReadRequest", Type::ReadRequest),
-    (b"ReadResponse", Type::ReadResponse),
     (b"WriteRequest", Type::WriteRequest),
-    (b"WriteResponse", Type::WriteResponse),
     (b"QueryWriteStatusRequest", Type::QueryWriteStatusRequest),
-    (b"QueryWriteStatusResponse", Type::QueryWriteStatusResponse),
-    (b"Directory", Type::Directory),
-    (b"Tree", Type::Tree),
     (b"ActionResult", Type::ActionResult),
     (b"GetTreeRequest", Type::GetTreeRequest),
-    (b"GetTreeResponse", Type::GetTreeResponse),
     (b"GetActionResultRequest", Type::GetActionResultRequest),
     (
         b"UpdateActionResultRequest",
@@ -83,28 +54,20 @@ static TYPES: [(&[u8], Type); 32] = [
     ),
     (b"ExecuteRequest", Type::ExecuteRequest),
     (b"WaitExecutionRequest", Type::WaitExecutionRequest),
+    (b"Directory", Type::Directory),
     (b"Action", Type::Action),
-    (b"Duration", Type::Duration),
     (b"Command", Type::Command),
-    (b"Operation", Type::Operation),
-    (b"ExecuteOperationMetadata", Type::ExecuteOperationMetadata),
-    (b"ExecuteResponse", Type::ExecuteResponse),
-    (b"PreconditionFailure", Type::PreconditionFailure),
 ];
 
 /// How the bytes are encoded again, as a message of this type.
 fn typed(alloc: Global, of: Type, text: &[u8]) -> Result<Vec<u8>, MessageError> {
     match of {
         Type::Digest => encoded_again::<Digest>(alloc, text),
-        Type::Status => encoded_again::<Status>(alloc, text),
-        Type::FindMissingBlobsRequest => encoded_again::<FindMissingBlobsRequest>(alloc, text),
-        Type::FindMissingBlobsResponse => encoded_again::<FindMissingBlobsResponse>(alloc, text),
-        Type::BatchUpdateBlobsRequest => encoded_again::<BatchUpdateBlobsRequest>(alloc, text),
-        Type::BatchUpdateBlobsResponse => encoded_again::<BatchUpdateBlobsResponse>(alloc, text),
-        Type::BatchReadBlobsRequest => encoded_again::<BatchReadBlobsRequest>(alloc, text),
-        Type::BatchReadBlobsResponse => encoded_again::<BatchReadBlobsResponse>(alloc, text),
+        Type::UpdateBlobRequest => encoded_again::<UpdateBlobRequest>(alloc, text),
         Type::GetCapabilitiesRequest => encoded_again::<GetCapabilitiesRequest>(alloc, text),
-        Type::ServerCapabilities => encoded_again::<ServerCapabilities>(alloc, text),
+        Type::ReadRequest => encoded_again::<ReadRequest>(alloc, text),
+        Type::WriteRequest => encoded_again::<WriteRequest>(alloc, text),
+        Type::QueryWriteStatusRequest => encoded_again::<QueryWriteStatusRequest>(alloc, text),
         _ => typed_more(alloc, of, text),
     }
 }
@@ -112,35 +75,12 @@ fn typed(alloc: Global, of: Type, text: &[u8]) -> Result<Vec<u8>, MessageError> 
 /// How the bytes are encoded again, as a message of one of the other types.
 fn typed_more(alloc: Global, of: Type, text: &[u8]) -> Result<Vec<u8>, MessageError> {
     match of {
-        Type::ReadRequest => encoded_again::<ReadRequest>(alloc, text),
-        Type::ReadResponse => encoded_again::<ReadResponse>(alloc, text),
-        Type::WriteRequest => encoded_again::<WriteRequest>(alloc, text),
-        Type::WriteResponse => encoded_again::<WriteResponse>(alloc, text),
-        Type::QueryWriteStatusRequest => encoded_again::<QueryWriteStatusRequest>(alloc, text),
-        Type::QueryWriteStatusResponse => encoded_again::<QueryWriteStatusResponse>(alloc, text),
-        Type::Directory => encoded_again::<Directory>(alloc, text),
-        Type::Tree => encoded_again::<Tree>(alloc, text),
         Type::ActionResult => encoded_again::<ActionResult>(alloc, text),
         Type::GetTreeRequest => encoded_again::<GetTreeRequest>(alloc, text),
-        Type::GetTreeResponse => encoded_again::<GetTreeResponse>(alloc, text),
         Type::GetActionResultRequest => encoded_again::<GetActionResultRequest>(alloc, text),
         Type::UpdateActionResultRequest => encoded_again::<UpdateActionResultRequest>(alloc, text),
-        _ => typed_of_execution(alloc, of, text),
-    }
-}
-
-/// How the bytes are encoded again, as a message about executions.
-fn typed_of_execution(alloc: Global, of: Type, text: &[u8]) -> Result<Vec<u8>, MessageError> {
-    match of {
         Type::ExecuteRequest => encoded_again::<ExecuteRequest>(alloc, text),
-        Type::WaitExecutionRequest => encoded_again::<WaitExecutionRequest>(alloc, text),
-        Type::Action => encoded_again::<Action>(alloc, text),
-        Type::Duration => encoded_again::<Duration>(alloc, text),
-        Type::Command => encoded_again::<Command>(alloc, text),
-        Type::Operation => encoded_again::<Operation>(alloc, text),
-        Type::ExecuteOperationMetadata => encoded_again::<ExecuteOperationMetadata>(alloc, text),
-        Type::ExecuteResponse => encoded_again::<ExecuteResponse>(alloc, text),
-        _ => encoded_again::<PreconditionFailure>(alloc, text),
+        _ => encoded_again::<WaitExecutionRequest>(alloc, text),
     }
 }
 
@@ -152,16 +92,26 @@ fn show_typed(of: Type, text: &[u8], out: &mut Output) {
         Err(MessageError::NotUtf8) => out.print(b"not-utf8"),
         Err(MessageError::NoMemory) => out.fail(Fault::OutOfMemory),
     }
+}
+
+/// Writes what is read of the bytes, as a message of this type.
+fn show_read(of: Type, text: &[u8], out: &mut Output) {
+    match of {
+        Type::Directory => show_directory(text, out),
+        Type::Action => show_action(text, out),
+        Type::Command => show_command(text, out),
+        _ => show_typed(of, text, out),
+    }
     out.print(b"\n");
 }
 
-/// Writes how each line's bytes are encoded again, as messages of the type of this name.
+/// Writes what is read of each line's bytes, as messages of the type of this name.
 pub fn messages(name: &[u8], operations: &[&[u8]], out: &mut Output) {
     let Some(of) = named(&TYPES, name) else {
         return out.fail(BAD_LINE);
     };
     for line in operations {
-        show_typed(of, &octets(line, out), out);
+        show_read(of, &octets(line, out), out);
     }
 }
 

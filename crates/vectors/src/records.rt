@@ -1,7 +1,7 @@
-//! Records of protobuf, and packed numbers.
+//! Records of protobuf.
 
 use crate::octets::octets;
-use protobuf_wire::{Content, Field, PackedReader, Reader, WireError};
+use protobuf_wire::{Content, Field, Reader, WireError};
 use tool_programs::Output;
 
 /// The word for a fault.
@@ -61,38 +61,5 @@ fn show_records(text: &[u8], out: &mut Output) {
 pub fn records(operations: &[&[u8]], out: &mut Output) {
     for line in operations {
         show_records(&octets(line, out), out);
-    }
-}
-
-/// Writes the next number, or how they end; tells whether there may be more.
-fn show_next_number(reader: &mut PackedReader<'_>, out: &mut Output) -> bool {
-    match reader.next() {
-        Ok(Some(number)) => {
-            out.print_text(format!(in out.alloc; "{number} "));
-            return true;
-        }
-        Ok(None) => out.print(b"end"),
-        Err(fault) => out.print(word_of(fault)),
-    }
-    false
-}
-
-/// Writes the numbers that a text is, and twice how they end.
-fn show_packed(text: &[u8], out: &mut Output) {
-    let mut reader = PackedReader::new(text);
-    for _ in 0..=text.len() {
-        if !show_next_number(&mut reader, out) {
-            break;
-        }
-    }
-    out.print(b" ");
-    show_next_number(&mut reader, out);
-    out.print(b"\n");
-}
-
-/// Writes the numbers that each line's bytes are.
-pub fn packed(operations: &[&[u8]], out: &mut Output) {
-    for line in operations {
-        show_packed(&octets(line, out), out);
     }
 }

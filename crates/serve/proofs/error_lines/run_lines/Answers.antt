@@ -2,7 +2,7 @@ use Rattle.std.proofs.Common.{ℕ, List, ◌++◌, ◌∙◌, ap, sym}
 use Rattle.std.specs.Prelude.{codes}
 use Rattle.std.specs.Fmt.{decimal}
 use Rattle.std.specs.Global.{Vec}
-use Rattle.serve.specs.FaultLines.{reason_line, word_of}
+use Rattle.serve.specs.FaultLines.{word_of}
 use Rattle.serve.proofs.FaultLines.{seven}
 use Rattle.serve.proofs.error_lines.run_lines.Goals as goal
 

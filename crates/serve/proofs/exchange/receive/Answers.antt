@@ -1,4 +1,4 @@
-use Rattle.std.proofs.Common.{◌≡◌, ℕ, List, ap, ◌∙◌, sym, take, length}
+use Rattle.std.proofs.Common.{ℕ, List, ap, ◌∙◌, sym, take, length}
 use Rattle.std.specs.Prelude.{◌+◌, min}
 use Rattle.serve.specs.KeepsServing.{most_counted}
 use Rattle.serve.proofs.Closings.{failed_adds, failed_gone, read_gone}

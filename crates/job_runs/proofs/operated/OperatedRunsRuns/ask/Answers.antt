@@ -1,4 +1,4 @@
-use Rattle.std.proofs.Common.{ap, sym, ◌∙◌, rules}
+use Rattle.std.proofs.Common.{ap, rules}
 use Rattle.job_runs.proofs.Overseen.{failed_carries}
 use Rattle.job_runs.proofs.Refused.{judged_asked, judged_carries}
 use Rattle.job_runs.proofs.operated.OperatedRunsRuns.ask.Goals as goal

@@ -1,13 +1,12 @@
-use Rattle.std.proofs.Common.{rules, tests, ◌≡◌, ℕ, List, Option, arith, refl, ap, sym, ◌∙◌}
+use Rattle.std.proofs.Common.{rules, tests, ◌≡◌, arith, refl}
 use Rattle.std.specs.Prelude.{⊤}
-use Rattle.server_events.specs.Configs.{ConfigValue}
 use Rattle.server_core.specs.Parents.{parent_texts}
 use Rattle.served_instance.specs.declared.refusal.EventRefusal.TheVariants.{TooManyConnections}
 use Rattle.serve.specs.declared.sockets.Socket.{Socket}
 use Rattle.serve.proofs.Closings.{WasRefused, lacks_room, refused_may_close}
 use Rattle.serve.proofs.Keeps.{accepted_told}
 use Rattle.serve.proofs.Numbers.{at}
-use Rattle.serve.proofs.Open.{accepted_by, added_by, passed_over, refused_open}
+use Rattle.serve.proofs.Open.{accepted_by, added_by, refused_open}
 use Rattle.serve.proofs.serving.Serving.open.Goals as goal
 
 pub returns-in-Ok-tell-clause-serves_on : goal.returns-in-Ok-tell-clause-serves_on

@@ -1,6 +1,6 @@
 use Rattle.std.proofs.Common.{refl, sym, ap, length, subst, arith}
 use Rattle.served_instance.specs.declared.broken.Broken.{Broken}
-use Rattle.served_instance.specs.declared.broken.Broken.TheVariants.{Nothing, One, All, AllAndJob}
+use Rattle.served_instance.specs.declared.broken.Broken.TheVariants.{One, All}
 use Rattle.served_instance.specs.Cuts.{LosesBroken}
 use Rattle.served_instance.specs.Lent.{lent_slots, lent_value}
 use Rattle.served_instance.proofs.Cut.{finds_here}

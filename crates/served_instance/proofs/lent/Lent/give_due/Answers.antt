@@ -1,4 +1,4 @@
-use Rattle.std.proofs.Common.{◌≡◌, ◌<◌, ◌∙◌, sym, subst, refl, ℕ, List, length, arith}
+use Rattle.std.proofs.Common.{◌<◌, ◌∙◌, sym, subst, refl, ℕ, List, length, arith}
 use Rattle.std.proofs.lemmas.Grind.{common_steps}
 use Rattle.std.specs.Prelude.{Option, Some, None}
 use Rattle.conn_core.specs.declared.event.CallEvent.{CallEvent}

@@ -1,4 +1,4 @@
-use Rattle.std.proofs.Common.{◌≡◌, ◌∙◌, refl, ap, length, map, arith}
+use Rattle.std.proofs.Common.{◌∙◌, refl, map, arith}
 use Rattle.std.proofs.lemmas.Grind.{common_steps}
 use Rattle.blob_pool.specs.Slots.{text_at}
 use Rattle.blob_pool.specs.Moves.{no_holders}

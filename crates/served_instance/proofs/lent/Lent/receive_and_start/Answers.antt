@@ -1,4 +1,4 @@
-use Rattle.std.proofs.Common.{◌∙◌, refl}
+use Rattle.std.proofs.Common.{refl}
 use Rattle.execution.specs.Taking.{steps_shown}
 use Rattle.instance_core.specs.Slots.{state_in}
 use Rattle.served_instance.specs.Lent.{lent_slots, lent_value}

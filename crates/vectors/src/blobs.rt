@@ -3,29 +3,71 @@
 use actions::{ActionTaken, read_action, read_command};
 use digest::Digest;
 use execution_messages::{Command, EnvironmentVariable};
-use input_tree::take_directory;
-use protobuf_wire::Message;
+use input_tree::{ChildTaken, DirectoryReading, DirectoryTaken, FileTaken, LinkTaken};
+use std::alloc::{AllocError, Global};
 use tool_programs::{Fault, Output};
 
 /// What is written where none is taken.
 const NOT_TAKEN: &[u8] = b"not-taken";
 
-/// Writes how the directory is encoded again that is read from the bytes.
-pub fn show_directory(text: &[u8], out: &mut Output) {
-    match take_directory(out.alloc, text) {
-        Ok(Some(directory)) => {
-            let again = out.bytes(directory.encode(out.alloc));
-            out.print_hex(&again);
-        }
-        Ok(None) => out.print(NOT_TAKEN),
-        Err(_) => out.fail(Fault::OutOfMemory),
+/// The directory that is taken of a text, if one is.
+fn taken_of(alloc: Global, text: &[u8]) -> Result<Option<DirectoryTaken>, AllocError> {
+    let mut reading = DirectoryReading::begin(alloc, Vec::from_slice(alloc, text)?);
+    'steps: while !reading.is_over() {
+        reading.step(alloc)?;
     }
+    Ok(reading.end())
 }
 
 fn show_digest(digest: &Digest, out: &mut Output) {
     out.print_hex(digest.hash.as_bytes());
     let size = digest.size;
     out.print_text(format!(in out.alloc; " {size}"));
+}
+
+/// Writes a name behind a word for what has it.
+fn show_name(word: &[u8], name: &str, out: &mut Output) {
+    out.print(word);
+    out.print_hex(name.as_bytes());
+    out.print(b" ");
+}
+
+fn show_file(file: &FileTaken, out: &mut Output) {
+    show_name(b" file ", file.name.as_str(), out);
+    show_digest(&file.digest, out);
+    if file.is_executable {
+        out.print(b" executable");
+    }
+}
+
+fn show_child(child: &ChildTaken, out: &mut Output) {
+    show_name(b" directory ", child.name.as_str(), out);
+    show_digest(&child.digest, out);
+}
+
+fn show_link(link: &LinkTaken, out: &mut Output) {
+    show_name(b" link ", link.name.as_str(), out);
+    out.print_hex(link.target.as_str().as_bytes());
+}
+
+/// Writes the nodes of the directory that is read from the bytes.
+pub fn show_directory(text: &[u8], out: &mut Output) {
+    match taken_of(out.alloc, text) {
+        Ok(Some(directory)) => {
+            out.print(b"nodes");
+            for file in &directory.files {
+                show_file(file, out);
+            }
+            for child in &directory.directories {
+                show_child(child, out);
+            }
+            for link in &directory.symlinks {
+                show_link(link, out);
+            }
+        }
+        Ok(None) => out.print(NOT_TAKEN),
+        Err(_) => out.fail(Fault::OutOfMemory),
+    }
 }
 
 fn show_action_taken(action: &ActionTaken, out: &mut Output) {

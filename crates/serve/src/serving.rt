@@ -35,14 +35,24 @@ use std::io::Write;
 /// How many microseconds a millisecond has.
 const MILLISECOND: u64 = 1_000;
 
+/// Which part of the time it takes at most to tell instances the time.
+const TELLING_PART: u64 = 20;
+
+/// For how many microseconds at most that is put off.
+const MOST_PUT_OFF: u64 = 50_000;
+
 /// A server, and its open connections.
 #[derive(Drop)]
 struct Serving {
     counting: Counting,
     /// How many instances it has.
     instances: u32,
-    /// What the clock showed last, in milliseconds since the start.
+    /// What the instances were told last that the clock shows, in milliseconds since the start.
     moment: u64,
+    /// What it showed as this turn began.
+    shown: u64,
+    /// From when on they are told again, in microseconds.
+    next_telling: u64,
     absence: Absence,
     /// When the ports were tried last.
     tried: Option<u64>,
@@ -74,6 +84,8 @@ impl Serving {
             },
             instances: configs.instances().len() as u32,
             moment: 0,
+            shown: 0,
+            next_telling: 0,
             absence: Absence::none(),
             tried: None,
             connections: Vec::new(alloc),
@@ -122,10 +134,10 @@ impl Serving {
             (E.contents errors.new.output) errors.new.backlog }
     {
         self.keep_time(sockets, runs);
-        let is_due = self.tried != Some(self.moment);
+        let is_due = self.tried != Some(self.shown);
         let mut moved = false;
         if is_due {
-            self.tried = Some(self.moment);
+            self.tried = Some(self.shown);
             moved = self.open_all(sockets, runs);
         }
         let exchanged = self.exchange_quick(sockets, runs, is_due);
@@ -137,8 +149,8 @@ impl Serving {
         moved || exchanged || before || behind || is_busy
     }
 
-    /// Reads the clock where it went on. While it shows the same nothing is to be told, of which
-    /// many turns of a busy server are spared.
+    /// Reads the clock, and tells the time where it went on by a millisecond, unless that took more
+    /// than a twentieth of the time since it was told last.
     fn keep_time<S: Sockets, R: Runs>(&mut self, sockets: &mut S, runs: &mut R)
         requires opened { HasAllOpen self.old (S.happened sockets.old) }
         ensures serves_on { ServesOn
@@ -146,8 +158,13 @@ impl Serving {
             self.new (S.happened sockets.new) (R.happened runs.new) }
         ensures no_fault { R.faulted runs.new ≡ R.faulted runs.old }
     {
-        if sockets.passed() / MILLISECOND > self.moment {
+        let began = sockets.passed();
+        self.shown = began / MILLISECOND;
+        if self.shown > self.moment && began >= self.next_telling {
             self.tick(sockets, runs);
+            let took = sockets.passed().saturating_sub(began);
+            let put_off = took.saturating_mul(TELLING_PART).min(MOST_PUT_OFF);
+            self.next_telling = began.saturating_add(put_off);
         }
     }
 
@@ -287,7 +304,8 @@ pub struct Beginning {
 /// that there is to be none any more, over sockets at which nothing has
 /// happened yet, and over runs of which there are none.
 ///
-/// Once a millisecond the time is told to each instance, and at each port one connection is
+/// Once a millisecond the time is told to each instance, or less often where that takes more than a
+/// twentieth of the time, but as a rule each 50 milliseconds; and at each port one connection is
 /// accepted. In each turn pieces are read of each connection, as long as that takes little time:
 /// the rest of a frame's payload, or where a frame begins 512 bytes. Then what waits on it is
 /// written. Of a turn an instance has 0.2 milliseconds, for its connections and its runs together;

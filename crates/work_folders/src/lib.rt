@@ -13,6 +13,7 @@ mod folder;
 mod folders;
 mod marking;
 mod opener;
+mod openers;
 mod places;
 mod remover;
 mod request;

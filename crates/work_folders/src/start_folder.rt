@@ -11,6 +11,7 @@ ghost use Rattle.work_folders.specs.Rights.{Below, IsBelow, MayLink, MayRemove, 
 
 use crate::entrance::Entrance;
 use crate::opener::Opener;
+use crate::openers::Openers;
 use crate::places::identity_of;
 use crate::request::Target;
 use run_calls::{Found, Place, RunKey, TaskNodeKind};
@@ -42,8 +43,8 @@ pub(crate) struct StartFolder<D: Directory, S: Shells> {
     made: Option<Kept<D::File>>,
     /// The file of which a part was read last, or is to be read next.
     read: Option<Kept<D::File>>,
-    /// What opens files that a run left, where a program may have leases on them.
-    opener: Option<Opener<D, S>>,
+    /// What opens files that runs left, where programs may have leases on them.
+    openers: Option<Openers<D, S>>,
 }
 
 impl<D: Directory, S: Shells> Model for StartFolder<D, S> {
@@ -117,7 +118,7 @@ impl<D: Directory, S: Shells<File = D::File>> StartFolder<D, S> {
             entrance: Entrance::new(start),
             made: None,
             read: None,
-            opener: None,
+            openers: None,
         }
     }
 
@@ -129,7 +130,7 @@ impl<D: Directory, S: Shells<File = D::File>> StartFolder<D, S> {
         let mut opener = Opener::new(shells.alloc());
         let can_open = opener.can_open(shells, self.entrance.start())?;
         if can_open {
-            self.opener = Some(opener);
+            self.openers = Some(Openers::new(shells.alloc(), opener));
         }
         Ok(can_open)
     }
@@ -355,7 +356,7 @@ impl<D: Directory, S: Shells<File = D::File>> StartFolder<D, S> {
         requires link { MayLink D.may_look D.may_change D.is_settled self.old place.now.run }
         ensures same { self.new ≡ self.old }
     {
-        if self.opener.is_none() {
+        if self.openers.is_none() {
             return Ok(true);
         }
         let path = file_path(shells.alloc(), place, path, above, name)?;
@@ -420,8 +421,8 @@ impl<D: Directory, S: Shells<File = D::File>> StartFolder<D, S> {
         let (above, name) = parted(path);
         let entered = self.entrance.enter(alloc, above)?;
         let aside = opened_aside(alloc, self.entrance.start(), run)?;
-        let answer = match &mut self.opener {
-            Some(opener) => {
+        let answer = match &mut self.openers {
+            Some(openers) => {
                 let directory = &entered.directory;
                 let aside = &aside;
                 let target = Target {
@@ -431,7 +432,7 @@ impl<D: Directory, S: Shells<File = D::File>> StartFolder<D, S> {
                     name,
                     aside,
                 };
-                opener.open(shells, &target)
+                openers.open(shells, &target)
             }
             None => read_in(&entered.directory, name, &aside).map(Some),
         };
@@ -443,8 +444,8 @@ impl<D: Directory, S: Shells<File = D::File>> StartFolder<D, S> {
     pub(crate) fn reap(&mut self)
         ensures same { self.new ≡ self.old }
     {
-        if let Some(opener) = &mut self.opener {
-            opener.reap();
+        if let Some(openers) = &mut self.openers {
+            openers.reap();
         }
     }
 
@@ -454,8 +455,8 @@ impl<D: Directory, S: Shells<File = D::File>> StartFolder<D, S> {
     {
         self.made = None;
         self.read = None;
-        if let Some(opener) = &mut self.opener {
-            opener.forget(run)?;
+        if let Some(openers) = &mut self.openers {
+            openers.forget(run)?;
         }
         self.entrance.leave();
         Ok(())

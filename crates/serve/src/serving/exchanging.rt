@@ -52,7 +52,7 @@ impl Serving {
         ensures moment { self.new.moment ≡ self.old.moment }
     {
         let counts = &self.counting.counts;
-        if self.calms.last(counts, sockets, instance, self.moment) {
+        if self.calms.last(counts, sockets, instance, self.shown) {
             return false;
         }
         let first = first_of(&self.connections, instance);
@@ -61,7 +61,7 @@ impl Serving {
         if !moved {
             let news = news_of(&self.counting.counts, sockets, instance);
             self.calms
-                .begin(&self.connections, instance, self.moment, news);
+                .begin(&self.connections, instance, self.shown, news);
         }
         moved
     }
@@ -100,10 +100,10 @@ impl Serving {
             return false;
         };
         let instance = open.socket.instance;
-        open.is_due(self.moment)
+        open.is_due(self.shown)
             && self.pace.goes(instance)
             && !open.is_quiet(
-                self.moment,
+                self.shown,
                 news_of(&self.counting.counts, sockets, instance),
             )
     }
@@ -153,13 +153,13 @@ impl Serving {
                     moved = true;
                 }
                 Tried::Moved => {
-                    open.moved = self.moment;
+                    open.moved = self.shown;
                     self.connections[at] = open;
                     at += 1;
                     moved = true;
                 }
                 Tried::NotReady => {
-                    open.tried = self.moment;
+                    open.tried = self.shown;
                     open.news = Some(news);
                     self.connections[at] = open;
                     at += 1;

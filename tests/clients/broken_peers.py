@@ -11,7 +11,7 @@ the end that say nothing at all, and a caller has to be let in after 60 seconds,
 four other instances instead, of each of which a program sleeps, and over 60 connections 6,000 calls wait of which five bytes
 came: a minute later the caller's 99th percentile stays below four times what it is beside the programs alone. With --idle
 there are 255 other instances with 4 connections each on which nothing moves, and then 128 with 62: a call takes no more of
-the server's processor time than twice what it takes without them, and a tenth of the time that it takes by the clock.
+the server's processor time than 1.7 times what it takes without them, and a tenth of the time that it takes by the clock.
 A line for each kind; it ends with status 1 where one is wrong.
 """
 
@@ -176,7 +176,7 @@ def beside_idle(program, teams, each):
     usual = min(used for (_, used), _ in rounds)
     # That in which least else went on.
     clock, used = min(found for _, found in rounds)
-    is_well = used <= 2 * usual + 0.1 * clock
+    is_well = used <= 1.7 * usual + 0.1 * clock
     told = f"a call takes {used:.0f} us of the server's in {clock:.0f}, {usual:.0f} without them"
     print(f"{'ok' if is_well else 'FAULT'} {teams} instances of {each} idle connections: {told}", flush=True)
     return is_well

@@ -3,10 +3,10 @@
 processes.
 
 PROGRAM is the built `remoted`. A team runs /bin/true again and again: one at a time, and without a launcher 16 at a time,
-too. Then N other processes (4,000) sleep on the host, and it does the same, and again when they have ended. With --sandbox
-`launchers/sandbox` starts what is run, and another team's programs are those that sleep. Beside them an action takes no
-longer than 1.2 times as long as before or behind that, and a tenth of a millisecond; in the sandbox the same is so of the
-server's processor time. A line for each says how long; it ends with status 1 where that is not so. It wants a quiet machine.
+too. At first four other processes sleep on the host meanwhile, then N (4,000), then four again. With --sandbox
+`launchers/sandbox` starts what is run, and those that sleep belong to four actions of another team. Beside N an action takes
+no longer than 1.2 times as long as beside four, and a tenth of a millisecond; in the sandbox the same is so of the server's
+processor time. A line for each says how long; it ends with status 1 where that is not so. It wants a quiet machine.
 """
 
 import argparse
@@ -27,8 +27,9 @@ ACTIONS = 200
 ROUNDS = 3
 MOST = 1.2
 SPARE = 0.0001
-# How many actions have the programs of the other team, and a number of seconds by which these can be told.
-SLEEPING_ACTIONS = 4
+# How many sleep at least, and how many actions have the programs of the other team; for how many seconds, by which these
+# can be told.
+FEW = 4
 SECONDS = f"{1000 + os.getpid() / 10**7:.7f}"
 
 
@@ -82,8 +83,8 @@ class Programs:
 
     def __init__(self, port, count):
         self.peer = Peer(port)
-        script = f"for n in $(seq {count // SLEEPING_ACTIONS}); do sleep {SECONDS} & done; wait"
-        actions = [Action(f"{script} # {place}", do_not_cache=True) for place in range(SLEEPING_ACTIONS)]
+        script = f"for n in $(seq {count // FEW}); do sleep {SECONDS} & done; wait"
+        actions = [Action(f"{script} # {place}", do_not_cache=True) for place in range(FEW)]
         self.calls = [self.peer.start(each) for each in actions]
         end = time.monotonic() + 120
         while len(self.processes()) < count:
@@ -110,20 +111,23 @@ class Programs:
         self.peer.close()
 
 
-def compare(server, parallel, begin, is_used):
-    """Says what an action takes without others and beside them, and whether that is little enough."""
-    before = measured(server, parallel)
-    there = begin()
+def beside(server, parallel, others):
+    """What is measured while others are there."""
     try:
         time.sleep(1)
-        beside = measured(server, parallel)
+        return measured(server, parallel)
     finally:
-        there.end()
-    time.sleep(1)
-    alone = tuple(map(min, before, measured(server, parallel)))
-    is_well = all(beside[each] <= MOST * alone[each] + SPARE for each in ([0, 1] if is_used else [0]))
+        others.end()
+
+
+def compare(server, parallel, begin, count, is_used):
+    """Says what an action takes beside few others and beside many, and whether that is little enough."""
+    few, many, again = (beside(server, parallel, begin(each)) for each in (FEW, count, FEW))
+    few = tuple(map(min, few, again))
+    is_well = all(many[each] <= MOST * few[each] + SPARE for each in ([0, 1] if is_used else [0]))
     told = lambda found: f"{found[0] * 1000:.2f} ms ({found[1] * 1000:.2f} of the server's processor)"
-    print(f"{'ok' if is_well else 'FAULT'} {parallel} at a time: {told(alone)} alone, {told(beside)} beside them", flush=True)
+    times = f"{told(few)} beside {FEW} processes, {told(many)} beside {count}"
+    print(f"{'ok' if is_well else 'FAULT'} {parallel} at a time: {times}", flush=True)
     return is_well
 
 
@@ -137,13 +141,11 @@ def main():
     words = parser.parse_args()
     with tempfile.TemporaryDirectory(dir="/dev/shm") as folder, tempfile.TemporaryDirectory() as aside:
         launcher = sandbox(aside) if words.sandbox else words.launcher
-        instances = [("red", 2 * 10**8, SLEEPING_ACTIONS), ("blue", 2 * 10**8, SLOTS)]
+        instances = [("red", 2 * 10**8, FEW), ("blue", 2 * 10**8, SLOTS)]
         with Server(words.program, instances, folder=folder, launcher=launcher) as server:
-            begin = lambda: Others(words.others)
-            if words.sandbox:
-                begin = lambda: Programs(server.ports[0], words.others)
+            begin = (lambda count: Programs(server.ports[0], count)) if words.sandbox else Others
             ways = [1] if launcher else [1, 16]
-            if not all([compare(server, each, begin, words.sandbox) for each in ways]):
+            if not all([compare(server, each, begin, words.others, words.sandbox) for each in ways]):
                 raise SystemExit(1)
 
 

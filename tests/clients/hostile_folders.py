@@ -39,13 +39,16 @@ signal.signal(signal.SIGIO, signal.SIG_IGN)
 with open("o", "wb") as file:
     file.write(b"leased")
 file = os.open("o", os.O_RDONLY)
+read, write = os.pipe()
 if os.fork():
-    time.sleep(0.3)
+    os.close(write)
+    os.read(read, 1)
     os._exit(0)
 os.setsid()
 if os.fork():
     os._exit(0)
 fcntl.fcntl(file, fcntl.F_SETLEASE, getattr(fcntl, sys.argv[1]))
+os.write(write, b".")
 time.sleep(60)
 """
 

@@ -6,7 +6,8 @@ PROGRAM is the built `remoted`. A team runs /bin/true again and again: one at a 
 too. At first four other processes sleep on the host meanwhile, then N (4,000), then four again. With --sandbox
 `launchers/sandbox` starts what is run, and those that sleep belong to four actions of another team. Beside N an action takes
 no longer than 1.2 times as long as beside four, and a tenth of a millisecond; in the sandbox the same is so of the server's
-processor time. A line for each says how long; it ends with status 1 where that is not so. It wants a quiet machine.
+processor time, and of a hundredth of the time by the clock, in which it looks at what runs. A line for each says how long; it
+ends with status 1 where that is not so. It wants a quiet machine.
 """
 
 import argparse
@@ -124,7 +125,8 @@ def compare(server, parallel, begin, count, is_used):
     """Says what an action takes beside few others and beside many, and whether that is little enough."""
     few, many, again = (beside(server, parallel, begin(each)) for each in (FEW, count, FEW))
     few = tuple(map(min, few, again))
-    is_well = all(many[each] <= MOST * few[each] + SPARE for each in ([0, 1] if is_used else [0]))
+    is_quick = many[0] <= MOST * few[0] + SPARE
+    is_well = is_quick and (not is_used or many[1] <= MOST * few[1] + SPARE + many[0] / 100)
     told = lambda found: f"{found[0] * 1000:.2f} ms ({found[1] * 1000:.2f} of the server's processor)"
     times = f"{told(few)} beside {FEW} processes, {told(many)} beside {count}"
     print(f"{'ok' if is_well else 'FAULT'} {parallel} at a time: {times}", flush=True)

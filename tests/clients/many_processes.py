@@ -5,9 +5,9 @@ processes.
 PROGRAM is the built `remoted`. A team runs /bin/true again and again: one at a time, and without a launcher 16 at a time,
 too. At first four other processes sleep on the host meanwhile, then N (4,000), then four again. With --sandbox
 `launchers/sandbox` starts what is run, and those that sleep belong to four actions of another team. Beside N an action takes
-no longer than 1.2 times as long as beside four, and a tenth of a millisecond; in the sandbox the same is so of the server's
-processor time, and of a hundredth of the time by the clock, in which it looks at what runs. A line for each says how long; it
-ends with status 1 where that is not so. It wants a quiet machine.
+no longer than 1.2 times as long as beside four, and a tenth of a millisecond; in the sandbox a microsecond more for each of
+N, as the kernel looks at each process of the host where bubblewrap changes a root, and the same is so of the server's
+processor time. A line for each says how long; it ends with status 1 where that is not so. It wants a quiet machine.
 """
 
 import argparse
@@ -28,6 +28,7 @@ ACTIONS = 200
 ROUNDS = 3
 MOST = 1.2
 SPARE = 0.0001
+OF_PROCESS = 0.000001
 # How many sleep at least, and how many actions have the programs of the other team; for how many seconds, by which these
 # can be told.
 FEW = 4
@@ -125,8 +126,9 @@ def compare(server, parallel, begin, count, is_used):
     """Says what an action takes beside few others and beside many, and whether that is little enough."""
     few, many, again = (beside(server, parallel, begin(each)) for each in (FEW, count, FEW))
     few = tuple(map(min, few, again))
-    is_quick = many[0] <= MOST * few[0] + SPARE
-    is_well = is_quick and (not is_used or many[1] <= MOST * few[1] + SPARE + many[0] / 100)
+    spare = SPARE + (OF_PROCESS * count if is_used else 0)
+    is_quick = many[0] <= MOST * few[0] + spare
+    is_well = is_quick and (not is_used or many[1] <= MOST * few[1] + spare)
     told = lambda found: f"{found[0] * 1000:.2f} ms ({found[1] * 1000:.2f} of the server's processor)"
     times = f"{told(few)} beside {FEW} processes, {told(many)} beside {count}"
     print(f"{'ok' if is_well else 'FAULT'} {parallel} at a time: {times}", flush=True)

@@ -9,21 +9,14 @@ use Rattle.protobuf_wire.specs.declared.error.MessageError.{MessageError}
 use Rattle.protobuf_wire.specs.Answers.{of_wire}
 use Rattle.protobuf_wire.specs.Fields.{each_of, embedded_value, payload_in, payloads, records_in, repeated_values, value_of_text}
 use Rattle.protobuf_wire.specs.Joining.{joined_records, optional_value}
+use Rattle.protobuf_wire.proofs.Along.{none_after, then_same}
 use Rattle.protobuf_wire.proofs.Submessages.{embedded_is_joined}
 use Rattle.digest.specs.declared.Digest.{Digest}
 use Rattle.tree_messages.specs.Directories.{DirectoryValue, FileNodeValue, DirectoryNodeValue, SymlinkNodeValue, file_node_of, directory_node_of, symlink_node_of, directory_of, tree_of}
 use Rattle.input_tree.specs.Listing.{Lookup}
 use Rattle.input_tree.specs.NodeTexts.{readable}
 use Rattle.action_cache.specs.Complete.{and_then, with_directory, with_each, with_file, with_root, with_tree}
-use Rattle.action_cache.specs.TreeTexts.{node_in, with_directories, with_directory_in, with_directory_text, with_file_read, with_node, with_payload, with_read}
-
-none_after : {A B : Type 0} (o : Option A) → and_then {B = B} o (λ _. None) ≡ None
-none_after None = refl
-none_after (Some x) = refl
-
-then_same : {A B : Type 0} (o : Option A) (k l : A → Option B) → ((a : A) → k a ≡ l a) → and_then o k ≡ and_then o l
-then_same None k l h = refl
-then_same (Some a) k l h = h a
+use Rattle.action_cache.specs.TreeTexts.{node_in, with_directories, with_directory_in, with_directory_text, with_file_read, with_node, with_payload, with_read, with_text}
 
 -- ---- parts one after another
 
@@ -64,8 +57,8 @@ payloads_are g field ds (r ∷ rs) = go (payload_in field r) refl (λ more. payl
       (λ more. with_each g more (payloads field rs)) later)
 
 module _ {V : Type 0} (f : List Digest → V → Option (List Digest)) (value_of : List Record → Result V MessageError) where
-  abbrev pub of_text : List Digest → List ℕ → Option (List Digest)
-  of_text ds b = with_read f ds (value_of_text value_of b)
+  abbrev of_text : List Digest → List ℕ → Option (List Digest)
+  of_text ds b = with_text f value_of ds b
 
   -- texts one by one are what they mean one by one
   texts_are : (ds : List Digest) (bs : List (List ℕ)) →
@@ -82,7 +75,7 @@ module _ {V : Type 0} (f : List Digest → V → Option (List Digest)) (value_of
         (λ more. with_read (with_each f) more (each_of (value_of_text value_of) bs)) later
         ∙ sym (read_next f ds v (each_of (value_of_text value_of) bs))
 
-  repeated_are : (field : ℕ) (ds : List Digest) (rs : List Record) →
+  pub repeated_are : (field : ℕ) (ds : List Digest) (rs : List Record) →
       with_each (λ more r. with_payload of_text more (payload_in field r)) ds rs
       ≡ with_read (with_each f) ds (repeated_values value_of field rs)
   repeated_are field ds rs = payloads_are of_text field ds rs ∙ texts_are ds (payloads field rs)
@@ -166,7 +159,7 @@ module _ (look : Lookup) where
         go true false false d = refl
 
   file_in_is : (ds : List Digest) (r : Record) →
-      with_file_in ds r ≡ with_payload (of_text (with_file look) file_node_of) ds (payload_in 1 r)
+      with_file_in ds r ≡ with_payload (with_text (with_file look) file_node_of) ds (payload_in 1 r)
   file_in_is ds r = go (payload_in 1 r) refl where
     value : (x : Result FileNodeValue MessageError) →
         and_then (option_map (λ v. Some v) (readable x)) (λ file. with_file_read look ds file) ≡ with_read (with_file look) ds x
@@ -174,13 +167,13 @@ module _ (look : Lookup) where
     value (Ok v) = refl
 
     go : (o : Option (List ℕ)) → payload_in 1 r ≡ o →
-        with_file_in ds r ≡ with_payload (of_text (with_file look) file_node_of) ds (payload_in 1 r)
+        with_file_in ds r ≡ with_payload (with_text (with_file look) file_node_of) ds (payload_in 1 r)
     go None is = rw is refl
     go (Some b) is = rw is (value (value_of_text file_node_of b))
 
   files_are : (ds : List Digest) (rs : List Record) →
       with_each with_file_in ds rs ≡ with_read (with_each (with_file look)) ds (repeated_values file_node_of 1 rs)
-  files_are ds rs = each_same with_file_in (λ more r. with_payload (of_text (with_file look) file_node_of) more (payload_in 1 r)) file_in_is
+  files_are ds rs = each_same with_file_in (λ more r. with_payload (with_text (with_file look) file_node_of) more (payload_in 1 r)) file_in_is
       ds rs ∙ repeated_are (with_file look) file_node_of 1 ds rs
 
   three_are : (ds : List Digest) (fs : Result (List FileNodeValue) MessageError) (cs : Result (List DirectoryNodeValue) MessageError)
@@ -204,7 +197,7 @@ module _ (look : Lookup) where
       ∙ rw (all_read_where rs, are_read_where directory_node_of 2 rs, are_read_where symlink_node_of 3 rs, files_are ds rs)
       (three_are ds (repeated_values file_node_of 1 rs) (repeated_values directory_node_of 2 rs) (repeated_values symlink_node_of 3 rs))
 
-  directory_is : (ds : List Digest) (text : List ℕ) → with_directory_text look ds text ≡ of_text (with_directory look) directory_of ds text
+  directory_is : (ds : List Digest) (text : List ℕ) → with_directory_text look ds text ≡ with_text (with_directory look) directory_of ds text
   unfolding records_in
   directory_is ds text = go (records_of text) where
     go : (rs : Result (List Record) WireError) → with_read (with_each (with_node look)) ds rs
@@ -292,7 +285,7 @@ module _ (look : Lookup) where
       with_each (with_directory_in look 2) ds rs ≡ with_read (with_each (with_directory look)) ds (repeated_values directory_of 2 rs)
   children_are ds rs =
       payloads_are (with_directory_text look) 2 ds rs
-      ∙ each_same (with_directory_text look) (of_text (with_directory look) directory_of) directory_is ds (payloads 2 rs)
+      ∙ each_same (with_directory_text look) (with_text (with_directory look) directory_of) directory_is ds (payloads 2 rs)
       ∙ texts_are (with_directory look) directory_of ds (payloads 2 rs)
 
   both_are : (ds : List Digest) (root : Result (Option DirectoryValue) MessageError)

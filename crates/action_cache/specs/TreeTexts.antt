@@ -23,6 +23,11 @@ abbrev pub with_payload : (List Digest → List ℕ → Option (List Digest)) �
 with_payload with_text ds None = Some ds
 with_payload with_text ds (Some text) = with_text ds text
 
+-- those of what a text means
+abbrev pub with_text : {V : Type 0} → (List Digest → V → Option (List Digest)) →
+    (List Record → Result V MessageError) → List Digest → List ℕ → Option (List Digest)
+with_text with_part value_of ds text = with_read with_part ds (value_of_text value_of text)
+
 -- ---- one node
 
 abbrev pub node_of_payload : {V : Type 0} → (List Record → Result V MessageError) →

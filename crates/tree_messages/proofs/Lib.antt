@@ -3,3 +3,5 @@ pub mod DirectoriesAgain
 pub mod ResultsAgain
 pub mod GetTreeAgain
 pub mod ActionCacheAgain
+pub mod ResultsAlong
+pub mod UpdatesAlong

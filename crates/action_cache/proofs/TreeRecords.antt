@@ -12,11 +12,12 @@ use Rattle.protobuf_wire.specs.Joining.{joined_records, optional_value}
 use Rattle.protobuf_wire.proofs.Along.{none_after, then_same}
 use Rattle.protobuf_wire.proofs.Submessages.{embedded_is_joined}
 use Rattle.digest.specs.declared.Digest.{Digest}
-use Rattle.tree_messages.specs.Directories.{DirectoryValue, FileNodeValue, DirectoryNodeValue, SymlinkNodeValue, file_node_of, directory_node_of, symlink_node_of, directory_of, tree_of}
+use Rattle.tree_messages.specs.Directories.{DirectoryValue, FileNodeValue, DirectoryNodeValue, SymlinkNodeValue, child_after, file_after, file_node_of, directory_node_of, no_child, no_file, no_symlink, symlink_after, symlink_node_of, directory_of, tree_of}
+use Rattle.tree_messages.proofs.DirectoriesAlong.{child_text_is, file_text_is, symlink_text_is}
 use Rattle.input_tree.specs.Listing.{Lookup}
-use Rattle.input_tree.specs.NodeTexts.{readable}
+use Rattle.protobuf_wire.specs.Gathering.{message_after, message_or, readable, with_left}
 use Rattle.action_cache.specs.Complete.{and_then, with_directory, with_each, with_file, with_root, with_tree}
-use Rattle.action_cache.specs.TreeTexts.{node_in, with_directories, with_directory_in, with_directory_text, with_file_read, with_node, with_payload, with_read, with_text}
+use Rattle.action_cache.specs.TreeTexts.{with_directories, with_directory_in, with_directory_text, with_file_read, with_node, with_payload, with_read, with_text}
 
 -- ---- parts one after another
 
@@ -82,6 +83,22 @@ module _ {V : Type 0} (f : List Digest → V → Option (List Digest)) (value_of
 
 -- ---- the nodes of a directory
 
+abbrev node_of_payload : {V : Type 0} → (List Record → Result V MessageError) → Option (List ℕ) → Option (Option V)
+node_of_payload value_of None = Some None
+node_of_payload value_of (Some b) = option_map (λ v. Some v) (readable (value_of_text value_of b))
+
+-- the node of a record, where that is one of the field; there is none that cannot be read
+abbrev node_in : {V : Type 0} → (List Record → Result V MessageError) → ℕ → Record → Option (Option V)
+node_in value_of field r = node_of_payload value_of (payload_in field r)
+
+node_same : {V : Type 0} (step : V → Record → Option V) (none : V) (value_of : List Record → Result V MessageError) →
+    ((text : List ℕ) → with_left step none (records_of text) ≡ readable (value_of_text value_of text)) →
+    (field : ℕ) (r : Record) → message_after step none field None r ≡ node_in value_of field r
+node_same {V} step none value_of h field r = go (payload_in field r) where
+  go : (o : Option (List ℕ)) → message_or step none None o ≡ node_of_payload value_of o
+  go None = refl
+  go (Some b) = ap (λ (x : Option V). option_map (λ v. Some v) x) (h b)
+
 abbrev gate : {A : Type 0} → Bool → Option A → Option A
 gate b o = if b then o else None
 
@@ -131,9 +148,15 @@ module _ (look : Lookup) where
   all_read (r ∷ rs) = others_read r && all_read rs
 
   node_is : (ds : List Digest) (r : Record) → with_node look ds r ≡ gate (others_read r) (with_file_in ds r)
-  node_is ds r = go (node_in file_node_of 1 r) (node_in directory_node_of 2 r) (node_in symlink_node_of 3 r) where
+  node_is ds r =
+      rw (
+        node_same file_after no_file file_node_of file_text_is 1 r,
+        node_same child_after no_child directory_node_of child_text_is 2 r,
+        node_same symlink_after no_symlink symlink_node_of symlink_text_is 3 r,
+      ) (go (node_in file_node_of 1 r) (node_in directory_node_of 2 r) (node_in symlink_node_of 3 r)) where
     go : (x : Option (Option FileNodeValue)) (y : Option (Option DirectoryNodeValue)) (z : Option (Option SymlinkNodeValue)) →
-        and_then x (λ file. and_then y (λ _. and_then z (λ _. with_file_read look ds file)))
+        and_then x (λ file. and_then (option_map (λ _. tt {0}) y) (λ _. and_then (option_map (λ _. tt {0}) z)
+        (λ _. with_file_read look ds file)))
         ≡ gate (is_some y && is_some z) (and_then x (λ file. with_file_read look ds file))
     go None None z = refl
     go None (Some y) None = refl

@@ -8,7 +8,7 @@ ghost use Rattle.action_cache.specs.Complete.{with_blob, with_set};
 ghost use Rattle.action_cache.specs.Naming.{Names};
 
 use digest::Digest;
-use input_tree::{Unread as UnreadNode, digest_written};
+use input_tree::digest_written;
 use instance_view::{Sight, Texts, Work};
 use protobuf_wire::{Unread, WireError};
 use reapi_messages as messages;
@@ -35,14 +35,6 @@ impl From<Unread> for Unnamed {
     ghost from_gives = { λ _ error. error ≡ Incomplete };
 
     fn from(_unread: Unread) -> Unnamed {
-        Unnamed::Incomplete
-    }
-}
-
-impl From<UnreadNode> for Unnamed {
-    ghost from_gives = { λ _ error. error ≡ Incomplete };
-
-    fn from(_unread: UnreadNode) -> Unnamed {
         Unnamed::Incomplete
     }
 }

@@ -11,9 +11,8 @@ ghost use Rattle.action_cache.specs.ResultTexts.{parts_shown, no_parts, parts_af
 
 use crate::naming::{Blobs, Unnamed, name_blob};
 use digest::Digest;
-use input_tree::payload_of;
 use instance_view::Work;
-use protobuf_wire::{Field, Reader, add_message, gathered};
+use protobuf_wire::{Field, Reader, add_message, gathered, payload_of};
 use reapi_messages as messages;
 use tree_messages::{OutputDirectory, OutputFile};
 

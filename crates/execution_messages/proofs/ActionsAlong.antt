@@ -8,7 +8,7 @@ use Rattle.protobuf_wire.specs.declared.error.MessageError.{MessageError}
 use Rattle.protobuf_wire.specs.Record.{Record}
 use Rattle.protobuf_wire.specs.Gathering.{and_then, message_after, number_step, readable, string_after, with_all, with_left}
 use Rattle.protobuf_wire.specs.Fields.{embedded_value, flag, int32_of, string, value_of_text}
-use Rattle.protobuf_wire.proofs.Along.{embedded_is, four_are, number_is, still, still_is, string_is, text_is}
+use Rattle.protobuf_wire.proofs.Along.{embedded_is, four_are, number_is, read_are, still, still_is, string_is, text_is}
 use Rattle.reapi_messages.specs.Digests.{DigestValue, digest_field_after, digest_of}
 use Rattle.reapi_messages.proofs.DigestsAlong.{digest_field_is}
 use Rattle.execution_messages.specs.Actions.{ActionValue, DurationValue, EnvironmentVariableValue, action_after, action_of, duration_after, duration_of, environment_variable_of, no_action, no_duration, no_variable, variable_after}
@@ -32,33 +32,18 @@ action_is rs =
       digest_field_is 2 rs,
       embedded_is duration_after no_duration duration_of duration_is 6 rs,
       number_is (nat_lt 0) 7 0 rs,
-    ) (go (embedded_value digest_of 1 rs) (embedded_value digest_of 2 rs) (embedded_value duration_of 6 rs)) where
+    ) (read_are make (embedded_value digest_of 1 rs) (embedded_value digest_of 2 rs) (embedded_value duration_of 6 rs) (Ok (flag 7 rs))) where
       make : Option DigestValue → Option DigestValue → Option DurationValue → Bool → ActionValue
       make command root timeout flag =
           record { command_digest = command; input_root_digest = root; timeout = timeout; do_not_cache = flag }
-
-      go : (x y : Result (Option DigestValue) MessageError) (z : Result (Option DurationValue) MessageError) →
-          and_then (readable x) (λ a. and_then (readable y) (λ b. and_then (readable z) (λ c. Some (make a b c (flag 7 rs)))))
-          ≡ readable (x >>= λ a. y >>= λ b. z >>= λ c. Ok (make a b c (flag 7 rs)))
-      go (Err e) y z = refl
-      go (Ok a) (Err e) z = refl
-      go (Ok a) (Ok b) (Err e) = refl
-      go (Ok a) (Ok b) (Ok c) = refl
 
 variable_is : (rs : List Record) → with_all variable_after no_variable rs ≡ readable (environment_variable_of rs)
 unfolding environment_variable_of
 variable_is rs =
     four_are make (string_after 1) (string_after 2) still still variable_after (λ a b c d r. refl) [] [] tt tt rs
-    ∙ rw (string_is 1 rs, string_is 2 rs, still_is tt rs) (go (string 1 rs) (string 2 rs)) where
+    ∙ rw (string_is 1 rs, string_is 2 rs, still_is tt rs) (read_are make (string 1 rs) (string 2 rs) (Ok tt) (Ok tt)) where
       make : List ℕ → List ℕ → Unit {0} → Unit {0} → EnvironmentVariableValue
       make name value c d = record { name = name; value = value }
-
-      go : (x y : Result (List ℕ) MessageError) →
-          and_then (readable x) (λ name. and_then (readable y) (λ value. Some (make name value tt tt)))
-          ≡ readable (x >>= λ name. y >>= λ value. Ok (make name value tt tt))
-      go (Err e) y = refl
-      go (Ok name) (Err e) = refl
-      go (Ok name) (Ok value) = refl
 
 pub action_text_is : (text : List ℕ) → with_left action_after no_action (records_of text) ≡ readable (value_of_text action_of text)
 action_text_is text = text_is action_after no_action action_of action_is text

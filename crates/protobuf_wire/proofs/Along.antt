@@ -60,6 +60,16 @@ module _ {A B C D V : Type 0} (make : A → B → C → D → V) (f : A → Reco
         ∙ none_after (with_all g b rs)) ∙ none_after (with_all f a rs))
     go (Some a) (Some b) (Some c) (Some d) later = later a b c d
 
+-- what can be read of each, and then of all
+pub read_are : {A B C D V : Type 0} (make : A → B → C → D → V) (x : Result A MessageError) (y : Result B MessageError)
+    (z : Result C MessageError) (w : Result D MessageError) → of_parts make (readable x) (readable y) (readable z) (readable w)
+    ≡ readable (x >>= λ a. y >>= λ b. z >>= λ c. w >>= λ d. Ok (make a b c d))
+read_are make (Err e) y z w = refl
+read_are make (Ok a) (Err e) z w = refl
+read_are make (Ok a) (Ok b) (Err e) w = refl
+read_are make (Ok a) (Ok b) (Ok c) (Err e) = refl
+read_are make (Ok a) (Ok b) (Ok c) (Ok d) = refl
+
 -- a field that there is not
 abbrev pub still : Unit {0} → Record → Option (Unit {0})
 still u r = Some tt

@@ -7,7 +7,7 @@ use Rattle.protobuf_wire.specs.declared.error.MessageError.{MessageError}
 use Rattle.protobuf_wire.specs.Record.{Record}
 use Rattle.protobuf_wire.specs.Gathering.{and_then, number_step, readable, string_after, with_all, with_left}
 use Rattle.protobuf_wire.specs.Fields.{embedded_value, flag, string, value_of_text}
-use Rattle.protobuf_wire.proofs.Along.{four_are, number_is, still, still_is, string_is, text_is}
+use Rattle.protobuf_wire.proofs.Along.{four_are, number_is, read_are, still, still_is, string_is, text_is}
 use Rattle.reapi_messages.specs.Digests.{DigestValue, digest_field_after, digest_of}
 use Rattle.reapi_messages.proofs.DigestsAlong.{digest_field_is}
 use Rattle.tree_messages.specs.Directories.{DirectoryNodeValue, FileNodeValue, SymlinkNodeValue, child_after, directory_node_of, file_after, file_node_of, no_child, no_file, no_symlink, symlink_after, symlink_node_of}
@@ -18,46 +18,25 @@ file_is rs =
     four_are make (string_after 1) (digest_field_after 2) (number_step (nat_lt 0) 4) still file_after (λ a b c d r. refl) [] None false tt
     rs
     ∙ rw (string_is 1 rs, digest_field_is 2 rs, number_is (nat_lt 0) 4 0 rs, still_is tt rs)
-    (go (string 1 rs) (embedded_value digest_of 2 rs)) where
+    (read_are make (string 1 rs) (embedded_value digest_of 2 rs) (Ok (flag 4 rs)) (Ok tt)) where
       make : List ℕ → Option DigestValue → Bool → Unit {0} → FileNodeValue
       make name digest flag d = record { name = name; digest = digest; is_executable = flag }
-
-      go : (x : Result (List ℕ) MessageError) (y : Result (Option DigestValue) MessageError) →
-          and_then (readable x) (λ name. and_then (readable y) (λ digest. Some (make name digest (flag 4 rs) tt)))
-          ≡ readable (x >>= λ name. y >>= λ digest. Ok (make name digest (flag 4 rs) tt))
-      go (Err e) y = refl
-      go (Ok name) (Err e) = refl
-      go (Ok name) (Ok digest) = refl
 
 child_is : (rs : List Record) → with_all child_after no_child rs ≡ readable (directory_node_of rs)
 unfolding directory_node_of
 child_is rs =
     four_are make (string_after 1) (digest_field_after 2) still still child_after (λ a b c d r. refl) [] None tt tt rs
-    ∙ rw (string_is 1 rs, digest_field_is 2 rs, still_is tt rs) (go (string 1 rs) (embedded_value digest_of 2 rs)) where
+    ∙ rw (string_is 1 rs, digest_field_is 2 rs, still_is tt rs) (read_are make (string 1 rs) (embedded_value digest_of 2 rs) (Ok tt) (Ok tt)) where
       make : List ℕ → Option DigestValue → Unit {0} → Unit {0} → DirectoryNodeValue
       make name digest c d = record { name = name; digest = digest }
-
-      go : (x : Result (List ℕ) MessageError) (y : Result (Option DigestValue) MessageError) →
-          and_then (readable x) (λ name. and_then (readable y) (λ digest. Some (make name digest tt tt)))
-          ≡ readable (x >>= λ name. y >>= λ digest. Ok (make name digest tt tt))
-      go (Err e) y = refl
-      go (Ok name) (Err e) = refl
-      go (Ok name) (Ok digest) = refl
 
 symlink_is : (rs : List Record) → with_all symlink_after no_symlink rs ≡ readable (symlink_node_of rs)
 unfolding symlink_node_of
 symlink_is rs =
     four_are make (string_after 1) (string_after 2) still still symlink_after (λ a b c d r. refl) [] [] tt tt rs
-    ∙ rw (string_is 1 rs, string_is 2 rs, still_is tt rs) (go (string 1 rs) (string 2 rs)) where
+    ∙ rw (string_is 1 rs, string_is 2 rs, still_is tt rs) (read_are make (string 1 rs) (string 2 rs) (Ok tt) (Ok tt)) where
       make : List ℕ → List ℕ → Unit {0} → Unit {0} → SymlinkNodeValue
       make name target c d = record { name = name; target = target }
-
-      go : (x y : Result (List ℕ) MessageError) →
-          and_then (readable x) (λ name. and_then (readable y) (λ target. Some (make name target tt tt)))
-          ≡ readable (x >>= λ name. y >>= λ target. Ok (make name target tt tt))
-      go (Err e) y = refl
-      go (Ok name) (Err e) = refl
-      go (Ok name) (Ok target) = refl
 
 pub file_text_is : (text : List ℕ) → with_left file_after no_file (records_of text) ≡ readable (value_of_text file_node_of text)
 file_text_is text = text_is file_after no_file file_node_of file_is text

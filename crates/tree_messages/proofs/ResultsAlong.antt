@@ -9,7 +9,7 @@ use Rattle.protobuf_wire.specs.Fields.{embedded_value, flag, int32, octets, repe
 use Rattle.reapi_messages.specs.Digests.{DigestValue, digest_field_after, digest_of}
 use Rattle.tree_messages.specs.Results.{ActionResultValue, OutputDirectoryValue, OutputFileValue, ReadResultValue, action_result_of, no_output_directory, no_output_file, no_result, output_directory_after, output_directory_of, output_file_after, output_file_of, read_result_of, result_after}
 use Rattle.protobuf_wire.specs.Gathering.{and_then, number_step, readable, string_after, tested, with_all, with_left}
-use Rattle.protobuf_wire.proofs.Along.{four_are, number_is, of_parts, still, still_is, string_is, tested_are, text_is}
+use Rattle.protobuf_wire.proofs.Along.{four_are, number_is, read_are, of_parts, still, still_is, string_is, tested_are, text_is}
 use Rattle.reapi_messages.proofs.DigestsAlong.{digest_field_is}
 
 file_is : (rs : List Record) → with_all output_file_after no_output_file rs ≡ readable (output_file_of rs)
@@ -18,31 +18,17 @@ file_is rs =
     four_are make (string_after 1) (digest_field_after 2) (number_step (nat_lt 0) 4) still output_file_after (λ a b c d r. refl) [] None
     false tt rs
     ∙ rw (string_is 1 rs, digest_field_is 2 rs, number_is (nat_lt 0) 4 0 rs, still_is tt rs)
-    (go (string 1 rs) (embedded_value digest_of 2 rs)) where
+    (read_are make (string 1 rs) (embedded_value digest_of 2 rs) (Ok (flag 4 rs)) (Ok tt)) where
       make : List ℕ → Option DigestValue → Bool → Unit {0} → OutputFileValue
       make path digest flag d = record { path = path; digest = digest; is_executable = flag }
-
-      go : (x : Result (List ℕ) MessageError) (y : Result (Option DigestValue) MessageError) →
-          and_then (readable x) (λ path. and_then (readable y) (λ digest. Some (make path digest (flag 4 rs) tt)))
-          ≡ readable (x >>= λ path. y >>= λ digest. Ok (make path digest (flag 4 rs) tt))
-      go (Err e) y = refl
-      go (Ok path) (Err e) = refl
-      go (Ok path) (Ok digest) = refl
 
 directory_is : (rs : List Record) → with_all output_directory_after no_output_directory rs ≡ readable (output_directory_of rs)
 unfolding output_directory_of
 directory_is rs =
     four_are make (string_after 1) (digest_field_after 3) still still output_directory_after (λ a b c d r. refl) [] None tt tt rs
-    ∙ rw (string_is 1 rs, digest_field_is 3 rs, still_is tt rs) (go (string 1 rs) (embedded_value digest_of 3 rs)) where
+    ∙ rw (string_is 1 rs, digest_field_is 3 rs, still_is tt rs) (read_are make (string 1 rs) (embedded_value digest_of 3 rs) (Ok tt) (Ok tt)) where
       make : List ℕ → Option DigestValue → Unit {0} → Unit {0} → OutputDirectoryValue
       make path digest c d = record { path = path; tree_digest = digest }
-
-      go : (x : Result (List ℕ) MessageError) (y : Result (Option DigestValue) MessageError) →
-          and_then (readable x) (λ path. and_then (readable y) (λ digest. Some (make path digest tt tt)))
-          ≡ readable (x >>= λ path. y >>= λ digest. Ok (make path digest tt tt))
-      go (Err e) y = refl
-      go (Ok path) (Err e) = refl
-      go (Ok path) (Ok digest) = refl
 
 pub file_text_is : (text : List ℕ) → with_left output_file_after no_output_file (records_of text) ≡ readable (value_of_text output_file_of text)
 file_text_is text = text_is output_file_after no_output_file output_file_of file_is text

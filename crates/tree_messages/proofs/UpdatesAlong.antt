@@ -11,7 +11,7 @@ use Rattle.reapi_messages.specs.Digests.{DigestValue, digest_field_after, digest
 use Rattle.protobuf_wire.specs.Gathering.{and_then, message_after, number_step, readable, string_after, with_all, with_left}
 use Rattle.tree_messages.specs.Results.{ReadResultValue, no_result, read_result_of, result_after}
 use Rattle.tree_messages.specs.ActionCache.{ReadUpdateValue, no_update, read_update_of, update_after}
-use Rattle.protobuf_wire.proofs.Along.{embedded_is, four_are, number_is, string_is, text_is}
+use Rattle.protobuf_wire.proofs.Along.{embedded_is, four_are, number_is, read_are, string_is, text_is}
 use Rattle.reapi_messages.proofs.DigestsAlong.{digest_field_is}
 use Rattle.tree_messages.proofs.ResultsAlong.{result_is}
 
@@ -20,19 +20,10 @@ update_is rs =
     four_are make (string_after 1) (digest_field_after 2) (message_after result_after no_result 3) (number_step int32_of 5) update_after
     (λ a b c d r. refl) [] None None (pos 0) rs
     ∙ rw (string_is 1 rs, digest_field_is 2 rs, embedded_is result_after no_result read_result_of result_is 3 rs, number_is int32_of 5 0 rs)
-    (go (string 1 rs) (embedded_value digest_of 2 rs) (embedded_value read_result_of 3 rs)) where
+    (read_are make (string 1 rs) (embedded_value digest_of 2 rs) (embedded_value read_result_of 3 rs) (Ok (int32 5 rs))) where
       make : List ℕ → Option DigestValue → Option ReadResultValue → ℤ → ReadUpdateValue
       make name action result function =
           record { instance_name = name; action_digest = action; action_result = result; digest_function = function }
-
-      go : (x : Result (List ℕ) MessageError) (y : Result (Option DigestValue) MessageError)
-          (z : Result (Option ReadResultValue) MessageError) →
-          and_then (readable x) (λ a. and_then (readable y) (λ b. and_then (readable z) (λ c. Some (make a b c (int32 5 rs)))))
-          ≡ readable (x >>= λ a. y >>= λ b. z >>= λ c. Ok (make a b c (int32 5 rs)))
-      go (Err e) y z = refl
-      go (Ok a) (Err e) z = refl
-      go (Ok a) (Ok b) (Err e) = refl
-      go (Ok a) (Ok b) (Ok c) = refl
 
 pub update_text_is : (text : List ℕ) → with_left update_after no_update (records_of text) ≡ readable (value_of_text read_update_of text)
 update_text_is text = text_is update_after no_update read_update_of update_is text

@@ -1,5 +1,5 @@
 -- What is named of a result record by record is what the result that its text means names.
-use Rattle.std.proofs.Common.{◌≡◌, ℕ, ◌+◌, ◌*◌, ◌≤◌, Bool, true, false, List, [], ◌∷◌, ◌++◌, ◌||◌, ◌&&◌, ⊥, Option, Some, None, Result, Ok, Err, is_some, refl, sym, ap, subst, ◌∙◌, length, arith, if◌then◌else◌}
+use Rattle.std.proofs.Common.{◌≡◌, ℕ, ◌+◌, ◌*◌, ◌≤◌, Bool, true, false, List, [], ◌∷◌, ◌++◌, ◌||◌, ◌&&◌, Option, Some, None, Result, Ok, Err, is_some, refl, sym, ap, subst, ◌∙◌, length, arith, if◌then◌else◌}
 use Rattle.std.specs.List.{list_any}
 use Rattle.protobuf_wire.specs.Results.{◌>>=◌}
 use Rattle.protobuf_wire.specs.Reading.{records_of}
@@ -118,7 +118,7 @@ module _ (look : Lookup) where
   each_is f ds [] = refl
   each_is f ds (r ∷ rs) = then_same (f ds r) (λ es. with_all f es rs) (λ es. with_each f es rs) (λ es. each_is f es rs)
 
-  make : List Digest → List Digest → Option DigestValue → Option DigestValue → PartsValue
+  abbrev make : List Digest → List Digest → Option DigestValue → Option DigestValue → PartsValue
   make files trees stdout stderr = record { files = files; trees = trees; stdout = stdout; stderr = stderr }
 
   abbrev files_named : Result (List OutputFileValue) MessageError → Option (List Digest)

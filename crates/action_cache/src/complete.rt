@@ -109,7 +109,7 @@ fn name_parts(
 }
 
 /// The digests of the blobs that the result that a text spells names.
-#[tactic(auto, using(crate::proofs::ResultRecords::named_once, crate::proofs::ResultRecords::none_once, crate::proofs::ResultRecords::length_once, crate::proofs::ResultRecords::looks_few))]
+#[tactic(auto, using(crate::proofs::ResultRecords::none_once))]
 fn name_result(blobs: &Blobs<'_>, work: &mut Work, text: &[u8]) -> Result<Vec<Digest>, Unnamed>
     ensures named { Names (λ named. named.items) result
         (blobs_once (look_of blobs.now.texts) text.now) }

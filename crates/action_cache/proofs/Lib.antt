@@ -3,3 +3,4 @@ mod Trees
 mod Found
 mod TreeRecords
 mod Looks
+mod ResultRecords

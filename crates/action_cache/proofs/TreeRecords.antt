@@ -9,21 +9,15 @@ use Rattle.protobuf_wire.specs.declared.error.MessageError.{MessageError}
 use Rattle.protobuf_wire.specs.Answers.{of_wire}
 use Rattle.protobuf_wire.specs.Fields.{each_of, embedded_value, payload_in, payloads, records_in, repeated_values, value_of_text}
 use Rattle.protobuf_wire.specs.Joining.{joined_records, optional_value}
+use Rattle.protobuf_wire.proofs.Along.{none_after, then_same}
 use Rattle.protobuf_wire.proofs.Submessages.{embedded_is_joined}
 use Rattle.digest.specs.declared.Digest.{Digest}
-use Rattle.tree_messages.specs.Directories.{DirectoryValue, FileNodeValue, DirectoryNodeValue, SymlinkNodeValue, file_node_of, directory_node_of, symlink_node_of, directory_of, tree_of}
+use Rattle.tree_messages.specs.Directories.{DirectoryValue, FileNodeValue, DirectoryNodeValue, SymlinkNodeValue, child_after, file_after, file_node_of, directory_node_of, no_child, no_file, no_symlink, symlink_after, symlink_node_of, directory_of, tree_of}
+use Rattle.tree_messages.proofs.DirectoriesAlong.{child_text_is, file_text_is, symlink_text_is}
 use Rattle.input_tree.specs.Listing.{Lookup}
-use Rattle.input_tree.specs.NodeTexts.{readable}
+use Rattle.protobuf_wire.specs.Gathering.{message_after, message_or, readable, with_left}
 use Rattle.action_cache.specs.Complete.{and_then, with_directory, with_each, with_file, with_root, with_tree}
-use Rattle.action_cache.specs.TreeTexts.{node_in, with_directories, with_directory_in, with_directory_text, with_file_read, with_node, with_payload, with_read}
-
-none_after : {A B : Type 0} (o : Option A) → and_then {B = B} o (λ _. None) ≡ None
-none_after None = refl
-none_after (Some x) = refl
-
-then_same : {A B : Type 0} (o : Option A) (k l : A → Option B) → ((a : A) → k a ≡ l a) → and_then o k ≡ and_then o l
-then_same None k l h = refl
-then_same (Some a) k l h = h a
+use Rattle.action_cache.specs.TreeTexts.{with_directories, with_directory_in, with_directory_text, with_file_read, with_node, with_payload, with_read, with_text}
 
 -- ---- parts one after another
 
@@ -64,8 +58,8 @@ payloads_are g field ds (r ∷ rs) = go (payload_in field r) refl (λ more. payl
       (λ more. with_each g more (payloads field rs)) later)
 
 module _ {V : Type 0} (f : List Digest → V → Option (List Digest)) (value_of : List Record → Result V MessageError) where
-  abbrev pub of_text : List Digest → List ℕ → Option (List Digest)
-  of_text ds b = with_read f ds (value_of_text value_of b)
+  abbrev of_text : List Digest → List ℕ → Option (List Digest)
+  of_text ds b = with_text f value_of ds b
 
   -- texts one by one are what they mean one by one
   texts_are : (ds : List Digest) (bs : List (List ℕ)) →
@@ -82,12 +76,28 @@ module _ {V : Type 0} (f : List Digest → V → Option (List Digest)) (value_of
         (λ more. with_read (with_each f) more (each_of (value_of_text value_of) bs)) later
         ∙ sym (read_next f ds v (each_of (value_of_text value_of) bs))
 
-  repeated_are : (field : ℕ) (ds : List Digest) (rs : List Record) →
+  pub repeated_are : (field : ℕ) (ds : List Digest) (rs : List Record) →
       with_each (λ more r. with_payload of_text more (payload_in field r)) ds rs
       ≡ with_read (with_each f) ds (repeated_values value_of field rs)
   repeated_are field ds rs = payloads_are of_text field ds rs ∙ texts_are ds (payloads field rs)
 
 -- ---- the nodes of a directory
+
+abbrev node_of_payload : {V : Type 0} → (List Record → Result V MessageError) → Option (List ℕ) → Option (Option V)
+node_of_payload value_of None = Some None
+node_of_payload value_of (Some b) = option_map (λ v. Some v) (readable (value_of_text value_of b))
+
+-- the node of a record, where that is one of the field; there is none that cannot be read
+abbrev node_in : {V : Type 0} → (List Record → Result V MessageError) → ℕ → Record → Option (Option V)
+node_in value_of field r = node_of_payload value_of (payload_in field r)
+
+node_same : {V : Type 0} (step : V → Record → Option V) (none : V) (value_of : List Record → Result V MessageError) →
+    ((text : List ℕ) → with_left step none (records_of text) ≡ readable (value_of_text value_of text)) →
+    (field : ℕ) (r : Record) → message_after step none field None r ≡ node_in value_of field r
+node_same {V} step none value_of h field r = go (payload_in field r) where
+  go : (o : Option (List ℕ)) → message_or step none None o ≡ node_of_payload value_of o
+  go None = refl
+  go (Some b) = ap (λ (x : Option V). option_map (λ v. Some v) x) (h b)
 
 abbrev gate : {A : Type 0} → Bool → Option A → Option A
 gate b o = if b then o else None
@@ -138,9 +148,15 @@ module _ (look : Lookup) where
   all_read (r ∷ rs) = others_read r && all_read rs
 
   node_is : (ds : List Digest) (r : Record) → with_node look ds r ≡ gate (others_read r) (with_file_in ds r)
-  node_is ds r = go (node_in file_node_of 1 r) (node_in directory_node_of 2 r) (node_in symlink_node_of 3 r) where
+  node_is ds r =
+      rw (
+        node_same file_after no_file file_node_of file_text_is 1 r,
+        node_same child_after no_child directory_node_of child_text_is 2 r,
+        node_same symlink_after no_symlink symlink_node_of symlink_text_is 3 r,
+      ) (go (node_in file_node_of 1 r) (node_in directory_node_of 2 r) (node_in symlink_node_of 3 r)) where
     go : (x : Option (Option FileNodeValue)) (y : Option (Option DirectoryNodeValue)) (z : Option (Option SymlinkNodeValue)) →
-        and_then x (λ file. and_then y (λ _. and_then z (λ _. with_file_read look ds file)))
+        and_then x (λ file. and_then (option_map (λ _. tt {0}) y) (λ _. and_then (option_map (λ _. tt {0}) z)
+        (λ _. with_file_read look ds file)))
         ≡ gate (is_some y && is_some z) (and_then x (λ file. with_file_read look ds file))
     go None None z = refl
     go None (Some y) None = refl
@@ -166,7 +182,7 @@ module _ (look : Lookup) where
         go true false false d = refl
 
   file_in_is : (ds : List Digest) (r : Record) →
-      with_file_in ds r ≡ with_payload (of_text (with_file look) file_node_of) ds (payload_in 1 r)
+      with_file_in ds r ≡ with_payload (with_text (with_file look) file_node_of) ds (payload_in 1 r)
   file_in_is ds r = go (payload_in 1 r) refl where
     value : (x : Result FileNodeValue MessageError) →
         and_then (option_map (λ v. Some v) (readable x)) (λ file. with_file_read look ds file) ≡ with_read (with_file look) ds x
@@ -174,13 +190,13 @@ module _ (look : Lookup) where
     value (Ok v) = refl
 
     go : (o : Option (List ℕ)) → payload_in 1 r ≡ o →
-        with_file_in ds r ≡ with_payload (of_text (with_file look) file_node_of) ds (payload_in 1 r)
+        with_file_in ds r ≡ with_payload (with_text (with_file look) file_node_of) ds (payload_in 1 r)
     go None is = rw is refl
     go (Some b) is = rw is (value (value_of_text file_node_of b))
 
   files_are : (ds : List Digest) (rs : List Record) →
       with_each with_file_in ds rs ≡ with_read (with_each (with_file look)) ds (repeated_values file_node_of 1 rs)
-  files_are ds rs = each_same with_file_in (λ more r. with_payload (of_text (with_file look) file_node_of) more (payload_in 1 r)) file_in_is
+  files_are ds rs = each_same with_file_in (λ more r. with_payload (with_text (with_file look) file_node_of) more (payload_in 1 r)) file_in_is
       ds rs ∙ repeated_are (with_file look) file_node_of 1 ds rs
 
   three_are : (ds : List Digest) (fs : Result (List FileNodeValue) MessageError) (cs : Result (List DirectoryNodeValue) MessageError)
@@ -204,7 +220,7 @@ module _ (look : Lookup) where
       ∙ rw (all_read_where rs, are_read_where directory_node_of 2 rs, are_read_where symlink_node_of 3 rs, files_are ds rs)
       (three_are ds (repeated_values file_node_of 1 rs) (repeated_values directory_node_of 2 rs) (repeated_values symlink_node_of 3 rs))
 
-  directory_is : (ds : List Digest) (text : List ℕ) → with_directory_text look ds text ≡ of_text (with_directory look) directory_of ds text
+  directory_is : (ds : List Digest) (text : List ℕ) → with_directory_text look ds text ≡ with_text (with_directory look) directory_of ds text
   unfolding records_in
   directory_is ds text = go (records_of text) where
     go : (rs : Result (List Record) WireError) → with_read (with_each (with_node look)) ds rs
@@ -292,7 +308,7 @@ module _ (look : Lookup) where
       with_each (with_directory_in look 2) ds rs ≡ with_read (with_each (with_directory look)) ds (repeated_values directory_of 2 rs)
   children_are ds rs =
       payloads_are (with_directory_text look) 2 ds rs
-      ∙ each_same (with_directory_text look) (of_text (with_directory look) directory_of) directory_is ds (payloads 2 rs)
+      ∙ each_same (with_directory_text look) (with_text (with_directory look) directory_of) directory_is ds (payloads 2 rs)
       ∙ texts_are (with_directory look) directory_of ds (payloads 2 rs)
 
   both_are : (ds : List Digest) (root : Result (Option DirectoryValue) MessageError)

@@ -16,20 +16,20 @@ use Rattle.input_tree.specs.Listing.{Lookup}
 use Rattle.input_tree.specs.Pages.{text_or_none}
 use Rattle.input_tree.specs.Uses.{AreAmong, visible_after_uses}
 use Rattle.input_tree.proofs.LastUses.{covered_uses_do}
-use Rattle.action_cache.specs.Complete.{and_then, with_digest, with_each, with_file, with_directory, with_root, with_set, with_streams, with_tree, with_tree_of, with_output_directory, with_output_file, with_outputs, blobs_of}
+use Rattle.action_cache.specs.Complete.{and_then, with_digest, with_each, with_file, with_directory, with_root, with_set, with_streams, with_tree, with_tree_at, with_tree_of, with_output_directory, with_output_file, with_outputs, blobs_of}
 use Rattle.action_cache.specs.Answering.{HaveSameUses}
-use Rattle.action_cache.specs.LastTrees.{is_there, is_tree_there, are_trees_there, are_of_one_tree, blobs_once, is_among, is_met, kept_from, last_trees, met_from, same_tree, unless_met, with_met, with_outputs_once, with_tree_met}
+use Rattle.action_cache.specs.LastTrees.{are_of_one_tree, blobs_once, kept_from, last_of, last_trees, met_from, same_tree, unless_met, with_met, with_outputs_once}
 
 -- ---- what a part names comes behind what was named before
 
-abbrev behind : List Digest → Option (List Digest) → Option (List Digest)
+abbrev pub behind : List Digest → Option (List Digest) → Option (List Digest)
 behind ds o = option_map (λ ns. ds ++ ns) o
 
 behind_both : (ds ns : List Digest) (o : Option (List Digest)) → behind (ds ++ ns) o ≡ behind ds (behind ns o)
 behind_both ds ns None = refl
 behind_both ds ns (Some rest) = ap (λ (xs : List Digest). Some xs) (append_assoc ds ns rest)
 
-abbrev IsBehind : {V : Type 0} → (List Digest → V → Option (List Digest)) → Type 0
+abbrev pub IsBehind : {V : Type 0} → (List Digest → V → Option (List Digest)) → Type 0
 IsBehind {V} f = (ds : List Digest) (v : V) → f ds v ≡ behind ds (f [] v)
 
 -- steps that come behind, one after another
@@ -38,13 +38,13 @@ then_behind : (ds : List Digest) (o : Option (List Digest)) (k : List Digest →
 then_behind ds None k h = refl
 then_behind ds (Some ns) k h = h (ds ++ ns) ∙ behind_both ds ns (k []) ∙ ap (behind ds) (sym (h ns))
 
-each_behind : {V : Type 0} (f : List Digest → V → Option (List Digest)) → IsBehind f → IsBehind (with_each f)
+pub each_behind : {V : Type 0} (f : List Digest → V → Option (List Digest)) → IsBehind f → IsBehind (with_each f)
 each_behind f h ds [] = ap (λ (xs : List Digest). Some xs) (sym (append-nil ds))
 each_behind f h ds (v ∷ vs) =
     ap (λ (o : Option (List Digest)). and_then o (λ more. with_each f more vs)) (h ds v)
     ∙ then_behind ds (f [] v) (λ more. with_each f more vs) (λ es. each_behind f h es vs)
 
-digest_behind : (look : Lookup) → IsBehind (with_digest look)
+pub digest_behind : (look : Lookup) → IsBehind (with_digest look)
 digest_behind look ds None = refl
 digest_behind look ds (Some d) = go (is_some (look d)) where
   go : (b : Bool) → (if b then Some (ds ++ d ∷ []) else None) ≡ behind ds (if b then Some (d ∷ []) else None)
@@ -167,11 +167,6 @@ module _ {V : Type 0} (f : List Digest → V → Option (List Digest)) (f_behind
     go (Some ns) is (Some rest) at = rw (each_behind f f_behind (ds ++ ns) vs, at)
         (λ visible. sym (covered_uses_do ds ns rest visible (named_again v vs ns rest h is at)))
 
-  -- the last of those that are alike, in order
-  abbrev pub last_of : List V → List V
-  last_of [] = []
-  last_of (v ∷ vs) = if list_any (alike v) vs then last_of vs else v ∷ last_of vs
-
   same_uses : (ds : List Digest) → HaveSameUses (Some ds) (Some ds)
   same_uses ds visible = refl
 
@@ -183,17 +178,17 @@ module _ {V : Type 0} (f : List Digest → V → Option (List Digest)) (f_behind
   joined (Some a) None q h g = absurd h
   joined (Some a) (Some b) None h g = g
 
-  pub last_have_same_uses : (ds : List Digest) (vs : List V) → HaveSameUses (with_each f ds (last_of vs)) (with_each f ds vs)
+  pub last_have_same_uses : (ds : List Digest) (vs : List V) → HaveSameUses (with_each f ds (last_of alike vs)) (with_each f ds vs)
   last_have_same_uses ds [] = same_uses ds
   last_have_same_uses ds (v ∷ vs) = go (list_any (alike v) vs) refl (λ es. last_have_same_uses es vs) where
-    next : (o : Option (List Digest)) → ((es : List Digest) → HaveSameUses (with_each f es (last_of vs)) (with_each f es vs)) →
-        HaveSameUses (and_then o (λ more. with_each f more (last_of vs))) (and_then o (λ more. with_each f more vs))
+    next : (o : Option (List Digest)) → ((es : List Digest) → HaveSameUses (with_each f es (last_of alike vs)) (with_each f es vs)) →
+        HaveSameUses (and_then o (λ more. with_each f more (last_of alike vs))) (and_then o (λ more. with_each f more vs))
     next None later = _
     next (Some es) later = later es
 
-    go : (b : Bool) → list_any (alike v) vs ≡ b → ((es : List Digest) → HaveSameUses (with_each f es (last_of vs)) (with_each f es vs)) →
-        HaveSameUses (with_each f ds (if b then last_of vs else v ∷ last_of vs)) (with_each f ds (v ∷ vs))
-    go true h later = joined (with_each f ds (last_of vs)) (with_each f ds vs) (with_each f ds (v ∷ vs)) (later ds) (left_out ds v vs h)
+    go : (b : Bool) → list_any (alike v) vs ≡ b → ((es : List Digest) → HaveSameUses (with_each f es (last_of alike vs)) (with_each f es vs)) →
+        HaveSameUses (with_each f ds (if b then last_of alike vs else v ∷ last_of alike vs)) (with_each f ds (v ∷ vs))
+    go true h later = joined (with_each f ds (last_of alike vs)) (with_each f ds vs) (with_each f ds (v ∷ vs)) (later ds) (left_out ds v vs h)
     go false h later = next (f ds v) later
 
 -- ---- trees
@@ -212,6 +207,17 @@ last_trees_have_same_uses look ds os = last_have_same_uses (with_output_director
     (trees_are_one look) ds os
 
 -- ---- where a tree is not there, nothing is named
+
+abbrev is_there : Lookup → Option Digest → Bool
+is_there look None = false
+is_there look (Some d) = is_some (look d)
+
+abbrev is_tree_there : Lookup → OutputDirectoryValue → Bool
+is_tree_there look o = is_there look (written_digest o.tree_digest)
+
+abbrev pub are_trees_there : Lookup → List OutputDirectoryValue → Bool
+are_trees_there look [] = true
+are_trees_there look (o ∷ os) = is_tree_there look o && are_trees_there look os
 
 absent_tree : (look : Lookup) (ds : List Digest) (d : Option Digest) → is_there look d ≡ false → with_tree_of look ds d ≡ None
 absent_tree look ds None h = refl
@@ -243,19 +249,18 @@ pub none_of_the_last : (look : Lookup) (ds : List Digest) (os : List OutputDirec
 none_of_the_last look ds os h = none_too (with_each (with_output_directory look) ds (last_trees os))
     (with_each (with_output_directory look) ds os) (absent_among look ds os h) (last_trees_have_same_uses look ds os)
 
--- ---- going along the outputs from the last to the first
+-- ---- going along digests from the last to the first
 
-met_last : (met : List Digest) (os : List OutputDirectoryValue) (o : OutputDirectoryValue) →
-    met_from met (os ++ o ∷ []) ≡ met_from (with_met met o) os
-met_last met [] o = refl
-met_last met (p ∷ ps) o = ap (λ (ds : List Digest). with_met ds p) (met_last met ps o)
+met_last : (met ds : List Digest) (d : Digest) → met_from met (ds ++ d ∷ []) ≡ met_from (with_met met d) ds
+met_last met [] d = refl
+met_last met (e ∷ es) d = ap (λ (ms : List Digest). with_met ms e) (met_last met es d)
 
-pub kept_last : (met : List Digest) (os : List OutputDirectoryValue) (o : OutputDirectoryValue) →
-    kept_from met (os ++ o ∷ []) ≡ unless_met (is_met met o) o ++ kept_from (with_met met o) os
-kept_last met [] o = sym (append-nil (unless_met (is_met met o) o))
-kept_last met (p ∷ ps) o =
-    rw (kept_last met ps o, met_last met ps o) (append_assoc (unless_met (is_met met o) o) (kept_from (with_met met o) ps)
-    (unless_met (is_met (met_from (with_met met o) ps) p) p))
+pub kept_last : (met ds : List Digest) (d : Digest) →
+    kept_from met (ds ++ d ∷ []) ≡ unless_met (list_any (same_digest d) met) d ++ kept_from (with_met met d) ds
+kept_last met [] d = sym (append-nil (unless_met (list_any (same_digest d) met) d))
+kept_last met (e ∷ es) d =
+    rw (kept_last met es d, met_last met es d) (append_assoc (unless_met (list_any (same_digest d) met) d) (kept_from (with_met met d) es)
+    (unless_met (list_any (same_digest e) (met_from (with_met met d) es)) e))
 
 any_last : (t : Digest → Bool) (ds : List Digest) (d : Digest) → list_any t (ds ++ d ∷ []) ≡ (t d || list_any t ds)
 any_last t [] d = refl
@@ -265,10 +270,9 @@ any_last t (e ∷ es) d = rw (any_last t es d) (go (t e) (t d) (list_any t es)) 
   go true false c = refl
   go false b c = refl
 
-among_with : (d : Digest) (met : List Digest) (e : Option Digest) →
-    list_any (same_digest d) (with_tree_met met e) ≡ (same_tree (Some d) e || list_any (same_digest d) met)
-among_with d met None = refl
-among_with d met (Some e) = go (list_any (same_digest e) met) refl where
+among_with : (d : Digest) (met : List Digest) (e : Digest) →
+    list_any (same_digest d) (with_met met e) ≡ (same_digest d e || list_any (same_digest d) met)
+among_with d met e = go (list_any (same_digest e) met) refl where
   old : (b : Bool) → same_digest d e ≡ b → list_any (same_digest e) met ≡ true →
       list_any (same_digest d) met ≡ (b || list_any (same_digest d) met)
   old true is there = ap (λ (x : Digest). list_any (same_digest x) met) (same_equal d e is) ∙ there
@@ -279,21 +283,24 @@ among_with d met (Some e) = go (list_any (same_digest e) met) refl where
   go true there = old (same_digest d e) refl there
   go false there = any_last (same_digest d) met e
 
-among_met : (d : Option Digest) (os : List OutputDirectoryValue) →
-    is_among (met_from [] os) d ≡ list_any (λ p. same_tree d (written_digest p.tree_digest)) os
-among_met None [] = refl
-among_met None (p ∷ ps) = among_met None ps
-among_met (Some d) [] = refl
-among_met (Some d) (p ∷ ps) = among_with d (met_from [] ps) (written_digest p.tree_digest)
-    ∙ ap (λ (b : Bool). same_tree (Some d) (written_digest p.tree_digest) || b) (among_met (Some d) ps)
+among_met : (d : Digest) (ds : List Digest) → list_any (same_digest d) (met_from [] ds) ≡ list_any (same_digest d) ds
+among_met d [] = refl
+among_met d (e ∷ es) = among_with d (met_from [] es) e ∙ ap (λ (b : Bool). same_digest d e || b) (among_met d es)
 
-pub kept_are_last : (os : List OutputDirectoryValue) → reverse (kept_from [] os) ≡ last_trees os
+kept_are_last : (ds : List Digest) → reverse (kept_from [] ds) ≡ last_of same_digest ds
 kept_are_last [] = refl
-kept_are_last (o ∷ os) = rw (among_met (written_digest o.tree_digest) os) (go (list_any (are_of_one_tree o) os) (kept_are_last os)) where
-  go : (b : Bool) → reverse (kept_from [] os) ≡ last_trees os →
-      reverse (kept_from [] os ++ unless_met b o) ≡ (if b then last_trees os else o ∷ last_trees os)
-  go true later = ap (λ (xs : List OutputDirectoryValue). reverse xs) (append-nil (kept_from [] os)) ∙ later
-  go false later = reverse-append (kept_from [] os) (o ∷ []) ∙ ap (λ (xs : List OutputDirectoryValue). o ∷ xs) later
+kept_are_last (d ∷ ds) = rw (among_met d ds) (go (list_any (same_digest d) ds) (kept_are_last ds)) where
+  go : (b : Bool) → reverse (kept_from [] ds) ≡ last_of same_digest ds →
+      reverse (kept_from [] ds ++ unless_met b d) ≡ (if b then last_of same_digest ds else d ∷ last_of same_digest ds)
+  go true later = ap (λ (xs : List Digest). reverse xs) (append-nil (kept_from [] ds)) ∙ later
+  go false later = reverse-append (kept_from [] ds) (d ∷ []) ∙ ap (λ (xs : List Digest). d ∷ xs) later
+
+-- where none is left
+pub all_kept : (kept seen left ds : List Digest) → left ≡ [] → kept ++ kept_from seen left ≡ kept_from [] ds →
+    reverse kept ≡ last_of same_digest ds
+all_kept kept seen left ds none h =
+    ap (λ (xs : List Digest). reverse xs)
+    (sym (append-nil kept) ∙ ap (λ (xs : List Digest). kept ++ kept_from seen xs) (sym none) ∙ h) ∙ kept_are_last ds
 
 -- ---- the whole result
 

@@ -3,6 +3,7 @@
 use Rattle.std.specs.Prelude.{ℕ, List, [], ◌∷◌, ◌++◌, Option, Some, None, Result, Ok, Err, is_some, if◌then◌else◌}
 use Rattle.protobuf_wire.specs.declared.error.MessageError.{MessageError}
 use Rattle.protobuf_wire.specs.Fields.{value_of_text}
+pub use Rattle.protobuf_wire.specs.Gathering.{and_then}
 use Rattle.digest.specs.declared.Digest.{Digest}
 use Rattle.reapi_messages.specs.Digests.{DigestValue}
 use Rattle.tree_messages.specs.Directories.{DirectoryValue, FileNodeValue, TreeValue, tree_of}
@@ -10,10 +11,6 @@ use Rattle.tree_messages.specs.Results.{ActionResultValue, OutputFileValue, Outp
 use Rattle.input_tree.specs.Directories.{written_digest}
 use Rattle.input_tree.specs.Listing.{Lookup}
 use Rattle.input_tree.specs.Pages.{text_or_none}
-
-abbrev pub and_then : {A B : Type 0} → Option A → (A → Option B) → Option B
-and_then None step = None
-and_then (Some x) step = step x
 
 -- the digests so far and one more, where its blob is there
 abbrev pub with_digest : Lookup → List Digest → Option Digest → Option (List Digest)
@@ -53,12 +50,13 @@ with_tree look ds (Ok tree) =
     (λ more. with_each (with_directory look) more tree.children)
 
 -- a tree, and then its files
+abbrev pub with_tree_at : Lookup → List Digest → Digest → Option (List Digest)
+with_tree_at look ds d =
+    with_tree look (ds ++ d ∷ []) (value_of_text tree_of (text_or_none look d))
+
 abbrev pub with_tree_of : Lookup → List Digest → Option Digest → Option (List Digest)
 with_tree_of look ds None = None
-with_tree_of look ds (Some d) =
-    if is_some (look d)
-    then with_tree look (ds ++ d ∷ []) (value_of_text tree_of (text_or_none look d))
-    else None
+with_tree_of look ds (Some d) = if is_some (look d) then with_tree_at look ds d else None
 
 abbrev pub with_output_directory : Lookup → List Digest → OutputDirectoryValue →
     Option (List Digest)

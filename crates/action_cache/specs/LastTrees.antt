@@ -1,5 +1,5 @@
 -- Trees that a result names many times: the last time is enough.
-use Rattle.std.specs.Prelude.{ℕ, Bool, true, false, ◌&&◌, is_some, List, [], ◌∷◌, ◌++◌, Option, Some, None, Result, Ok, Err, if◌then◌else◌}
+use Rattle.std.specs.Prelude.{ℕ, Bool, false, List, [], ◌∷◌, ◌++◌, Option, Some, None, Result, Ok, Err, if◌then◌else◌}
 use Rattle.std.specs.List.{list_any}
 use Rattle.digest.specs.declared.Digest.{Digest}
 use Rattle.digest.specs.Naming.{same_digest}
@@ -19,11 +19,15 @@ same_tree None e = false
 abbrev pub are_of_one_tree : OutputDirectoryValue → OutputDirectoryValue → Bool
 are_of_one_tree o p = same_tree (written_digest o.tree_digest) (written_digest p.tree_digest)
 
--- the last of those of each tree, in order
+-- the last of those that are alike, in order
+abbrev pub last_of : {V : Type 0} → (V → V → Bool) → List V → List V
+last_of alike [] = []
+last_of alike (v ∷ vs) =
+    if list_any (alike v) vs then last_of alike vs else v ∷ last_of alike vs
+
+-- the last of those of each tree
 abbrev pub last_trees : List OutputDirectoryValue → List OutputDirectoryValue
-last_trees [] = []
-last_trees (o ∷ os) =
-    if list_any (are_of_one_tree o) os then last_trees os else o ∷ last_trees os
+last_trees os = last_of are_of_one_tree os
 
 -- the digests of the blobs that a result names, each tree with its files where it is named last
 abbrev pub with_outputs_once : Lookup → Result ActionResultValue MessageError → Option (List Digest)
@@ -37,41 +41,19 @@ with_outputs_once look (Ok v) =
 abbrev pub blobs_once : Lookup → List ℕ → Option (List Digest)
 blobs_once look text = with_outputs_once look (value_of_text action_result_of text)
 
--- whether the tree of an output directory is there
-abbrev pub is_there : Lookup → Option Digest → Bool
-is_there look None = false
-is_there look (Some d) = is_some (look d)
+-- ---- by going along the digests of trees from the last to the first, with those that were met
 
-abbrev pub is_tree_there : Lookup → OutputDirectoryValue → Bool
-is_tree_there look o = is_there look (written_digest o.tree_digest)
+abbrev pub with_met : List Digest → Digest → List Digest
+with_met met d = if list_any (same_digest d) met then met else met ++ d ∷ []
 
-abbrev pub are_trees_there : Lookup → List OutputDirectoryValue → Bool
-are_trees_there look [] = true
-are_trees_there look (o ∷ os) = is_tree_there look o && are_trees_there look os
-
--- ---- by going along the outputs from the last to the first, with the trees that were met
-
-abbrev pub is_among : List Digest → Option Digest → Bool
-is_among met None = false
-is_among met (Some d) = list_any (same_digest d) met
-
-abbrev pub with_tree_met : List Digest → Option Digest → List Digest
-with_tree_met met None = met
-with_tree_met met (Some d) = if list_any (same_digest d) met then met else met ++ d ∷ []
-
-abbrev pub is_met : List Digest → OutputDirectoryValue → Bool
-is_met met o = is_among met (written_digest o.tree_digest)
-
-abbrev pub with_met : List Digest → OutputDirectoryValue → List Digest
-with_met met o = with_tree_met met (written_digest o.tree_digest)
-
-abbrev pub met_from : List Digest → List OutputDirectoryValue → List Digest
+abbrev pub met_from : List Digest → List Digest → List Digest
 met_from met [] = met
-met_from met (o ∷ os) = with_met (met_from met os) o
+met_from met (d ∷ ds) = with_met (met_from met ds) d
 
-abbrev pub unless_met : Bool → OutputDirectoryValue → List OutputDirectoryValue
-unless_met is o = if is then [] else o ∷ []
+abbrev pub unless_met : Bool → Digest → List Digest
+unless_met is d = if is then [] else d ∷ []
 
-abbrev pub kept_from : List Digest → List OutputDirectoryValue → List OutputDirectoryValue
+abbrev pub kept_from : List Digest → List Digest → List Digest
 kept_from met [] = []
-kept_from met (o ∷ os) = kept_from met os ++ unless_met (is_met (met_from met os) o) o
+kept_from met (d ∷ ds) =
+    kept_from met ds ++ unless_met (list_any (same_digest d) (met_from met ds)) d

@@ -5,4 +5,5 @@ pub mod Answering
 pub mod LastTrees
 pub mod Naming
 pub mod TreeTexts
+pub mod ResultTexts
 pub mod Work

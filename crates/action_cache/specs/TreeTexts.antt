@@ -6,9 +6,9 @@ use Rattle.protobuf_wire.specs.Reading.{records_of}
 use Rattle.protobuf_wire.specs.declared.error.MessageError.{MessageError}
 use Rattle.protobuf_wire.specs.Fields.{payload_in, value_of_text}
 use Rattle.digest.specs.declared.Digest.{Digest}
-use Rattle.tree_messages.specs.Directories.{FileNodeValue, file_node_of, directory_node_of, symlink_node_of}
+use Rattle.tree_messages.specs.Directories.{FileNodeValue, child_after, file_after, no_child, no_file, no_symlink, symlink_after}
 use Rattle.input_tree.specs.Listing.{Lookup}
-use Rattle.input_tree.specs.NodeTexts.{readable}
+use Rattle.protobuf_wire.specs.Gathering.{message_after, tested}
 use Rattle.action_cache.specs.Complete.{and_then, with_each, with_file}
 
 -- the digests so far and those of what was read
@@ -23,18 +23,12 @@ abbrev pub with_payload : (List Digest → List ℕ → Option (List Digest)) �
 with_payload with_text ds None = Some ds
 with_payload with_text ds (Some text) = with_text ds text
 
+-- those of what a text means
+abbrev pub with_text : {V : Type 0} → (List Digest → V → Option (List Digest)) →
+    (List Record → Result V MessageError) → List Digest → List ℕ → Option (List Digest)
+with_text with_part value_of ds text = with_read with_part ds (value_of_text value_of text)
+
 -- ---- one node
-
-abbrev pub node_of_payload : {V : Type 0} → (List Record → Result V MessageError) →
-    Option (List ℕ) → Option (Option V)
-node_of_payload value_of None = Some None
-node_of_payload value_of (Some b) =
-    option_map (λ v. Some v) (readable (value_of_text value_of b))
-
--- the node of a record, where that is one of the field; there is none that cannot be read
-abbrev pub node_in : {V : Type 0} → (List Record → Result V MessageError) → ℕ → Record →
-    Option (Option V)
-node_in value_of field r = node_of_payload value_of (payload_in field r)
 
 abbrev pub with_file_read : Lookup → List Digest → Option FileNodeValue → Option (List Digest)
 with_file_read look ds None = Some ds
@@ -43,8 +37,9 @@ with_file_read look ds (Some n) = with_file look ds n
 -- those of the node of a directory's record
 abbrev pub with_node : Lookup → List Digest → Record → Option (List Digest)
 with_node look ds r =
-    and_then (node_in file_node_of 1 r) (λ file. and_then (node_in directory_node_of 2 r)
-    (λ _. and_then (node_in symlink_node_of 3 r) (λ _. with_file_read look ds file)))
+    and_then (message_after file_after no_file 1 None r) (λ file.
+    and_then (tested child_after no_child 2 tt r) (λ _.
+    and_then (tested symlink_after no_symlink 3 tt r) (λ _. with_file_read look ds file)))
 
 -- ---- texts
 

@@ -16,9 +16,12 @@ abbrev pub sum_of : {V : Type 0} → (V → ℕ) → List V → ℕ
 sum_of count [] = 0
 sum_of count (v ∷ vs) = count v + sum_of count vs
 
+abbrev pub text_length : Lookup → Digest → ℕ
+text_length look d = length (text_or_none look d)
+
 abbrev pub length_of : Lookup → Option Digest → ℕ
 length_of look None = 0
-length_of look (Some d) = length (text_or_none look d)
+length_of look (Some d) = text_length look d
 
 -- how long the text of an output directory's tree is, and 0 where there is none
 abbrev pub tree_length : Lookup → OutputDirectoryValue → ℕ
@@ -49,18 +52,6 @@ looks_for look action results =
 abbrev pub bytes_for : Lookup → Digest → List Blob → ℕ
 bytes_for look action results = of_stored (trees_length look) (lookup (same_digest action) results)
 
--- ---- by its parts. For the code alone: no public contract speaks of it
-
--- a tree is looked for and found, and its text is gone over twice
-abbrev pub tree_looks : Lookup → OutputDirectoryValue → ℕ
-tree_looks look o = 2 + 2 * tree_length look o
-
--- one for each file and for each tree, those of each tree once, and one for each stream
-abbrev pub result_looks : Lookup → ActionResultValue → ℕ
-result_looks look v =
-    length v.output_files + length v.output_directories
-    + sum_of (tree_looks look) (last_trees v.output_directories) + 2
-
-abbrev pub looks_named : Lookup → Result ActionResultValue MessageError → ℕ
-looks_named look (Err e) = 0
-looks_named look (Ok v) = result_looks look v
+-- the text of a tree is looked for once, and gone over twice. For the code alone
+abbrev pub text_looks : Lookup → Digest → ℕ
+text_looks look d = 1 + 2 * text_length look d

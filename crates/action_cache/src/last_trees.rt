@@ -1,61 +1,43 @@
 //! Trees that a result names many times: the last time is enough.
 
-ghost use Rattle.std.specs.Prelude.{◌≡◌, ◌++◌, [], not, map, IfOk, OnOk};
-ghost use Rattle.tree_messages.specs.Results.{output_directory_shown};
-ghost use Rattle.action_cache.specs.LastTrees.{is_met, with_met, unless_met, kept_from};
+ghost use Rattle.std.specs.Prelude.{◌≡◌, ◌++◌, [], not, reverse, IfOk, OnOk};
+ghost use Rattle.std.specs.List.{list_any};
+ghost use Rattle.digest.specs.Naming.{same_digest};
+ghost use Rattle.action_cache.specs.LastTrees.{kept_from, last_of, unless_met, with_met};
 
 use digest::Digest;
-use input_tree::digest_written;
 use keyed_maps::{KeyedSet, MapKey};
 use std::alloc::{AllocError, Global};
-use tree_messages::OutputDirectory;
 
-/// Whether the output directory's tree was not met before. It is met then.
-fn is_new(seen: &mut KeyedSet<Digest>, output: &OutputDirectory<'_>) -> Result<bool, AllocError>
-    ensures new { IfOk result (λ new. new
-        ≡ not (is_met seen.old.keys (output_directory_shown output.now))) }
-    ensures seen { OnOk result (seen.new.keys
-        ≡ with_met seen.old.keys (output_directory_shown output.now)) }
-{
-    match digest_written(&output.tree_digest) {
-        None => Ok(true),
-        Some(digest) => Ok(seen.insert(digest)?),
-    }
-}
-
-/// Adds an output directory, unless its tree was met before. It is met then.
-fn add_new<'a>(
+/// Adds a digest, unless it was met before. It is met then.
+fn add_new(
     seen: &mut KeyedSet<Digest>,
-    kept: &mut Vec<OutputDirectory<'a>>,
-    output: OutputDirectory<'a>,
+    kept: &mut Vec<Digest>,
+    digest: Digest,
 ) -> Result<(), AllocError>
-    ensures kept { OnOk result (map output_directory_shown kept.new.items
-        ≡ map output_directory_shown kept.old.items
-        ++ unless_met (is_met seen.old.keys (output_directory_shown output.entry))
-        (output_directory_shown output.entry)) }
-    ensures seen { OnOk result (seen.new.keys
-        ≡ with_met seen.old.keys (output_directory_shown output.entry)) }
+    ensures kept { OnOk result (kept.new.items ≡ kept.old.items
+        ++ unless_met (list_any (same_digest digest) seen.old.keys) digest) }
+    ensures seen { OnOk result (seen.new.keys ≡ with_met seen.old.keys digest) }
 {
-    if is_new(seen, &output)? {
-        kept.push(output)?;
+    if seen.insert(digest)? {
+        kept.push(digest)?;
     }
     Ok(())
 }
 
-/// The last of the output directories of each tree, the last of them first.
-#[tactic(auto, using(crate::proofs::Trees::kept_last))]
-pub fn last_trees<'a>(
+/// The last of each digest, the last of them first.
+#[tactic(auto, using(crate::proofs::Trees::all_kept))]
+pub fn last_trees(
     alloc: Global,
     key: MapKey,
-    outputs: &[OutputDirectory<'a>],
-) -> Result<Vec<OutputDirectory<'a>>, AllocError>
-    ensures { IfOk result (λ kept. map output_directory_shown kept.items
-        ≡ kept_from [] (map output_directory_shown outputs.now)) }
+    trees: Vec<Digest>,
+) -> Result<Vec<Digest>, AllocError>
+    ensures { IfOk result (λ kept. reverse kept.items ≡ last_of same_digest trees.items) }
 {
     let mut seen = KeyedSet::with_hasher(alloc, key);
     let mut kept = Vec::new(alloc);
-    let mut left = Vec::from_slice(alloc, outputs)?;
-    'outputs: while let Some(last) = left.pop() {
+    let mut left = trees;
+    'trees: while let Some(last) = left.pop() {
         add_new(&mut seen, &mut kept, last)?;
     }
     Ok(kept)

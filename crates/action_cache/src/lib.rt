@@ -7,6 +7,7 @@ mod dropped;
 mod last_trees;
 mod laws;
 mod naming;
+mod result_texts;
 mod results;
 mod tree_texts;
 

@@ -1,6 +1,6 @@
 //! Naming blobs, each of which has to be there.
 
-ghost use Rattle.std.specs.Prelude.{◌≡◌, ◌+◌, ◌≤◌, is_some, option_map};
+ghost use Rattle.std.specs.Prelude.{◌≡◌, ◌+◌, ◌≤◌, is_some, length, option_map};
 ghost use Rattle.reapi_messages.specs.Digests.{digest_shown};
 ghost use Rattle.instance_view.specs.Texts.{look_of};
 ghost use Rattle.action_cache.specs.declared.naming.Unnamed.TheVariants.{Incomplete, NoMemory};
@@ -8,9 +8,9 @@ ghost use Rattle.action_cache.specs.Complete.{with_blob, with_set};
 ghost use Rattle.action_cache.specs.Naming.{Names};
 
 use digest::Digest;
-use input_tree::{Unread, digest_written};
+use input_tree::digest_written;
 use instance_view::{Sight, Texts, Work};
-use protobuf_wire::WireError;
+use protobuf_wire::{Unread, WireError};
 use reapi_messages as messages;
 use std::alloc::{AllocError, AllocFailed, Global};
 
@@ -82,6 +82,7 @@ pub fn name_blob(
     ensures named { Names (λ _. named.new.items) result
         (with_blob (look_of blobs.now.texts) named.old.items
         (option_map digest_shown written.now)) }
+    ensures few { length named.new.items ≤ length named.old.items + 1 }
     ensures looks { work.new.looks ≤ work.old.looks + 1 }
     ensures bytes { work.new.bytes ≡ work.old.bytes }
 {

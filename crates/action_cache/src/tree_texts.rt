@@ -8,24 +8,13 @@ ghost use Rattle.instance_view.specs.Texts.{look_of};
 ghost use Rattle.action_cache.specs.Complete.{with_tree};
 ghost use Rattle.action_cache.specs.Lengths.{length_or_zero};
 ghost use Rattle.action_cache.specs.Naming.{Names};
-ghost use Rattle.action_cache.specs.TreeTexts.{node_in, with_directories, with_directory_in, with_directory_text, with_file_read, with_node};
+ghost use Rattle.action_cache.specs.TreeTexts.{with_directories, with_directory_in, with_directory_text, with_file_read, with_node};
 
 use crate::naming::{Blobs, Unnamed, name_blob};
 use digest::Digest;
-use input_tree::{Node, payload_of};
 use instance_view::Work;
-use protobuf_wire::{Field, Reader};
+use protobuf_wire::{Field, Reader, add_message, payload_of, test_message};
 use tree_messages::{DirectoryNode, FileNode, SymlinkNode};
-
-/// The node of a record, where that is one of the field.
-fn node_in<'a, N: Node<'a>>(entry: &Field<'a>, field: u32) -> Result<Option<N>, Unnamed>
-    ensures { Names (option_map N.shown) result (node_in N.node_of field (record_shown entry.now)) }
-{
-    match payload_of(entry, field) {
-        None => Ok(None),
-        Some(text) => Ok(Some(N::read(text)?)),
-    }
-}
 
 /// Names the blob of a file that was read.
 fn name_file(
@@ -59,9 +48,10 @@ fn name_node(
     ensures looks { work.new.looks ≤ work.old.looks + 1 }
     ensures bytes { work.new.bytes ≡ work.old.bytes }
 {
-    let file: Option<FileNode<'_>> = node_in(entry, 1)?;
-    let _directory: Option<DirectoryNode<'_>> = node_in(entry, 2)?;
-    let _symlink: Option<SymlinkNode<'_>> = node_in(entry, 3)?;
+    let mut file: Option<FileNode<'_>> = None;
+    add_message(&mut file, entry, 1)?;
+    test_message::<DirectoryNode<'_>>(entry, 2)?;
+    test_message::<SymlinkNode<'_>>(entry, 3)?;
     name_file(blobs, work, named, file)
 }
 

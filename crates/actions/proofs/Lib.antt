@@ -10,4 +10,3 @@ mod Named
 mod Paths
 pub mod Again
 pub mod Records
-pub mod ActionRecords

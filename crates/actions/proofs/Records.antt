@@ -4,29 +4,18 @@ use Rattle.std.specs.Prelude.{option_map}
 use Rattle.std.specs.Str.{is_utf8}
 use Rattle.protobuf_wire.specs.Results.{◌>>=◌}
 use Rattle.protobuf_wire.specs.Reading.{records_of}
-use Rattle.protobuf_wire.specs.declared.field.WireError.{WireError}
 use Rattle.protobuf_wire.specs.declared.error.MessageError.{MessageError}
 use Rattle.protobuf_wire.specs.declared.error.MessageError.TheVariants.{NotUtf8}
 use Rattle.protobuf_wire.specs.Record.{Record}
-use Rattle.protobuf_wire.specs.Answers.{of_wire}
-use Rattle.protobuf_wire.specs.Fields.{each_of, last_or, payload_in, payloads, records_in, repeated_string, repeated_values, string, utf8, value_of_text}
-use Rattle.protobuf_wire.proofs.Lists.{after, after_next, after_none, last_after, last_after_next}
-use Rattle.input_tree.specs.NodeTexts.{and_then, readable, with_all, with_left}
-use Rattle.input_tree.proofs.NodeRecords.{none_after}
-use Rattle.execution_messages.specs.Actions.{CommandValue, EnvironmentVariableValue, environment_variable_of, command_of}
+use Rattle.protobuf_wire.specs.Fields.{each_of, payload_in, payloads, repeated_string, repeated_values, string, utf8, value_of_text}
+use Rattle.protobuf_wire.proofs.Lists.{after, after_next, after_none}
+use Rattle.protobuf_wire.specs.Gathering.{and_then, readable, string_after, string_in, with_all, with_left}
+use Rattle.protobuf_wire.proofs.Along.{none_after, string_is, text_is}
+use Rattle.execution_messages.specs.Actions.{ActionValue, CommandValue, EnvironmentVariableValue, action_after, action_of, environment_variable_of, command_of, no_action}
+use Rattle.execution_messages.proofs.ActionsAlong.{action_text_is}
+use Rattle.actions.specs.Actions.{taken_or_none}
 use Rattle.actions.specs.Commands.{is_command, valid_command}
-use Rattle.actions.specs.Texts.{string_in, string_after, each_after, strings_after, variable_after, no_variable, variable_in, command_with, command_after, no_command, taken_command}
-
--- ---- records one after another
-
-pub text_is : {A : Type 0} (step : A → Record → Option A) (a : A) (value_of : List Record → Result A MessageError) →
-    ((rs : List Record) → with_all step a rs ≡ readable (value_of rs)) → (text : List ℕ) →
-    with_left step a (records_of text) ≡ readable (value_of_text value_of text)
-unfolding records_in
-text_is step a value_of h text = go (records_of text) where
-  go : (rs : Result (List Record) WireError) → with_left step a rs ≡ readable (of_wire rs >>= value_of)
-  go (Err e) = refl
-  go (Ok rs) = h rs
+use Rattle.actions.specs.Texts.{each_after, strings_after, variable_in, command_with, command_after, no_command, taken_action, taken_command}
 
 -- ---- two fields side by side
 
@@ -93,64 +82,6 @@ module _ {V : Type 0} (take : List ℕ → Option V) (read : List ℕ → Result
 
   all_are : (rs : List Record) → with_all (each_after take field) [] rs ≡ readable (each_of read (payloads field rs))
   all_are rs = each_are [] rs ∙ ap readable (after_none (each_of read (payloads field rs)))
-
-last_is : (field : ℕ) (last : List ℕ) (rs : List Record) →
-    with_all (string_after field) last rs ≡ readable (last_after last (repeated_string field rs))
-unfolding payloads each_of last_or
-last_is field last [] = refl
-last_is field last (r ∷ rs) = go (payload_in field r) refl (λ text. last_is field text rs) where
-  value : (x : Result (List ℕ) MessageError) → ((text : List ℕ) →
-      with_all (string_after field) text rs ≡ readable (last_after text (repeated_string field rs))) →
-      and_then (readable x) (λ text. with_all (string_after field) text rs)
-      ≡ readable (last_after last (x >>= λ y. repeated_string field rs >>= λ ys. Ok (y ∷ ys)))
-  value (Err e) later = refl
-  value (Ok b) later = later b ∙ ap readable (sym (last_after_next last b (repeated_string field rs)))
-
-  go : (o : Option (List ℕ)) → payload_in field r ≡ o →
-      ((text : List ℕ) → with_all (string_after field) text rs ≡ readable (last_after text (repeated_string field rs))) →
-      with_all (string_after field) last (r ∷ rs) ≡ readable (last_after last (repeated_string field (r ∷ rs)))
-  go None at later = rw at (later last)
-  go (Some b) at later = rw at (ap (λ (o : Option (List ℕ)). and_then o (λ text. with_all (string_after field) text rs)) (string_in_is b)
-      ∙ value (utf8 b) later)
-
-pub string_is : (field : ℕ) (rs : List Record) → with_all (string_after field) [] rs ≡ readable (string field rs)
-string_is field rs = last_is field [] rs
-
--- ---- a variable
-
-abbrev variable_of_pair : List ℕ × List ℕ → EnvironmentVariableValue
-variable_of_pair p = record { name = p.0; value = p.1 }
-
-abbrev variable_step : List ℕ × List ℕ → Record → Option (List ℕ × List ℕ)
-variable_step = beside (string_after 1) (string_after 2)
-
-variable_with : (x y : Option (List ℕ)) → and_then x (λ name. and_then y (λ value. Some (variable_of_pair (name, value))))
-    ≡ option_map variable_of_pair (both x y)
-variable_with None y = refl
-variable_with (Some name) None = refl
-variable_with (Some name) (Some value) = refl
-
-variables_are : (rs : List Record) → with_all variable_step ([], []) rs ≡ both (readable (string 1 rs)) (readable (string 2 rs))
-variables_are rs =
-    beside_are (string_after 1) (string_after 2) [] [] rs
-    ∙ both_same (with_all (string_after 1) [] rs) (readable (string 1 rs)) (with_all (string_after 2) [] rs) (readable (string 2 rs))
-    (string_is 1 rs) (string_is 2 rs)
-
-variable_is : (rs : List Record) → with_all variable_after no_variable rs ≡ readable (environment_variable_of rs)
-unfolding environment_variable_of
-variable_is rs =
-    seen_along variable_of_pair variable_after variable_step (λ p r. variable_with (string_after 1 p.0 r) (string_after 2 p.1 r))
-    ([], []) rs
-    ∙ ap (option_map variable_of_pair) (variables_are rs)
-    ∙ go (string 1 rs) (string 2 rs) where
-      go : (x y : Result (List ℕ) MessageError) → option_map variable_of_pair (both (readable x) (readable y))
-          ≡ readable (x >>= λ name. y >>= λ value. Ok (variable_of_pair (name, value)))
-      go (Err e) y = refl
-      go (Ok name) (Err e) = refl
-      go (Ok name) (Ok value) = refl
-
-pub variable_text_is : (text : List ℕ) → with_left variable_after no_variable (records_of text) ≡ variable_in text
-variable_text_is text = text_is variable_after no_variable environment_variable_of variable_is text
 
 -- ---- a command
 
@@ -271,3 +202,12 @@ command_taken_is text = ap taken_command (text_is command_after no_command comma
       go : (x : Result CommandValue MessageError) → taken_command (readable x) ≡ valid_command x
       go (Err e) = refl
       go (Ok v) = refl
+
+-- ---- an action
+
+pub action_taken_is : (text : List ℕ) → taken_action (with_left action_after no_action (records_of text))
+    ≡ taken_or_none (value_of_text action_of text)
+action_taken_is text = ap taken_action (action_text_is text) ∙ go (value_of_text action_of text) where
+  go : (x : Result ActionValue MessageError) → taken_action (readable x) ≡ taken_or_none x
+  go (Err e) = refl
+  go (Ok v) = refl

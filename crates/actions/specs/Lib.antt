@@ -1,7 +1,6 @@
 pub mod Actions
 pub mod Commands
 pub mod Texts
-pub mod ActionTexts
 pub mod Shown
 pub mod Nodes
 pub mod Walk

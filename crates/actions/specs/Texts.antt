@@ -1,10 +1,10 @@
 -- Actions and commands read record by record. For the code alone: no public contract speaks of it.
 use Rattle.std.specs.Prelude.{◌≡◌, ℕ, List, [], ◌∷◌, ◌++◌, Option, Some, None, Result, Ok, Err, if◌then◌else◌}
-use Rattle.std.specs.Str.{is_utf8}
 use Rattle.protobuf_wire.specs.Record.{Record}
 use Rattle.protobuf_wire.specs.Fields.{payload_in, value_of_text}
-use Rattle.input_tree.specs.NodeTexts.{and_then, readable}
-use Rattle.execution_messages.specs.Actions.{CommandValue, EnvironmentVariableValue, environment_variable_of}
+use Rattle.protobuf_wire.specs.Gathering.{and_then, readable, string_after, string_in}
+use Rattle.execution_messages.specs.Actions.{ActionValue, CommandValue, EnvironmentVariableValue, environment_variable_of}
+use Rattle.actions.specs.Actions.{ActionTaken, action_taken}
 use Rattle.actions.specs.Commands.{is_command}
 use Rattle.actions.specs.declared.command_text.Untaken.{Untaken}
 use Rattle.actions.specs.declared.command_text.Untaken.TheVariants.{Bad, NoMemory}
@@ -20,17 +20,6 @@ Takes view (Err e) meaning = Declines e meaning
 
 -- ---- a field so far, and with one more record
 
--- the string that a payload spells
-abbrev pub string_in : List ℕ → Option (List ℕ)
-string_in b = if is_utf8 b then Some b else None
-
-abbrev pub string_or : List ℕ → Option (List ℕ) → Option (List ℕ)
-string_or last None = Some last
-string_or last (Some b) = string_in b
-
-abbrev pub string_after : ℕ → List ℕ → Record → Option (List ℕ)
-string_after field last r = string_or last (payload_in field r)
-
 -- what was read so far, and what one more payload spells
 abbrev pub each_or : {V : Type 0} → (List ℕ → Option V) → List V → Option (List ℕ) →
     Option (List V)
@@ -45,14 +34,6 @@ abbrev pub strings_after : ℕ → List (List ℕ) → Record → Option (List (
 strings_after field texts r = each_after string_in field texts r
 
 -- ---- a command
-
-abbrev pub variable_after : EnvironmentVariableValue → Record → Option EnvironmentVariableValue
-variable_after v r =
-    and_then (string_after 1 v.name r) (λ name. and_then (string_after 2 v.value r)
-    (λ value. Some (record { name = name; value = value })))
-
-abbrev pub no_variable : EnvironmentVariableValue
-no_variable = record { name = []; value = [] }
 
 abbrev pub variable_in : List ℕ → Option EnvironmentVariableValue
 variable_in b = readable (value_of_text environment_variable_of b)
@@ -91,3 +72,8 @@ no_command = record {
 
 abbrev pub taken_command : Option CommandValue → Option CommandValue
 taken_command o = and_then o (λ v. if is_command v then Some v else None)
+
+-- ---- an action
+
+abbrev pub taken_action : Option ActionValue → Option ActionTaken
+taken_action o = and_then o action_taken

@@ -2,16 +2,16 @@
 
 ghost use Rattle.std.specs.Prelude.{◌≡◌, ◌≤◌, IfSome, option_map};
 ghost use Rattle.protobuf_wire.specs.Reading.{records_of};
-ghost use Rattle.input_tree.specs.NodeTexts.{with_left};
-ghost use Rattle.execution_messages.specs.Actions.{action_shown, duration_shown};
-ghost use Rattle.actions.specs.ActionTexts.{action_after, no_action, taken_action};
+ghost use Rattle.protobuf_wire.specs.Gathering.{with_left};
+ghost use Rattle.execution_messages.specs.Actions.{action_after, action_shown, duration_shown, no_action};
+ghost use Rattle.actions.specs.Texts.{taken_action};
 ghost use Rattle.actions.specs.Actions.{action_in, action_taken, duration_of_numbers, is_timeout, longest, timeout_of};
 ghost use Rattle.actions.specs.Shown.{action_taken_shown};
 
-use crate::action_text::action_in;
 use digest::Digest;
 use execution_messages::{Action, Duration};
 use input_tree::digest_written;
+use protobuf_wire::gathered;
 
 /// How long an action may run at most, in milliseconds.
 const LONGEST: u64 = 3_600_000;
@@ -87,14 +87,14 @@ fn read_taken(text: &[u8]) -> Option<ActionTaken>
     ensures { option_map action_taken_shown result
         ≡ taken_action (with_left action_after no_action (records_of text.now)) }
 {
-    let action = action_in(text)?;
+    let action: Action<'_> = gathered(text).ok()?;
     taken(&action)
 }
 
 /// The action that a text spells, where it is taken: its digests have their form, and its timeout,
 /// where it has one, is not negative and at most an hour. It is read in one pass, which ends at the
 /// first fault, and no memory is taken.
-#[tactic(auto, using(crate::proofs::ActionRecords::action_taken_is))]
+#[tactic(auto, using(crate::proofs::Records::action_taken_is))]
 pub fn read_action(text: &[u8]) -> Option<ActionTaken>
     ensures { option_map action_taken_shown result ≡ action_in text.now }
 {

@@ -5,7 +5,7 @@ ghost use Rattle.std.specs.List.{list_all};
 ghost use Rattle.execution_messages.specs.Actions.{command_shown, environment_variable_shown};
 ghost use Rattle.actions.specs.Commands as rules;
 ghost use Rattle.protobuf_wire.specs.Reading.{records_of};
-ghost use Rattle.input_tree.specs.NodeTexts.{with_left};
+ghost use Rattle.protobuf_wire.specs.Gathering.{with_left};
 ghost use Rattle.actions.specs.Commands.{command_in};
 ghost use Rattle.actions.specs.Texts.{command_after, no_command, taken_command};
 

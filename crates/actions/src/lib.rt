@@ -3,7 +3,6 @@
 #![tactic(auto)]
 
 mod action;
-mod action_text;
 mod command;
 mod command_text;
 mod fault;

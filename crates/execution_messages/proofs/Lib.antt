@@ -3,3 +3,4 @@ pub mod RequestsAgain
 pub mod ActionsAgain
 pub mod OperationsAgain
 pub mod EachOnce
+pub mod ActionsAlong

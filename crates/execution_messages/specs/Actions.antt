@@ -1,18 +1,19 @@
 -- Action and Command of build.bazel.remote.execution.v2, and google.protobuf.Duration
-use Rattle.std.specs.Prelude.{Bool, FitsSigned, IfSome, List, Ok, Option, Result, map, option_map, true, ℕ, ℤ, ◌++◌, ◌≡◌}
+use Rattle.std.specs.Prelude.{Bool, FitsSigned, IfSome, List, [], Ok, Option, Some, None, Result, map, nat_lt, option_map, pos, true, false, ℕ, ℤ, ◌++◌, ◌≡◌}
 use Rattle.std.specs.Str.{is_utf8}
-use Rattle.std.specs.Int.{w32, w64}
+use Rattle.std.specs.Int.{w32, w64, cast_signed}
 use Rattle.std.specs.List.{AllByRecursion}
 use Rattle.protobuf_wire.specs.declared.error.MessageError.{MessageError}
 use Rattle.protobuf_wire.specs.Results.{◌>>=◌}
 use Rattle.protobuf_wire.specs.Record.{Record}
-use Rattle.protobuf_wire.specs.Fields.{embedded_value, flag, int32, int64, repeated_string, repeated_values, string}
+use Rattle.protobuf_wire.specs.Fields.{embedded_value, flag, int32, int32_of, int64, repeated_string, repeated_values, string}
+use Rattle.protobuf_wire.specs.Gathering.{and_then, message_after, number_after, string_after}
 use Rattle.protobuf_wire.specs.Parts.{embedded_field, flag_field, int32_field, int64_field, repeated_field, repeated_string_field, string_field}
 use Rattle.execution_messages.specs.declared.actions.Duration.{Duration}
 use Rattle.execution_messages.specs.declared.actions.Action.{Action}
 use Rattle.execution_messages.specs.declared.actions.EnvironmentVariable.{EnvironmentVariable}
 use Rattle.execution_messages.specs.declared.actions.Command.{Command}
-use Rattle.reapi_messages.specs.Digests.{DigestValue, FitsDigest, digest_shown, digest_of, digest_records}
+use Rattle.reapi_messages.specs.Digests.{DigestValue, FitsDigest, digest_field_after, digest_shown, digest_of, digest_records}
 
 -- seconds 1, nanos 2
 pub record DurationValue : Type 0 where
@@ -144,3 +145,42 @@ pub record FitsCommand (v : CommandValue) : Type 0 where
   pub output_directories : AllByRecursion (λ t. is_utf8 t ≡ true) v.output_directories
   pub working_directory : is_utf8 v.working_directory ≡ true
   pub output_paths : AllByRecursion (λ t. is_utf8 t ≡ true) v.output_paths
+
+-- ---- record by record
+
+abbrev pub no_duration : DurationValue
+no_duration = record { seconds = pos 0; nanos = pos 0 }
+
+abbrev pub duration_after : DurationValue → Record → Option DurationValue
+duration_after v r = Some (record {
+  seconds = number_after (cast_signed w64) 1 v.seconds r;
+  nanos = number_after int32_of 2 v.nanos r;
+})
+
+abbrev pub no_action : ActionValue
+no_action = record {
+  command_digest = None;
+  input_root_digest = None;
+  timeout = None;
+  do_not_cache = false;
+}
+
+abbrev pub action_after : ActionValue → Record → Option ActionValue
+action_after v r =
+    and_then (digest_field_after 1 v.command_digest r) (λ command.
+    and_then (digest_field_after 2 v.input_root_digest r) (λ root.
+    and_then (message_after duration_after no_duration 6 v.timeout r) (λ timeout.
+    Some (record {
+      command_digest = command;
+      input_root_digest = root;
+      timeout = timeout;
+      do_not_cache = number_after (nat_lt 0) 7 v.do_not_cache r;
+    }))))
+
+abbrev pub no_variable : EnvironmentVariableValue
+no_variable = record { name = []; value = [] }
+
+abbrev pub variable_after : EnvironmentVariableValue → Record → Option EnvironmentVariableValue
+variable_after v r =
+    and_then (string_after 1 v.name r) (λ name. and_then (string_after 2 v.value r)
+    (λ value. Some (record { name = name; value = value })))

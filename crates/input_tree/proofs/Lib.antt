@@ -4,7 +4,6 @@ mod Steps
 mod Using
 mod Paging
 mod Lengths
-pub mod NodeRecords
 pub mod Records
 mod Readings
 pub mod Counts

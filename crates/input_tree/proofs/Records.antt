@@ -17,7 +17,7 @@ use Rattle.digest.specs.declared.Digest.{Digest}
 use Rattle.tree_messages.specs.Directories.{DirectoryValue, FileNodeValue, DirectoryNodeValue, SymlinkNodeValue, file_node_of, directory_node_of, symlink_node_of, directory_of}
 use Rattle.input_tree.specs.Names.{is_name}
 use Rattle.input_tree.specs.Directories.{is_file, is_child, is_symlink, has_order, valid_directory, written_digest}
-use Rattle.input_tree.specs.NodeTexts.{and_then, readable}
+use Rattle.protobuf_wire.specs.Gathering.{and_then, readable}
 use Rattle.input_tree.specs.Taken.{FileTakenValue, ChildTakenValue, DirectoryTakenValue, file_taken, child_taken, taken_of}
 use Rattle.input_tree.specs.Taking.{take_file, take_child, take_symlink, with_record, directory_with, with_node, with_nodes, with_nodes_left, no_nodes, in_order, last_of}
 

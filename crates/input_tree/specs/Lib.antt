@@ -9,7 +9,6 @@ pub mod Texts
 pub mod Pages
 pub mod Uses
 pub use Rattle.numerals.specs.Number
-pub mod NodeTexts
 pub mod Taking
 pub mod Work
 pub mod Listings

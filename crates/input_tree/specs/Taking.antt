@@ -9,7 +9,7 @@ use Rattle.protobuf_wire.specs.Fields.{payload_in, value_of_text}
 use Rattle.tree_messages.specs.Directories.{FileNodeValue, DirectoryNodeValue, SymlinkNodeValue, file_node_of, directory_node_of, symlink_node_of}
 use Rattle.input_tree.specs.Directories.{is_symlink}
 use Rattle.input_tree.specs.Names.{are_ordered, is_name}
-use Rattle.input_tree.specs.NodeTexts.{and_then, readable}
+use Rattle.protobuf_wire.specs.Gathering.{and_then, readable}
 use Rattle.input_tree.specs.Taken.{FileTakenValue, ChildTakenValue, DirectoryTakenValue, file_taken, child_taken, taken_shown}
 use Rattle.input_tree.specs.declared.taking.Untaken.{Untaken}
 use Rattle.input_tree.specs.declared.taking.Untaken.TheVariants.{Bad, NoMemory}

@@ -1,17 +1,12 @@
 //! The nodes of a directory: files, directories and symbolic links.
 
-ghost use Rattle.std.specs.Prelude.{◌≡◌, Bool, List, Result, option_map};
+ghost use Rattle.std.specs.Prelude.{◌≡◌, Bool, option_map};
 ghost use Rattle.std.specs.List.{list_all};
-ghost use Rattle.protobuf_wire.specs.declared.error.MessageError.{MessageError};
-ghost use Rattle.protobuf_wire.specs.Record.{Record};
-ghost use Rattle.protobuf_wire.specs.Fields.{value_of_text};
 ghost use Rattle.reapi_messages.specs.Digests.{digest_shown};
 ghost use Rattle.input_tree.specs.Directories.{written_digest};
 ghost use Rattle.input_tree.specs.Names as names;
-ghost use Rattle.input_tree.specs.NodeTexts.{Reads, readable};
 
 use crate::names::Named;
-use crate::node_texts::{Unread, read_child, read_file, read_symlink};
 use digest::Digest;
 use reapi_messages as messages;
 use tree_messages::{DirectoryNode, FileNode, SymlinkNode};
@@ -25,13 +20,6 @@ pub trait Node<'a>: Sized + Drop {
 
     /// Whether its name, and its digest or target, have their form.
     ghost is_node: { Value → Bool };
-
-    /// What the records of a text mean.
-    ghost node_of: { List Record → Result Value MessageError };
-
-    /// The node that a text spells. It takes no memory.
-    fn read(text: &'a [u8]) -> Result<Self, Unread>
-        ensures { Reads shown result (readable (value_of_text node_of text.now)) };
 
     fn has_form(&self) -> bool
         ensures { result ≡ is_node (shown self.now) };
@@ -84,7 +72,7 @@ pub fn digest_written(digest: &Option<messages::Digest<'_>>) -> Option<Digest>
 }
 
 impl<'a> Node<'a> for FileNode<'a> {
-    ghost use Rattle.tree_messages.specs.Directories.{FileNodeValue, file_node_shown, file_node_of};
+    ghost use Rattle.tree_messages.specs.Directories.{FileNodeValue, file_node_shown};
     ghost use Rattle.input_tree.specs.Directories.{is_file};
 
     ghost Value = { FileNodeValue };
@@ -93,19 +81,13 @@ impl<'a> Node<'a> for FileNode<'a> {
 
     ghost is_node = { is_file };
 
-    ghost node_of = { file_node_of };
-
-    fn read(text: &'a [u8]) -> Result<Self, Unread> {
-        read_file(text)
-    }
-
     fn has_form(&self) -> bool {
         is_name(self.name) && digest_written(&self.digest).is_some()
     }
 }
 
 impl<'a> Node<'a> for DirectoryNode<'a> {
-    ghost use Rattle.tree_messages.specs.Directories.{DirectoryNodeValue, directory_node_shown, directory_node_of};
+    ghost use Rattle.tree_messages.specs.Directories.{DirectoryNodeValue, directory_node_shown};
     ghost use Rattle.input_tree.specs.Directories.{is_child};
 
     ghost Value = { DirectoryNodeValue };
@@ -114,19 +96,13 @@ impl<'a> Node<'a> for DirectoryNode<'a> {
 
     ghost is_node = { is_child };
 
-    ghost node_of = { directory_node_of };
-
-    fn read(text: &'a [u8]) -> Result<Self, Unread> {
-        read_child(text)
-    }
-
     fn has_form(&self) -> bool {
         is_name(self.name) && digest_written(&self.digest).is_some()
     }
 }
 
 impl<'a> Node<'a> for SymlinkNode<'a> {
-    ghost use Rattle.tree_messages.specs.Directories.{SymlinkNodeValue, symlink_node_shown, symlink_node_of};
+    ghost use Rattle.tree_messages.specs.Directories.{SymlinkNodeValue, symlink_node_shown};
     ghost use Rattle.input_tree.specs.Directories.{is_symlink};
 
     ghost Value = { SymlinkNodeValue };
@@ -134,12 +110,6 @@ impl<'a> Node<'a> for SymlinkNode<'a> {
     ghost shown = { symlink_node_shown };
 
     ghost is_node = { is_symlink };
-
-    ghost node_of = { symlink_node_of };
-
-    fn read(text: &'a [u8]) -> Result<Self, Unread> {
-        read_symlink(text)
-    }
 
     fn has_form(&self) -> bool {
         is_name(self.name) && is_target(self.target)

@@ -7,12 +7,13 @@ ghost use Rattle.input_tree.specs.Taking.{Takes, is_ordered, node_in};
 ghost use Rattle.input_tree.specs.Taken.{taken_shown};
 
 use crate::names::{Named, are_ordered};
-use crate::node_texts::{read_child, read_file, read_symlink};
 use crate::nodes::{digest_written, is_name, is_target};
 use crate::taking::Untaken;
 use digest::Digest;
+use protobuf_wire::gathered;
 use std::alloc::Global;
 use std::rc::RcStr;
+use tree_messages::{DirectoryNode, FileNode, SymlinkNode};
 
 /// A file of a directory that is taken.
 #[derive(Drop)]
@@ -104,8 +105,9 @@ impl Taken for FileTaken {
 
     ghost take_of = { take_file };
 
+    #[tactic(auto, using(tree_messages::proofs::DirectoriesAlong::file_text_is))]
     fn take(alloc: Global, text: &[u8]) -> Result<Self, Untaken> {
-        let node = read_file(text)?;
+        let node: FileNode<'_> = gathered(text)?;
         if !is_name(node.name) {
             return Err(Untaken::Bad);
         }
@@ -150,8 +152,9 @@ impl Taken for ChildTaken {
 
     ghost take_of = { take_child };
 
+    #[tactic(auto, using(tree_messages::proofs::DirectoriesAlong::child_text_is))]
     fn take(alloc: Global, text: &[u8]) -> Result<Self, Untaken> {
-        let node = read_child(text)?;
+        let node: DirectoryNode<'_> = gathered(text)?;
         if !is_name(node.name) {
             return Err(Untaken::Bad);
         }
@@ -193,8 +196,9 @@ impl Taken for LinkTaken {
 
     ghost take_of = { take_symlink };
 
+    #[tactic(auto, using(tree_messages::proofs::DirectoriesAlong::symlink_text_is))]
     fn take(alloc: Global, text: &[u8]) -> Result<Self, Untaken> {
-        let node = read_symlink(text)?;
+        let node: SymlinkNode<'_> = gathered(text)?;
         if !(is_name(node.name) && is_target(node.target)) {
             return Err(Untaken::Bad);
         }

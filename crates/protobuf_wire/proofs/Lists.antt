@@ -1,8 +1,13 @@
 -- A list of answers, of which some were given before.
-use Rattle.std.proofs.Common.{◌≡◌, ℕ, ◌+◌, List, [], ◌∷◌, ◌++◌, length, Result, Ok, Err, refl, sym, ap, append_assoc, arith}
+use Rattle.std.proofs.Common.{◌≡◌, ℕ, ◌+◌, List, [], ◌∷◌, ◌++◌, length, Option, Some, None, Result, Ok, Err, refl, sym, ap, append_assoc, append-nil, arith}
+use Rattle.std.specs.Prelude.{unwrap_or}
+use Rattle.std.specs.List.{concat}
 use Rattle.protobuf_wire.specs.Results.{◌>>=◌}
+use Rattle.protobuf_wire.specs.Record.{Record}
+use Rattle.protobuf_wire.specs.declared.field.WireError.{WireError}
 use Rattle.protobuf_wire.specs.declared.error.MessageError.{MessageError}
-use Rattle.protobuf_wire.specs.Fields.{last_or}
+use Rattle.protobuf_wire.specs.Fields.{last_or, payload_in, payloads}
+use Rattle.protobuf_wire.specs.Joining.{joined_after}
 
 -- those that were given, and then the rest
 abbrev pub after : {B E : Type 0} → List B → Result (List B) E → Result (List B) E
@@ -35,3 +40,14 @@ pub counted_next : {B E : Type 0} (count : ℕ) (y : B) (rest : Result (List B) 
     counted count (rest >>= λ ys. Ok (y ∷ ys)) ≡ counted (count + 1) rest
 counted_next count y (Ok ys) = ap (λ n. Ok n) (omega arith)
 counted_next count y (Err e) = refl
+
+-- a record's payload goes behind those so far
+pub joined_next : (field : ℕ) (front : List ℕ) (r : Record) (rest : Result (List Record) WireError) →
+    joined_after field front (rest >>= λ rs. Ok (r ∷ rs)) ≡ joined_after field (front ++ unwrap_or (payload_in field r) []) rest
+unfolding payloads
+joined_next field front r (Err e) = refl
+joined_next field front r (Ok rs) = go (payload_in field r) refl where
+  go : (o : Option (List ℕ)) → payload_in field r ≡ o → joined_after field front (Ok (r ∷ rs))
+      ≡ joined_after field (front ++ unwrap_or (payload_in field r) []) (Ok rs)
+  go None at = rw (at, append-nil front) refl
+  go (Some b) at = rw at (ap (λ (t : List ℕ). Ok t) (sym (append_assoc front b (concat (payloads field rs)))))

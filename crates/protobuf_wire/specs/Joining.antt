@@ -7,7 +7,8 @@ use Rattle.protobuf_wire.specs.Results.{◌>>=◌}
 use Rattle.protobuf_wire.specs.Reading.{records_of}
 use Rattle.protobuf_wire.specs.Record.{Record}
 use Rattle.protobuf_wire.specs.declared.error.MessageError.{MessageError}
-use Rattle.protobuf_wire.specs.Fields.{records_in, value_of_text, payloads, joined_payloads}
+use Rattle.protobuf_wire.specs.Answers.{of_wire}
+use Rattle.protobuf_wire.specs.Fields.{records_in, value_of_text, payloads}
 
 -- how many records a text spells
 abbrev pub record_count : List ℕ → Result ℕ WireError
@@ -38,7 +39,10 @@ abbrev pub embedded_value_by_records : {V : Type 0} → (List Record → Result 
 embedded_value_by_records value_of field rs =
     joined_records None (payloads field rs) >>= optional_value value_of
 
--- the bytes so far, and those of more payloads
-abbrev pub payloads_after : Option (List ℕ) → List (List ℕ) → Option (List ℕ)
-payloads_after None bs = joined_payloads bs
-payloads_after (Some front) bs = Some (front ++ concat bs)
+-- the bytes so far, and those of the payloads of more records
+abbrev pub joined_after : ℕ → List ℕ → Result (List Record) WireError → Result (List ℕ) WireError
+joined_after field front rest = rest >>= λ rs. Ok (front ++ concat (payloads field rs))
+
+-- those of all payloads of a field
+abbrev pub bytes_joined : ℕ → List ℕ → Result (List ℕ) MessageError
+bytes_joined field text = of_wire (joined_after field [] (records_of text))

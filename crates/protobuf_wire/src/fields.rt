@@ -2,15 +2,15 @@
 //!
 //! Unknown fields, and records of a known field with another wire type, are skipped.
 
-ghost use Rattle.std.specs.Prelude.{◌≡◌, ◌≢◌, ℕ, List, [], Result, Ok, Err, Option, None, Some, map, option_map, length, take, ◌≤◌, ◌++◌, ◌∷◌, IfOk, IfErr, IfSome};
+ghost use Rattle.std.specs.Prelude.{◌≡◌, ◌≢◌, ℕ, List, [], Result, Ok, Err, Option, None, Some, map, option_map, length, take, ◌≤◌, ◌++◌, unwrap_or, IfOk, IfErr, IfSome, OnOk};
 ghost use Rattle.std.specs.Option.{option_copied};
 ghost use Rattle.protobuf_wire.specs.Results.{Gives};
 ghost use Rattle.protobuf_wire.specs.Reading.{records_of};
 ghost use Rattle.protobuf_wire.specs.Shown.{record_shown};
 ghost use Rattle.protobuf_wire.specs.declared.error.MessageError.TheVariants.{NoMemory};
 ghost use Rattle.protobuf_wire.specs.Answers.{Means};
-ghost use Rattle.protobuf_wire.specs.Fields.{records_in, number_in, payload_in, numbers, payloads, last_or, utf8, string, octets, int64, int32, int32_of, flag, bytes_as_sent};
-ghost use Rattle.protobuf_wire.specs.Joining.{record_count, with_records, joined_records, payloads_after};
+ghost use Rattle.protobuf_wire.specs.Fields.{records_in, number_in, payload_in, numbers, payloads, last_or, utf8, string, octets, int64, int32, int32_of, flag};
+ghost use Rattle.protobuf_wire.specs.Joining.{record_count, with_records, joined_records, bytes_joined};
 
 use crate::error::MessageError;
 use crate::field::{Content, Field, WireError};
@@ -75,7 +75,8 @@ pub fn fields_of<'a>(alloc: Global, text: &'a [u8]) -> Result<Vec<Field<'a>>, Me
     Ok(fields)
 }
 
-fn number_of(entry: &Field<'_>, field: u32) -> Option<u64>
+/// The number of a record, where it is one of this field.
+pub(crate) fn number_of(entry: &Field<'_>, field: u32) -> Option<u64>
     ensures { result ≡ number_in field (record_shown entry.now) }
 {
     match entry.content {
@@ -132,7 +133,7 @@ pub fn int64(records: &[Field<'_>], field: u32) -> i64
     number(records, field).cast_signed()
 }
 
-fn low_half(number: u64) -> i32
+pub(crate) fn low_half(number: u64) -> i32
     ensures { result ≡ int32_of number }
 {
     ((number % (1 << 32)) as u32).cast_signed()
@@ -234,34 +235,26 @@ pub fn joined<'a>(
     Ok(joined)
 }
 
-/// The payload behind those that were joined so far.
-fn with_bytes(alloc: Global, joined: Option<Vec<u8>>, payload: &[u8]) -> Result<Vec<u8>, AllocError>
-    ensures { IfOk result (λ v. Some v.items
-        ≡ payloads_after (option_map (λ v. v.items) joined) (payload.now ∷ [])) }
+/// Adds the payload of a record, where it is one of the field.
+fn add_payload(joined: &mut Vec<u8>, entry: &Field<'_>, field: u32) -> Result<(), AllocError>
+    ensures { OnOk result (joined.new.items ≡ joined.old.items
+        ++ unwrap_or (payload_in field (record_shown entry.now)) []) }
 {
-    let mut bytes = joined.unwrap_or(Vec::new(alloc));
-    bytes.extend_from_slice(payload)?;
-    Ok(bytes)
+    if let Some(payload) = payload_of(entry, field) {
+        joined.extend_from_slice(payload)?;
+    }
+    Ok(())
 }
 
-/// The bytes of an embedded message as they were sent, which are its payloads joined, or `None`
-/// where there are none.
-#[tactic(auto, unfolding(crate::specs::Fields::payloads))]
-pub fn as_sent(
-    alloc: Global,
-    records: &[Field<'_>],
-    field: u32,
-) -> Result<Option<Vec<u8>>, AllocError>
-    ensures { IfOk result (λ sent. option_map (λ v. v.items) sent
-        ≡ bytes_as_sent field (map record_shown records.now)) }
+/// The payloads of a field of the message that a text spells, joined.
+#[tactic(auto, using(crate::proofs::Lists::joined_next))]
+pub fn joined_payloads(alloc: Global, text: &[u8], field: u32) -> Result<Vec<u8>, MessageError>
+    ensures { Means (λ v. v.items) result (bytes_joined field text.now) }
 {
-    let mut joined = None;
-    let mut left = records;
-    'records: while let [record, rest @ ..] = left {
-        if let Some(payload) = payload_of(record, field) {
-            joined = Some(with_bytes(alloc, joined, payload)?);
-        }
-        left = rest;
+    let mut joined = Vec::new(alloc);
+    let mut reader = Reader::new(text);
+    while let Some(entry) = reader.next()? {
+        add_payload(&mut joined, &entry, field)?;
     }
     Ok(joined)
 }

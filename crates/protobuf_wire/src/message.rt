@@ -6,14 +6,14 @@ ghost use Rattle.protobuf_wire.specs.Record.{Record, field_number_limit};
 ghost use Rattle.protobuf_wire.specs.Shown.{record_shown};
 ghost use Rattle.protobuf_wire.specs.declared.error.MessageError.{MessageError};
 ghost use Rattle.protobuf_wire.specs.Answers.{Means};
-ghost use Rattle.protobuf_wire.specs.Fields.{records_in, value_of_text, embedded_value, repeated_values, payloads, sent_bytes};
+ghost use Rattle.protobuf_wire.specs.Fields.{records_in, value_of_text, embedded_value};
 ghost use Rattle.protobuf_wire.specs.Parts.{text_for, embedded_field, repeated_field};
 ghost use Rattle.protobuf_wire.specs.Joining.{embedded_value_by_records, value_of_one};
 
 use crate::error::MessageError;
 use crate::field::Field;
 use crate::fields::{
-    BLANK, FEW, as_sent, fields_of, joined, octets, payload_count, payload_of, read_few,
+    BLANK, FEW, fields_of, joined, octets, payload_count, read_few,
 };
 use crate::writer::Writer;
 use std::alloc::{AllocError, Global};
@@ -121,41 +121,6 @@ pub fn embedded<'a, M: Decode<'a>>(
         1 => one_of_text(alloc, octets(records, field)),
         _ => one_of_joined(alloc, records, field),
     }
-}
-
-/// The bytes of an embedded message as they were sent, or `None` where there are none. They are
-/// read as an `M`, whose faults are answered, and then kept as they are.
-pub fn sent<'a, M: Decode<'a>>(
-    alloc: Global,
-    records: &[Field<'a>],
-    field: u32,
-) -> Result<Option<Vec<u8>>, MessageError>
-    ensures { Means (option_map (λ v. v.items)) result
-        (sent_bytes M.value_of field (map record_shown records.now)) }
-{
-    let _message: Option<M> = embedded(alloc, records, field)?;
-    Ok(as_sent(alloc, records, field)?)
-}
-
-/// Repeated messages, in order.
-#[tactic(auto, unfolding(crate::specs::Fields::payloads, crate::specs::Fields::each_of), using(crate::proofs::Lists::after_next, crate::proofs::Lists::after_none))]
-pub fn repeated<'a, M: Decode<'a>>(
-    alloc: Global,
-    records: &[Field<'a>],
-    field: u32,
-) -> Result<Vec<M>, MessageError>
-    ensures { Means (λ v. map M.shown v.items) result
-        (repeated_values M.value_of field (map record_shown records.now)) }
-{
-    let mut messages = Vec::with_capacity(alloc, payload_count(records, field))?;
-    let mut left = records;
-    'records: while let [record, rest @ ..] = left {
-        if let Some(payload) = payload_of(record, field) {
-            messages.push(M::decode(alloc, payload)?)?;
-        }
-        left = rest;
-    }
-    Ok(messages)
 }
 
 #[tactic(auto, using(crate::proofs::Written::payload_behind_head))]

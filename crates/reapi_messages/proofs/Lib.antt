@@ -1,6 +1,7 @@
 pub mod Texts
 pub mod Steps
 pub mod DigestsAgain
+pub mod DigestsAlong
 pub mod FindMissingAgain
 pub mod StatusesAgain
 pub mod BatchesAgain

@@ -1,11 +1,12 @@
 -- build.bazel.remote.execution.v2.Digest
-use Rattle.std.specs.Prelude.{ℕ, ℤ, List, ◌++◌, Result, Ok, ◌≡◌, true, FitsSigned}
+use Rattle.std.specs.Prelude.{ℕ, ℤ, pos, List, [], ◌++◌, Option, Some, Result, Ok, ◌≡◌, true, FitsSigned}
 use Rattle.std.specs.Str.{is_utf8}
-use Rattle.std.specs.Int.{w64}
+use Rattle.std.specs.Int.{w64, cast_signed}
 use Rattle.protobuf_wire.specs.declared.error.MessageError.{MessageError}
 use Rattle.protobuf_wire.specs.Results.{◌>>=◌}
 use Rattle.protobuf_wire.specs.Record.{Record}
 use Rattle.protobuf_wire.specs.Fields.{string, int64}
+use Rattle.protobuf_wire.specs.Gathering.{and_then, message_after, number_after, string_after}
 use Rattle.protobuf_wire.specs.Parts.{string_field, int64_field}
 use Rattle.reapi_messages.specs.declared.digest.Digest.{Digest}
 
@@ -30,3 +31,19 @@ digest_records v = string_field 1 v.hash ++ int64_field 2 v.size_bytes
 pub record FitsDigest (v : DigestValue) : Type 0 where
   pub hash : is_utf8 v.hash ≡ true
   pub size_bytes : FitsSigned w64 v.size_bytes
+
+-- ---- record by record
+
+abbrev pub no_digest : DigestValue
+no_digest = record { hash = []; size_bytes = pos 0 }
+
+abbrev pub digest_after : DigestValue → Record → Option DigestValue
+digest_after d r =
+    and_then (string_after 1 d.hash r) (λ hash. Some (record {
+      hash = hash;
+      size_bytes = number_after (cast_signed w64) 2 d.size_bytes r;
+    }))
+
+-- a field that is a digest
+abbrev pub digest_field_after : ℕ → Option DigestValue → Record → Option (Option DigestValue)
+digest_field_after field d r = message_after digest_after no_digest field d r

@@ -3,7 +3,8 @@
 ghost use Rattle.std.specs.Prelude.{◌≡◌};
 
 use protobuf_wire::{
-    Decode, Field, Message, MessageError, Writer, int64, put_int64, put_string, string,
+    Decode, Field, Gather, Message, MessageError, Unread, Writer, int64, int64_after, put_int64,
+    put_string, string, string_after,
 };
 use std::alloc::{AllocError, Global};
 
@@ -40,5 +41,30 @@ impl<'a> Decode<'a> for Digest<'a> {
             hash: string(fields, 1)?,
             size_bytes: int64(fields, 2),
         })
+    }
+}
+
+impl<'a> Gather<'a> for Digest<'a> {
+    ghost use Rattle.reapi_messages.specs.Digests.{DigestValue, digest_shown, no_digest, digest_after};
+
+    ghost Value = { DigestValue };
+
+    ghost shown = { digest_shown };
+
+    ghost none = { no_digest };
+
+    ghost after = { digest_after };
+
+    fn new() -> Self {
+        Digest {
+            hash: "",
+            size_bytes: 0,
+        }
+    }
+
+    fn add(&mut self, entry: &Field<'a>) -> Result<(), Unread> {
+        self.hash = string_after(self.hash, entry, 1)?;
+        self.size_bytes = int64_after(self.size_bytes, entry, 2);
+        Ok(())
     }
 }

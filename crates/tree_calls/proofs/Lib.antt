@@ -5,3 +5,4 @@ mod Pages
 pub mod Named
 mod Given
 pub mod Short
+mod Sent

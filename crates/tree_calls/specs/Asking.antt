@@ -1,11 +1,15 @@
 -- What the three calls ask for: the tests that each request begins with, in this order: the message
 -- is read, the instance is the own one, the digest function is known, the digest has its form.
-use Rattle.std.specs.Prelude.{ℕ, ℤ, ◌≤◌, List, [], length, Result, Ok, unwrap_or}
+use Rattle.std.specs.Prelude.{ℕ, ℤ, ◌≤◌, List, [], length, Option, Some, None, Result, Ok, Err, unwrap_or}
 use Rattle.reapi_messages.specs.Results.{◌>>=◌}
 use Rattle.reapi_messages.specs.Fields.{value_of_text}
+use Rattle.protobuf_wire.specs.Reading.{records_of}
+use Rattle.protobuf_wire.specs.Gathering.{with_left}
+use Rattle.protobuf_wire.specs.Joining.{bytes_joined}
 use Rattle.tree_messages.specs.GetTree.{get_tree_request_of}
-use Rattle.tree_messages.specs.ActionCache.{get_action_result_request_of, update_action_result_request_of}
+use Rattle.tree_messages.specs.ActionCache.{ReadUpdateValue, get_action_result_request_of, no_update, update_action_result_request_of, update_after}
 use Rattle.rpc.specs.declared.refusal.Refusal.{Refusal}
+use Rattle.rpc.specs.declared.refusal.Refusal.TheVariants.{MalformedMessage}
 use Rattle.digest.specs.declared.Digest.{Digest}
 use Rattle.cas_service.specs.Requests.{message_or_refusal, instance_check, function_asked, digest_or_refusal}
 use Rattle.tree_calls.specs.declared.asking.TreeAsked.{TreeAsked}
@@ -65,3 +69,22 @@ result_sent own message = do
   function ← function_asked request.digest_function
   action ← digest_or_refusal function request.action_digest
   Ok (record { action = action; text = unwrap_or request.action_result [] })
+
+-- ---- the same record by record, for the code alone
+
+abbrev pub or_malformed : {V : Type 0} → Option V → Result V Refusal
+or_malformed None = Err MalformedMessage
+or_malformed (Some v) = Ok v
+
+-- what the request says beside the bytes of its result
+abbrev pub update_read : List ℕ → Result ReadUpdateValue Refusal
+update_read message = or_malformed (with_left update_after no_update (records_of message))
+
+unfoldable pub sent_by_records : List ℕ → List ℕ → Result ResultSentValue Refusal
+sent_by_records own message = do
+  request ← update_read message
+  _ ← instance_check own request.instance_name
+  function ← function_asked request.digest_function
+  action ← digest_or_refusal function request.action_digest
+  text ← message_or_refusal (bytes_joined 3 message)
+  Ok (record { action = action; text = text })

@@ -1,13 +1,15 @@
 //! What requests ask for, once they passed the tests that each begins with.
 
 ghost use Rattle.cas_service.specs.Answers.{Answers};
-ghost use Rattle.tree_calls.specs.Asking.{tree_asked, tree_asked_shown, action_asked, result_sent, result_sent_shown};
+ghost use Rattle.tree_messages.specs.ActionCache.{read_update_shown};
+ghost use Rattle.tree_calls.specs.Asking.{tree_asked, tree_asked_shown, action_asked, result_sent, result_sent_shown, update_read};
 
 use cas_service::{CallError, asked_function, check_instance, read_digest};
 use digest::Digest;
-use protobuf_wire::Decode;
+use protobuf_wire::{Decode, gathered, joined_payloads};
+use rpc::Refusal;
 use std::alloc::Global;
-use tree_messages::{GetActionResultRequest, GetTreeRequest, UpdateActionResultRequest};
+use tree_messages::{GetActionResultRequest, GetTreeRequest, ReadUpdate};
 
 /// The tree that a request asks for, and its pages.
 #[derive(Clone, Copy, Debug)]
@@ -57,18 +59,26 @@ pub fn action_asked(alloc: Global, own: &str, message: &[u8]) -> Result<Digest, 
     Ok(action)
 }
 
-/// The result that an `UpdateActionResultRequest` sends. One that is not set has no bytes.
-#[tactic(auto, unfolding(crate::specs::Asking::result_sent))]
+/// What an `UpdateActionResultRequest` says beside the bytes of its result, where that can be read.
+fn update_read(message: &[u8]) -> Result<ReadUpdate<'_>, CallError>
+    ensures { Answers read_update_shown result (update_read message.now) }
+{
+    match gathered(message) {
+        Ok(request) => Ok(request),
+        Err(_) => Err(CallError::Refused(Refusal::MalformedMessage)),
+    }
+}
+
+/// The result that an `UpdateActionResultRequest` sends. One that is not set has no bytes. It is read
+/// where it lies, and then its bytes are copied once.
+#[tactic(auto, unfolding(crate::specs::Asking::sent_by_records), using(crate::proofs::Sent::sent_is))]
 pub fn result_sent(alloc: Global, own: &str, message: &[u8]) -> Result<ResultSent, CallError>
     ensures { Answers result_sent_shown result (result_sent own.now message.now) }
 {
-    let request = UpdateActionResultRequest::decode(alloc, message)?;
+    let request = update_read(message)?;
     check_instance(own, request.instance_name)?;
     let function = asked_function(request.digest_function)?;
     let action = read_digest(function, &request.action_digest)?;
-    let text = match request.action_result {
-        Some(text) => text,
-        None => Vec::new(alloc),
-    };
+    let text = joined_payloads(alloc, message, 3)?;
     Ok(ResultSent { action, text })
 }

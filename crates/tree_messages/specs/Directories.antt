@@ -1,18 +1,19 @@
 -- Directory, its nodes and Tree of build.bazel.remote.execution.v2
-use Rattle.std.specs.Prelude.{◌≡◌, true, Bool, ℕ, List, ◌++◌, map, option_map, Option, Result, Ok, IfSome}
+use Rattle.std.specs.Prelude.{◌≡◌, true, false, Bool, ℕ, List, [], ◌++◌, map, option_map, Option, Some, None, Result, Ok, nat_lt, IfSome}
 use Rattle.std.specs.Str.{is_utf8}
 use Rattle.std.specs.List.{AllByRecursion}
 use Rattle.protobuf_wire.specs.declared.error.MessageError.{MessageError}
 use Rattle.protobuf_wire.specs.Results.{◌>>=◌}
 use Rattle.protobuf_wire.specs.Record.{Record}
 use Rattle.protobuf_wire.specs.Fields.{embedded_value, flag, repeated_values, string}
+use Rattle.protobuf_wire.specs.Gathering.{and_then, number_after, string_after}
 use Rattle.protobuf_wire.specs.Parts.{embedded_field, flag_field, repeated_field, string_field}
 use Rattle.tree_messages.specs.declared.directories.FileNode.{FileNode}
 use Rattle.tree_messages.specs.declared.directories.DirectoryNode.{DirectoryNode}
 use Rattle.tree_messages.specs.declared.directories.SymlinkNode.{SymlinkNode}
 use Rattle.tree_messages.specs.declared.directories.Directory.{Directory}
 use Rattle.tree_messages.specs.declared.directories.Tree.{Tree}
-use Rattle.reapi_messages.specs.Digests.{DigestValue, FitsDigest, digest_shown, digest_of, digest_records}
+use Rattle.reapi_messages.specs.Digests.{DigestValue, FitsDigest, digest_field_after, digest_shown, digest_of, digest_records}
 
 -- name 1, digest 2, is_executable 4
 pub record FileNodeValue : Type 0 where
@@ -141,3 +142,33 @@ pub record FitsDirectory (v : DirectoryValue) : Type 0 where
 pub record FitsTree (v : TreeValue) : Type 0 where
   pub root : IfSome v.root FitsDirectory
   pub children : AllByRecursion FitsDirectory v.children
+
+-- ---- record by record
+
+abbrev pub file_after : FileNodeValue → Record → Option FileNodeValue
+file_after v r =
+    and_then (string_after 1 v.name r) (λ name. and_then (digest_field_after 2 v.digest r)
+    (λ digest. Some (record {
+      name = name;
+      digest = digest;
+      is_executable = number_after (nat_lt 0) 4 v.is_executable r;
+    })))
+
+abbrev pub no_file : FileNodeValue
+no_file = record { name = []; digest = None; is_executable = false }
+
+abbrev pub child_after : DirectoryNodeValue → Record → Option DirectoryNodeValue
+child_after v r =
+    and_then (string_after 1 v.name r) (λ name. and_then (digest_field_after 2 v.digest r)
+    (λ digest. Some (record { name = name; digest = digest })))
+
+abbrev pub no_child : DirectoryNodeValue
+no_child = record { name = []; digest = None }
+
+abbrev pub symlink_after : SymlinkNodeValue → Record → Option SymlinkNodeValue
+symlink_after v r =
+    and_then (string_after 1 v.name r) (λ name. and_then (string_after 2 v.target r)
+    (λ target. Some (record { name = name; target = target })))
+
+abbrev pub no_symlink : SymlinkNodeValue
+no_symlink = record { name = []; target = [] }

@@ -1,5 +1,5 @@
 -- ActionResult and its outputs of build.bazel.remote.execution.v2
-use Rattle.std.specs.Prelude.{◌≡◌, true, Bool, ℕ, ℤ, List, ◌++◌, map, option_map, Option, Result, Ok, IfSome, FitsSigned}
+use Rattle.std.specs.Prelude.{◌≡◌, true, false, Bool, ℕ, ℤ, List, [], ◌++◌, map, option_map, Option, Some, None, Result, Ok, nat_lt, IfSome, FitsSigned}
 use Rattle.std.specs.Str.{is_utf8}
 use Rattle.std.specs.Int.{w32}
 use Rattle.std.specs.List.{AllByRecursion}
@@ -7,12 +7,14 @@ use Rattle.protobuf_wire.specs.declared.error.MessageError.{MessageError}
 use Rattle.protobuf_wire.specs.Results.{◌>>=◌}
 use Rattle.protobuf_wire.specs.Record.{Record}
 use Rattle.protobuf_wire.specs.Fields.{embedded_value, flag, int32, octets, repeated_values, string}
+use Rattle.protobuf_wire.specs.Gathering.{and_then, number_after, string_after, tested}
 use Rattle.protobuf_wire.specs.Parts.{embedded_field, flag_field, int32_field, repeated_field, string_field}
 use Rattle.protobuf_wire.specs.Writing.{bytes_field}
 use Rattle.tree_messages.specs.declared.results.OutputFile.{OutputFile}
 use Rattle.tree_messages.specs.declared.results.OutputDirectory.{OutputDirectory}
 use Rattle.tree_messages.specs.declared.results.ActionResult.{ActionResult}
-use Rattle.reapi_messages.specs.Digests.{DigestValue, FitsDigest, digest_shown, digest_of, digest_records}
+use Rattle.tree_messages.specs.declared.results.ReadResult.{ReadResult}
+use Rattle.reapi_messages.specs.Digests.{DigestValue, FitsDigest, digest_field_after, digest_shown, digest_of, digest_records}
 
 -- path 1, digest 2, is_executable 4
 pub record OutputFileValue : Type 0 where
@@ -117,3 +119,51 @@ pub record FitsActionResult (v : ActionResultValue) : Type 0 where
   pub exit_code : FitsSigned w32 v.exit_code
   pub stdout_digest : IfSome v.stdout_digest FitsDigest
   pub stderr_digest : IfSome v.stderr_digest FitsDigest
+
+-- ---- record by record
+
+abbrev pub no_output_file : OutputFileValue
+no_output_file = record { path = []; digest = None; is_executable = false }
+
+abbrev pub output_file_after : OutputFileValue → Record → Option OutputFileValue
+output_file_after v r =
+    and_then (string_after 1 v.path r) (λ path. and_then (digest_field_after 2 v.digest r)
+    (λ digest. Some (record {
+      path = path;
+      digest = digest;
+      is_executable = number_after (nat_lt 0) 4 v.is_executable r;
+    })))
+
+abbrev pub no_output_directory : OutputDirectoryValue
+no_output_directory = record { path = []; tree_digest = None }
+
+abbrev pub output_directory_after : OutputDirectoryValue → Record → Option OutputDirectoryValue
+output_directory_after v r =
+    and_then (string_after 1 v.path r) (λ path. and_then (digest_field_after 3 v.tree_digest r)
+    (λ digest. Some (record { path = path; tree_digest = digest })))
+
+-- a result that is read, of which what its outputs say is not kept
+pub record ReadResultValue : Type 0 where
+  pub stdout_digest : Option DigestValue
+  pub stderr_digest : Option DigestValue
+
+abbrev pub read_result_shown : ReadResult → ReadResultValue
+read_result_shown r = record {
+  stdout_digest = option_map digest_shown r.stdout_digest;
+  stderr_digest = option_map digest_shown r.stderr_digest;
+}
+
+abbrev pub read_result_of : List Record → Result ReadResultValue MessageError
+read_result_of rs = action_result_of rs >>= λ v.
+    Ok (record { stdout_digest = v.stdout_digest; stderr_digest = v.stderr_digest })
+
+abbrev pub no_result : ReadResultValue
+no_result = record { stdout_digest = None; stderr_digest = None }
+
+abbrev pub result_after : ReadResultValue → Record → Option ReadResultValue
+result_after v r =
+    and_then (tested output_file_after no_output_file 2 tt r) (λ _.
+    and_then (tested output_directory_after no_output_directory 3 tt r) (λ _.
+    and_then (digest_field_after 6 v.stdout_digest r) (λ stdout.
+    and_then (digest_field_after 8 v.stderr_digest r) (λ stderr.
+    Some (record { stdout_digest = stdout; stderr_digest = stderr })))))

@@ -2,10 +2,10 @@
 
 ghost use Rattle.std.specs.Prelude.{◌≡◌};
 
-use crate::results::ActionResult;
+use crate::results::ReadResult;
 use protobuf_wire::{
-    Decode, Field, Message, MessageError, Writer, embedded, int32, put_embedded, put_int32,
-    put_sent, put_string, sent, string,
+    Decode, Field, Gather, Message, MessageError, Unread, Writer, add_message, embedded, int32,
+    int32_after, put_embedded, put_int32, put_sent, put_string, string, string_after,
 };
 use reapi_messages::Digest;
 use std::alloc::{AllocError, Global};
@@ -55,7 +55,7 @@ impl<'a> Decode<'a> for GetActionResultRequest<'a> {
 pub struct UpdateActionResultRequest<'a> {
     pub instance_name: &'a str,
     pub action_digest: Option<Digest<'a>>,
-    /// The bytes of the `ActionResult` as they were sent, which can be read as one.
+    /// The bytes of an `ActionResult`.
     pub action_result: Option<Vec<u8>>,
     /// A number of the enum `DigestFunction.Value`; 0 where it is not set.
     pub digest_function: i32,
@@ -81,14 +81,41 @@ impl Message for UpdateActionResultRequest<'_> {
     }
 }
 
-impl<'a> Decode<'a> for UpdateActionResultRequest<'a> {
-    #[tactic(auto, unfolding(crate::specs::ActionCache::update_action_result_request_of))]
-    fn of_fields(alloc: Global, fields: &[Field<'a>]) -> Result<Self, MessageError> {
-        Ok(UpdateActionResultRequest {
-            instance_name: string(fields, 1)?,
-            action_digest: embedded(alloc, fields, 2)?,
-            action_result: sent::<ActionResult<'a>>(alloc, fields, 3)?,
-            digest_function: int32(fields, 5),
-        })
+/// An `UpdateActionResultRequest` that is read, without the bytes of its result.
+#[derive(Clone, Copy, Debug)]
+pub struct ReadUpdate<'a> {
+    pub instance_name: &'a str,
+    pub action_digest: Option<Digest<'a>>,
+    pub action_result: Option<ReadResult<'a>>,
+    /// A number of the enum `DigestFunction.Value`; 0 where it is not set.
+    pub digest_function: i32,
+}
+
+impl<'a> Gather<'a> for ReadUpdate<'a> {
+    ghost use Rattle.tree_messages.specs.ActionCache.{ReadUpdateValue, read_update_shown, no_update, update_after};
+
+    ghost Value = { ReadUpdateValue };
+
+    ghost shown = { read_update_shown };
+
+    ghost none = { no_update };
+
+    ghost after = { update_after };
+
+    fn new() -> Self {
+        ReadUpdate {
+            instance_name: "",
+            action_digest: None,
+            action_result: None,
+            digest_function: 0,
+        }
+    }
+
+    fn add(&mut self, entry: &Field<'a>) -> Result<(), Unread> {
+        self.instance_name = string_after(self.instance_name, entry, 1)?;
+        add_message(&mut self.action_digest, entry, 2)?;
+        add_message(&mut self.action_result, entry, 3)?;
+        self.digest_function = int32_after(self.digest_function, entry, 5);
+        Ok(())
     }
 }

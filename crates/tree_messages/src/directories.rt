@@ -2,9 +2,12 @@
 
 ghost use Rattle.std.specs.Prelude.{◌≡◌};
 
-use protobuf_wire::{Message, Writer, put_embedded, put_flag, put_repeated, put_string};
+use protobuf_wire::{
+    Field, Gather, Message, Unread, Writer, add_message, flag_after, put_embedded, put_flag,
+    put_repeated, put_string, string_after,
+};
 use reapi_messages::Digest;
-use std::alloc::{AllocError, Global};
+use std::alloc::AllocError;
 
 /// `build.bazel.remote.execution.v2.FileNode`.
 #[derive(Clone, Copy, Debug)]
@@ -30,6 +33,33 @@ impl Message for FileNode<'_> {
         put_string(writer, 1, self.name)?;
         put_embedded(writer, 2, &self.digest)?;
         put_flag(writer, 4, self.is_executable)
+    }
+}
+
+impl<'a> Gather<'a> for FileNode<'a> {
+    ghost use Rattle.tree_messages.specs.Directories.{FileNodeValue, file_node_shown, no_file, file_after};
+
+    ghost Value = { FileNodeValue };
+
+    ghost shown = { file_node_shown };
+
+    ghost none = { no_file };
+
+    ghost after = { file_after };
+
+    fn new() -> Self {
+        FileNode {
+            name: "",
+            digest: None,
+            is_executable: false,
+        }
+    }
+
+    fn add(&mut self, entry: &Field<'a>) -> Result<(), Unread> {
+        self.name = string_after(self.name, entry, 1)?;
+        add_message(&mut self.digest, entry, 2)?;
+        self.is_executable = flag_after(self.is_executable, entry, 4);
+        Ok(())
     }
 }
 
@@ -59,6 +89,30 @@ impl Message for DirectoryNode<'_> {
     }
 }
 
+impl<'a> Gather<'a> for DirectoryNode<'a> {
+    ghost use Rattle.tree_messages.specs.Directories.{DirectoryNodeValue, directory_node_shown, no_child, child_after};
+
+    ghost Value = { DirectoryNodeValue };
+
+    ghost shown = { directory_node_shown };
+
+    ghost none = { no_child };
+
+    ghost after = { child_after };
+
+    fn new() -> Self {
+        DirectoryNode {
+            name: "",
+            digest: None,
+        }
+    }
+
+    fn add(&mut self, entry: &Field<'a>) -> Result<(), Unread> {
+        self.name = string_after(self.name, entry, 1)?;
+        add_message(&mut self.digest, entry, 2)
+    }
+}
+
 /// `build.bazel.remote.execution.v2.SymlinkNode`.
 #[derive(Clone, Copy, Debug)]
 pub struct SymlinkNode<'a> {
@@ -81,6 +135,31 @@ impl Message for SymlinkNode<'_> {
     fn write(&self, writer: &mut Writer) -> Result<(), AllocError> {
         put_string(writer, 1, self.name)?;
         put_string(writer, 2, self.target)
+    }
+}
+
+impl<'a> Gather<'a> for SymlinkNode<'a> {
+    ghost use Rattle.tree_messages.specs.Directories.{SymlinkNodeValue, symlink_node_shown, no_symlink, symlink_after};
+
+    ghost Value = { SymlinkNodeValue };
+
+    ghost shown = { symlink_node_shown };
+
+    ghost none = { no_symlink };
+
+    ghost after = { symlink_after };
+
+    fn new() -> Self {
+        SymlinkNode {
+            name: "",
+            target: "",
+        }
+    }
+
+    fn add(&mut self, entry: &Field<'a>) -> Result<(), Unread> {
+        self.name = string_after(self.name, entry, 1)?;
+        self.target = string_after(self.target, entry, 2)?;
+        Ok(())
     }
 }
 

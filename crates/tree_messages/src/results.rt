@@ -3,11 +3,11 @@
 ghost use Rattle.std.specs.Prelude.{◌≡◌};
 
 use protobuf_wire::{
-    Decode, Field, Message, MessageError, Writer, embedded, flag, int32, octets, put_embedded,
-    put_flag, put_int32, put_octets, put_repeated, put_string, repeated, string,
+    Field, Gather, Message, Unread, Writer, add_message, flag_after, put_embedded, put_flag,
+    put_int32, put_octets, put_repeated, put_string, string_after, test_message,
 };
 use reapi_messages::Digest;
-use std::alloc::{AllocError, Global};
+use std::alloc::AllocError;
 
 /// `build.bazel.remote.execution.v2.OutputFile`.
 #[derive(Clone, Copy, Debug)]
@@ -36,14 +36,30 @@ impl Message for OutputFile<'_> {
     }
 }
 
-impl<'a> Decode<'a> for OutputFile<'a> {
-    #[tactic(auto, unfolding(crate::specs::Results::output_file_of))]
-    fn of_fields(alloc: Global, fields: &[Field<'a>]) -> Result<Self, MessageError> {
-        Ok(OutputFile {
-            path: string(fields, 1)?,
-            digest: embedded(alloc, fields, 2)?,
-            is_executable: flag(fields, 4),
-        })
+impl<'a> Gather<'a> for OutputFile<'a> {
+    ghost use Rattle.tree_messages.specs.Results.{OutputFileValue, output_file_shown, no_output_file, output_file_after};
+
+    ghost Value = { OutputFileValue };
+
+    ghost shown = { output_file_shown };
+
+    ghost none = { no_output_file };
+
+    ghost after = { output_file_after };
+
+    fn new() -> Self {
+        OutputFile {
+            path: "",
+            digest: None,
+            is_executable: false,
+        }
+    }
+
+    fn add(&mut self, entry: &Field<'a>) -> Result<(), Unread> {
+        self.path = string_after(self.path, entry, 1)?;
+        add_message(&mut self.digest, entry, 2)?;
+        self.is_executable = flag_after(self.is_executable, entry, 4);
+        Ok(())
     }
 }
 
@@ -73,13 +89,27 @@ impl Message for OutputDirectory<'_> {
     }
 }
 
-impl<'a> Decode<'a> for OutputDirectory<'a> {
-    #[tactic(auto, unfolding(crate::specs::Results::output_directory_of))]
-    fn of_fields(alloc: Global, fields: &[Field<'a>]) -> Result<Self, MessageError> {
-        Ok(OutputDirectory {
-            path: string(fields, 1)?,
-            tree_digest: embedded(alloc, fields, 3)?,
-        })
+impl<'a> Gather<'a> for OutputDirectory<'a> {
+    ghost use Rattle.tree_messages.specs.Results.{OutputDirectoryValue, output_directory_shown, no_output_directory, output_directory_after};
+
+    ghost Value = { OutputDirectoryValue };
+
+    ghost shown = { output_directory_shown };
+
+    ghost none = { no_output_directory };
+
+    ghost after = { output_directory_after };
+
+    fn new() -> Self {
+        OutputDirectory {
+            path: "",
+            tree_digest: None,
+        }
+    }
+
+    fn add(&mut self, entry: &Field<'a>) -> Result<(), Unread> {
+        self.path = string_after(self.path, entry, 1)?;
+        add_message(&mut self.tree_digest, entry, 3)
     }
 }
 
@@ -118,17 +148,35 @@ impl Message for ActionResult<'_> {
     }
 }
 
-impl<'a> Decode<'a> for ActionResult<'a> {
-    #[tactic(auto, unfolding(crate::specs::Results::action_result_of))]
-    fn of_fields(alloc: Global, fields: &[Field<'a>]) -> Result<Self, MessageError> {
-        Ok(ActionResult {
-            output_files: repeated(alloc, fields, 2)?,
-            output_directories: repeated(alloc, fields, 3)?,
-            exit_code: int32(fields, 4),
-            stdout_raw: octets(fields, 5),
-            stdout_digest: embedded(alloc, fields, 6)?,
-            stderr_raw: octets(fields, 7),
-            stderr_digest: embedded(alloc, fields, 8)?,
-        })
+/// An `ActionResult` that is read, of which what its outputs say is not kept.
+#[derive(Clone, Copy, Debug)]
+pub struct ReadResult<'a> {
+    pub stdout_digest: Option<Digest<'a>>,
+    pub stderr_digest: Option<Digest<'a>>,
+}
+
+impl<'a> Gather<'a> for ReadResult<'a> {
+    ghost use Rattle.tree_messages.specs.Results.{ReadResultValue, read_result_shown, no_result, result_after};
+
+    ghost Value = { ReadResultValue };
+
+    ghost shown = { read_result_shown };
+
+    ghost none = { no_result };
+
+    ghost after = { result_after };
+
+    fn new() -> Self {
+        ReadResult {
+            stdout_digest: None,
+            stderr_digest: None,
+        }
+    }
+
+    fn add(&mut self, entry: &Field<'a>) -> Result<(), Unread> {
+        test_message::<OutputFile<'a>>(entry, 2)?;
+        test_message::<OutputDirectory<'a>>(entry, 3)?;
+        add_message(&mut self.stdout_digest, entry, 6)?;
+        add_message(&mut self.stderr_digest, entry, 8)
     }
 }

@@ -26,7 +26,7 @@ fn show_digest(digest: &Digest, out: &mut Output) {
 }
 
 /// Writes a name behind a word for what has it.
-fn show_name(word: &[u8], name: &str, out: &mut Output) {
+pub fn show_name(word: &[u8], name: &str, out: &mut Output) {
     out.print(word);
     out.print_hex(name.as_bytes());
     out.print(b" ");

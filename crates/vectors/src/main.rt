@@ -13,6 +13,7 @@ mod messages;
 mod octets;
 mod records;
 mod responses;
+mod results;
 mod windows;
 
 use crate::octets::{BAD_LINE, named};

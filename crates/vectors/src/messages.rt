@@ -3,6 +3,7 @@
 use crate::blobs::{show_action, show_command, show_directory};
 use crate::octets::{BAD_LINE, named, octets};
 use crate::records::word_of;
+use crate::results::{show_result, show_update};
 use execution_messages::{ExecuteRequest, WaitExecutionRequest};
 use grpc_messages::{Messages, MessagesError};
 use reapi_messages::*;
@@ -75,10 +76,8 @@ fn typed(alloc: Global, of: Type, text: &[u8]) -> Result<Vec<u8>, MessageError> 
 /// How the bytes are encoded again, as a message of one of the other types.
 fn typed_more(alloc: Global, of: Type, text: &[u8]) -> Result<Vec<u8>, MessageError> {
     match of {
-        Type::ActionResult => encoded_again::<ActionResult>(alloc, text),
         Type::GetTreeRequest => encoded_again::<GetTreeRequest>(alloc, text),
         Type::GetActionResultRequest => encoded_again::<GetActionResultRequest>(alloc, text),
-        Type::UpdateActionResultRequest => encoded_again::<UpdateActionResultRequest>(alloc, text),
         Type::ExecuteRequest => encoded_again::<ExecuteRequest>(alloc, text),
         _ => encoded_again::<WaitExecutionRequest>(alloc, text),
     }
@@ -100,6 +99,8 @@ fn show_read(of: Type, text: &[u8], out: &mut Output) {
         Type::Directory => show_directory(text, out),
         Type::Action => show_action(text, out),
         Type::Command => show_command(text, out),
+        Type::ActionResult => show_result(text, out),
+        Type::UpdateActionResultRequest => show_update(text, out),
         _ => show_typed(of, text, out),
     }
     out.print(b"\n");

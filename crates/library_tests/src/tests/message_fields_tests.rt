@@ -8,10 +8,10 @@ use std::test::*;
 const MIXED: &[u8] =
     b"\x08\x01\x0a\x03\x06\x8e\x02\x0d\x01\x02\x03\x04\x08\xff\xff\xff\xff\xff\xff\xff\xff\xff\x01\x0a\x00\x12\x01a\x12\x00\x18\x02";
 
-fn reads_as_sent(alloc: Global, fields: &[Field<'_>]) -> bool {
-    match as_sent(alloc, fields, 1) {
-        Ok(Some(sent)) => sent.as_slice() == b"\x06\x8e\x02".as_slice(),
-        _ => false,
+fn joins(alloc: Global, field: u32, bytes: &[u8]) -> bool {
+    match joined_payloads(alloc, MIXED, field) {
+        Ok(joined) => joined.as_slice() == bytes,
+        Err(_) => false,
     }
 }
 
@@ -26,10 +26,10 @@ fn reads_no_text(fields: &[Field<'_>]) -> bool {
 fn reads_mixed(alloc: Global) -> bool {
     match fields_of(alloc, MIXED) {
         Ok(fields) => {
-            reads_as_sent(alloc, &fields)
+            joins(alloc, 1, b"\x06\x8e\x02")
                 && int32(&fields, 1) == -1
                 && reads_no_text(&fields)
-                && matches!(as_sent(alloc, &fields, 3), Ok(None))
+                && joins(alloc, 3, b"")
                 && flag(&fields, 3)
                 && !flag(&fields, 4)
         }
@@ -108,6 +108,29 @@ impl<'a> Decode<'a> for Size {
     }
 }
 
+impl<'a> Gather<'a> for Size {
+    ghost use Rattle.std.specs.Prelude.{ℤ, pos, Some};
+    ghost use Rattle.std.specs.Int.{w64, cast_signed};
+    ghost use Rattle.protobuf_wire.specs.Gathering.{number_after};
+
+    ghost Value = { ℤ };
+
+    ghost shown = { λ size. size.bytes };
+
+    ghost none = { pos 0 };
+
+    ghost after = { λ bytes r. Some (number_after (cast_signed w64) 1 bytes r) };
+
+    fn new() -> Self {
+        Size { bytes: 0 }
+    }
+
+    fn add(&mut self, entry: &Field<'a>) -> Result<(), Unread> {
+        self.bytes = int64_after(self.bytes, entry, 1);
+        Ok(())
+    }
+}
+
 fn write_sizes(writer: &mut Writer) -> Result<(), AllocError> {
     put_embedded(writer, 1, &Some(Size { bytes: 5 }))?;
     put_embedded::<Size>(writer, 2, &None)?;
@@ -122,19 +145,18 @@ fn reads_one(alloc: Global, fields: &[Field<'_>]) -> bool {
     matches!(one, Ok(Some(Size { bytes: 5 }))) && matches!(none, Ok(None))
 }
 
-fn reads_two(alloc: Global, fields: &[Field<'_>]) -> bool {
-    let sizes: Result<Vec<Size>, MessageError> = repeated(alloc, fields, 3);
-    match sizes {
-        Ok(sizes) => matches!(sizes.as_slice(), [Size { bytes: 0 }, Size { bytes: 7 }]),
+fn reads_sizes(alloc: Global) -> bool {
+    match fields_of(alloc, SIZES) {
+        Ok(fields) => reads_one(alloc, &fields),
         Err(_) => false,
     }
 }
 
-fn reads_sizes(alloc: Global) -> bool {
-    match fields_of(alloc, SIZES) {
-        Ok(fields) => reads_one(alloc, &fields) && reads_two(alloc, &fields),
-        Err(_) => false,
-    }
+/// The last of two numbers, and a text of which the last record is cut off.
+fn gathers() -> bool {
+    let last: Result<Size, Unread> = gathered(b"\x08\x09\x08\x07");
+    let cut: Result<Size, Unread> = gathered(b"\x08\x09\x08");
+    matches!(last, Ok(Size { bytes: 7 })) && cut.is_err()
 }
 
 fn is_written_again(alloc: Global) -> bool {
@@ -155,5 +177,5 @@ fn are_written(alloc: Global) -> bool {
 #[test]
 fn embeds_messages(rt: HostRuntime) {
     assert!(rt; are_written(rt.alloc()));
-    assert!(rt; reads_sizes(rt.alloc()) && is_written_again(rt.alloc()));
+    assert!(rt; reads_sizes(rt.alloc()) && is_written_again(rt.alloc()) && gathers());
 }

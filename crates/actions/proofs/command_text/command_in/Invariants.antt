@@ -1,7 +1,7 @@
 use Rattle.std.proofs.Common.{◌≡◌}
 use Rattle.protobuf_wire.specs.Reading.{record_at, items_left, records_of, count_left}
 use Rattle.execution_messages.specs.Actions.{command_shown}
-use Rattle.input_tree.specs.NodeTexts.{with_left}
+use Rattle.protobuf_wire.specs.Gathering.{with_left}
 use Rattle.actions.specs.Texts.{command_after, no_command}
 use Rattle.actions.proofs.command_text.command_in.Given as goal
 

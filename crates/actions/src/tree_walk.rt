@@ -258,6 +258,13 @@ impl TreeWalk {
         }
     }
 
+    /// The nodes met so far.
+    pub(crate) fn met(&self) -> &[PlanNode]
+        ensures { result.now ≡ self.now.met.items }
+    {
+        &self.met
+    }
+
     /// The nodes met.
     pub fn into_nodes(self) -> Vec<PlanNode>
         requires over { is_over self ≡ true }

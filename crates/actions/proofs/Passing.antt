@@ -471,3 +471,37 @@ files_within look root nodes at n behind d count h here kind counted =
     let many = counted own (own_tree look root nodes at n behind d h here kind) in
     let same = files_raised n.level (within n.level behind) in
     omega (arith, many, same)
+
+-- ---- levels, one behind the other
+
+-- each node stands at most one level deeper than the one before it
+abbrev pub AreLevelled : ℕ → List PlanNodeValue → Type 0
+AreLevelled level [] = Unit {0}
+AreLevelled level (n ∷ nodes) = (1 ≤ n.level) × (n.level ≤ level + 1) × AreLevelled n.level nodes
+
+levelled_both : (k l : ℕ) (xs rest : List PlanNodeValue) → l ≤ k → AreLevelled k xs → Deep l xs → AreLevelled l rest →
+    AreLevelled k (xs ++ rest)
+levelled_both k l [] [] le one deep more = tt
+levelled_both k l [] (n ∷ rest) le one deep more = (more.0, (let a = more.1.0 in omega (arith, le, a)), more.1.1)
+levelled_both k l (x ∷ xs) rest le one deep more =
+    (one.0, one.1.0, levelled_both x.level l xs rest deep.0 one.1.1 deep.1 more)
+
+levelled_met : (look : Lookup) (level k : ℕ) (xs met : List PlanNodeValue) → Meets look xs met → AreAt level xs → 1 ≤ level →
+    level ≤ k + 1 → AreLevelled k met
+levelled_met look level k [] met none at one le = tt
+levelled_met look level k (n ∷ xs) met (met_first m inside below others after is meets later) at one le =
+    let here : n.level ≡ level = at n (first_in n xs) in
+    let deep : Deep (n.level + 1) below = deep_met look (n.level + 1) inside below meets (inside_at look n inside is) in (
+      omega (arith, here, one),
+      omega (arith, here, le),
+      levelled_both n.level n.level below after (omega arith)
+          (levelled_met look (n.level + 1) n.level inside below meets (inside_at look n inside is) (omega arith) (omega arith))
+          (deeper n.level (n.level + 1) (omega arith) below deep)
+          (levelled_met look level n.level xs after later (rest_at level n xs at) one (omega (arith, here))),
+    )
+
+pub nodes_levelled : (look : Lookup) (root : Digest) (nodes : List PlanNodeValue) → nodes_met look root ≡ Ok nodes → AreLevelled 0 nodes
+nodes_levelled look root nodes h =
+    let tree = met_tree look root nodes h in
+    levelled_met look 1 0 tree.top nodes tree.meets (levels_in 1 tree.top (named_directory look 1 root tree.top tree.top_is)) (omega arith)
+    (omega arith)

@@ -15,7 +15,7 @@ command_again p found es d a command same action is =
     is ∙ ap (command_among (blobs_in p found)) action
     ∙ ap (λ (fs : List ViewEntry). command_among (blobs_in p fs) (action_among (blobs_in p fs) d)) same
 
-nodes_again : (p : Slots) (found es : List ViewEntry) (d : Digest) (a : Option ActionTaken) (nodes : Option (List PlanNodeValue)) → found ≡ es →
+pub nodes_again : (p : Slots) (found es : List ViewEntry) (d : Digest) (a : Option ActionTaken) (nodes : Option (List PlanNodeValue)) → found ≡ es →
     a ≡ action_among (blobs_in p found) d → nodes ≡ nodes_among (blobs_in p found) a → nodes ≡ (task_read d (blobs_in p es)).nodes
 unfolding nodes_read
 nodes_again p found es d a nodes same action is =

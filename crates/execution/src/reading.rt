@@ -208,14 +208,17 @@ fn nodes_among_others<K: Knows>(
     alloc: Global,
     pool: &Pool,
     texts: &FoundTexts<'_>,
-    action: &ActionTaken,
+    action: &Option<ActionTaken>,
     known: &K,
 ) -> Result<Option<Vec<PlanNode>>, AllocError>
     ensures { (nodes : List PlanNodeValue) → nodes_among (blobs_in pool.now texts.now)
-        (Some (action_taken_shown action.now)) ≡ Some nodes → IfOk result (λ found.
+        (option_map action_taken_shown action.now) ≡ Some nodes → IfOk result (λ found.
         IfSome found (λ others. nodes_shown others.items
         ≡ nodes_around (K.known known.now) nodes)) }
 {
+    let Some(action) = action else {
+        return Ok(None);
+    };
     if known.knows(&action.root) {
         return Ok(None);
     }
@@ -287,13 +290,11 @@ pub fn read_task_around<K: Knows>(
 {
     let numbers = text_numbers(alloc, pool.key(), &task.texts)?;
     let texts = FoundTexts::new(&task.texts, &numbers);
-    let Some(action) = action_among(alloc, pool, &texts, &task.action)? else {
-        return Ok(None);
-    };
+    let action = action_among(alloc, pool, &texts, &task.action)?;
     let Some(nodes) = nodes_among_others(alloc, pool, &texts, &action, known)? else {
         return Ok(None);
     };
-    let command = command_among(alloc, pool, &texts, &Some(action))?;
+    let command = command_among(alloc, pool, &texts, &action)?;
     Ok(Some(TaskAround {
         command,
         nodes,

@@ -1,6 +1,6 @@
 -- Nodes of a task but for those in directories that are passed over, and the files in these.
-use Rattle.std.proofs.Common.{◌≡◌, ◌≤◌, ℕ, Bool, false, List, ◌∷◌, drop, Option, Some, None, Ok, Err, refl, ap, ◌∙◌, sym}
-use Rattle.protobuf_wire.specs.Results.{◌>>=◌}
+use Rattle.std.proofs.Common.{◌≡◌, ◌≤◌, ℕ, Bool, false, List, ◌∷◌, drop, Option, Some, None, option_map, Ok, Err, ap, ◌∙◌}
+use Rattle.std.specs.Prelude.{IfSome}
 use Rattle.digest.specs.declared.Digest.{Digest}
 use Rattle.instance_view.specs.Visible.{Blob}
 use Rattle.input_tree.specs.Listing.{Lookup}
@@ -16,12 +16,14 @@ met_by (Ok ns) nodes h = let same : ns ≡ nodes = cc in ap (λ (xs : List PlanN
 met_by (Err e) nodes h = absurd (cc)
 
 -- what a walk meets that does not find directories which are known
-pub others_are : (look : Lookup) (is_known : Digest → Bool) (root : Digest) (nodes met : List PlanNodeValue) →
-    nodes_or_none (nodes_met look root) ≡ Some nodes → is_known root ≡ false → nodes_met (without is_known look) root ≡ Ok met →
-    met ≡ nodes_around is_known nodes
-others_are look is_known root nodes met h apart walked =
+pub others_are : {A : Type 0} (shown : A → List PlanNodeValue) (found : Option A) (look : Lookup) (is_known : Digest → Bool)
+    (root : Digest) (nodes : List PlanNodeValue) → nodes_or_none (nodes_met look root) ≡ Some nodes → is_known root ≡ false →
+    option_map shown found ≡ nodes_or_none (nodes_met (without is_known look) root) →
+    IfSome found (λ x. shown x ≡ nodes_around is_known nodes)
+others_are shown None look is_known root nodes h apart walked = tt
+others_are shown (Some x) look is_known root nodes h apart walked =
     let around = walked_around is_known look root nodes (met_by (nodes_met look root) nodes h) apart in
-    let same : Ok met ≡ Ok (nodes_around is_known nodes) = sym walked ∙ around in
+    let same : Some (shown x) ≡ Some (nodes_around is_known nodes) = walked ∙ ap nodes_or_none around in
     cc
 
 among_files : (texts : List Blob) (a : Option ActionTaken) (nodes : List PlanNodeValue) (at : ℕ) (n : PlanNodeValue)

@@ -8,11 +8,12 @@ ghost use Rattle.instance_view.specs.Shown.{blobs_in, text_seen};
 ghost use Rattle.execution.specs.InPool.{task_in};
 ghost use Rattle.execution.specs.Keeping.{kept_entries};
 ghost use Rattle.execution.specs.Numbers.{AreNumbers, kept_digests};
-ghost use Rattle.execution.specs.Preparing.{action_by, command_by, look_kept, nodes_among};
+ghost use Rattle.execution.specs.Preparing.{action_by, command_by, look_kept, nodes_among, nodes_or_none};
 ghost use Rattle.execution.specs.Shown.{IsReadAround, task_told};
 ghost use Rattle.actions.specs.Passing.{file_count, nodes_around};
 ghost use Rattle.actions.specs.Nodes.{PlanNodeValue};
-ghost use Rattle.actions.specs.Walk.{nodes_met};
+ghost use Rattle.actions.specs.Answers.{Answers};
+ghost use Rattle.actions.specs.Walk.{Nodes, nodes_met};
 ghost use Rattle.actions.specs.Shown.{action_taken_shown, nodes_shown};
 
 use crate::job::Task;
@@ -183,6 +184,21 @@ fn command_among<F: Finds>(
     }
 }
 
+/// The nodes that a walk met, where it has no fault.
+fn met_or_none(
+    met: Result<Vec<PlanNode>, TreeFault>,
+) -> Result<Option<Vec<PlanNode>>, AllocError>
+    ensures { (meaning : Nodes) → Answers (λ nodes. nodes_shown nodes.items) met meaning →
+        IfOk result (λ found. option_map (λ nodes. nodes_shown nodes.items) found
+        ≡ nodes_or_none meaning) }
+{
+    match met {
+        Ok(nodes) => Ok(Some(nodes)),
+        Err(TreeFault::NoMemory) => Err(AllocError),
+        Err(_) => Ok(None),
+    }
+}
+
 /// What stands in the input root of an action. No text is looked for but those of directories.
 fn plan_among(
     alloc: Global,
@@ -196,10 +212,9 @@ fn plan_among(
     let Some(action) = action else {
         return Ok(None);
     };
-    match nodes_met(alloc, texts, pool, &action.root) {
-        Ok(nodes) => Ok(Some(Plan { nodes })),
-        Err(TreeFault::NoMemory) => Err(AllocError),
-        Err(_) => Ok(None),
+    match met_or_none(nodes_met(alloc, texts, pool, &action.root))? {
+        Some(nodes) => Ok(Some(Plan { nodes })),
+        None => Ok(None),
     }
 }
 
@@ -223,11 +238,7 @@ fn nodes_among_others<K: Knows>(
         return Ok(None);
     }
     let around = Around { texts, known };
-    match nodes_met(alloc, &around, pool, &action.root) {
-        Ok(nodes) => Ok(Some(nodes)),
-        Err(TreeFault::NoMemory) => Err(AllocError),
-        Err(_) => Ok(None),
-    }
+    met_or_none(nodes_met(alloc, &around, pool, &action.root))
 }
 
 /// What a task says.

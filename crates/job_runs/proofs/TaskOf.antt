@@ -1,6 +1,6 @@
 -- A task of a run is that of a job's task.
-use Rattle.std.proofs.Common.{◌≡◌, ℕ, Bool, true, false, ◌&&◌, get_or, List, [], map, string_bytes, Option, Some, None, option_map, is_some, refl, sym, ap, ap₂, subst, ◌∙◌}
-use Rattle.std.specs.Prelude.{IfSome}
+use Rattle.std.proofs.Common.{◌≡◌, ℕ, Bool, true, false, ◌&&◌, get_or, List, [], map, string_bytes, Option, Some, None, Result, Ok, Err, Vec, Global, option_map, is_some, refl, sym, ap, ap₂, subst, ◌∙◌}
+use Rattle.std.specs.Prelude.{IfOk, IfSome}
 use Rattle.digest.specs.declared.Digest.{Digest}
 use Rattle.blob_pool.specs.Slots.{Slots}
 use Rattle.instance_view.specs.Texts.{Lookup}
@@ -122,3 +122,53 @@ tree_around p task read sizes c command texts marks run is c_is command_is texts
           (λ at yes. subst (λ (ns : List PlanNodeValue). is_free_at (command_for (task_in p task).command) ns at ≡ true) shown
           (subst (λ (v : CommandValue). is_free_at v (nodes_shown read.nodes.items) at ≡ true) spelled (free at yes)));
     }
+
+-- ---- what is answered
+
+pub whole_task : {E : Type 0} (r : Result Task E) (p : Slots) (task : jobs.Task) (read : TaskRead) (c : CommandValue) (command : List ℕ)
+    (texts : List KeptText) (nodes : List PlanNode) (marks : List Bool) →
+    task_told (blobs_in p (kept_entries task.texts.items)) read ≡ task_in p task → c ≡ command_for command → command ≡ read.command.items →
+    texts ≡ task.texts.items → IfSome read.plan (λ l. nodes ≡ l.nodes.items) →
+    ((at : ℕ) → get_or marks at false ≡ true → is_free_at c (nodes_shown nodes) at ≡ true) →
+    ((at : ℕ) → get_or marks at false ≡ true → is_large_at (nodes_shown nodes) at ≡ true) →
+    IfOk r (λ run. command_shown run.command ≡ program_of c) → IfOk r (λ run. string_bytes run.working_directory ≡ c.working_directory) →
+    IfOk r (λ run. map string_bytes run.outputs.items ≡ output_paths c) →
+    IfOk r (λ run. task_nodes_shown run.nodes.items ≡ nodes_with marks (kept_digests texts) (nodes_shown nodes)) →
+    IfOk r (λ run. run.function ≡ function_for (kept_digests texts)) → IfOk r (IsTaskOf (task_in p task))
+whole_task (Err e) p task read c command texts nodes marks says c_is command_is texts_is plan free large program directory outputs made
+    function = tt
+whole_task (Ok run) p task read c command texts nodes marks says c_is command_is texts_is plan free large program directory outputs made
+    function =
+    let spelled : command ≡ (task_in p task).command = command_is ∙ told_command p task read says in
+    task_of p task c command texts run c_is spelled texts_is program directory outputs
+    (whole_tree p task read c command texts nodes marks (task_nodes_shown run.nodes.items) says c_is spelled texts_is plan free large made)
+    function
+
+pub around_task : {E : Type 0} (r : Result Task E) (p : Slots) (task : jobs.Task) (read : TaskAround) (sizes : List (Option ℕ))
+    (c : CommandValue) (command : List ℕ) (texts : List KeptText) (nodes : List PlanNode) (marks : List Bool) →
+    IsReadWith (look_kept (blobs_in p (kept_entries task.texts.items))) (task_in p task) read sizes → c ≡ command_for command →
+    command ≡ read.command.items → texts ≡ task.texts.items → nodes ≡ read.nodes.items →
+    ((at : ℕ) → get_or marks at false ≡ is_some (get_or sizes at None)) →
+    ((at : ℕ) → get_or marks at false ≡ true → is_free_at c (nodes_shown nodes) at ≡ true) →
+    IfOk r (λ run. command_shown run.command ≡ program_of c) → IfOk r (λ run. string_bytes run.working_directory ≡ c.working_directory) →
+    IfOk r (λ run. map string_bytes run.outputs.items ≡ output_paths c) →
+    IfOk r (λ run. task_nodes_shown run.nodes.items ≡ nodes_with marks (kept_digests texts) (nodes_shown nodes)) →
+    IfOk r (λ run. run.function ≡ function_for (kept_digests texts)) → IfOk r (IsTaskOf (task_in p task))
+around_task (Err e) p task read sizes c command texts nodes marks is c_is command_is texts_is nodes_is marks_are free program directory
+    outputs made function = tt
+around_task (Ok run) p task read sizes c command texts nodes marks is c_is command_is texts_is nodes_is marks_are free program directory
+    outputs made function =
+    let spelled : command ≡ (task_in p task).command = command_is ∙ is.says.command in
+    task_of p task c command texts run c_is spelled texts_is program directory outputs
+    (tree_around p task read sizes c command texts marks (task_nodes_shown run.nodes.items) is c_is spelled texts_is marks_are
+    (λ at yes. subst (λ (ns : List PlanNode). is_free_at c (nodes_shown ns) at ≡ true) nodes_is (free at yes))
+    (made ∙ ap (λ (ns : List PlanNode). nodes_with marks (kept_digests texts) (nodes_shown ns)) nodes_is)) function
+
+-- no marks
+pub none_marked : (marks : List Bool) (P : ℕ → Type 0) → marks ≡ [] → (at : ℕ) → get_or marks at false ≡ true → P at
+none_marked marks P is at yes = let no : false ≡ true = ap (λ (m : List Bool). get_or m at false) (sym is) ∙ yes in absurd (cc)
+
+pub plan_is : (plan : Option Plan) (nodes : Vec PlanNode Global) (slice : List PlanNode) → IfSome plan (λ l. nodes ≡ l.nodes) →
+    slice ≡ nodes.items → IfSome plan (λ l. slice ≡ l.nodes.items)
+plan_is None nodes slice same is = tt
+plan_is (Some l) nodes slice same is = is ∙ ap (λ (v : Vec PlanNode Global). v.items) same

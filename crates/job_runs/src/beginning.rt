@@ -152,10 +152,10 @@ fn task_around<F: Folder + Drop, P: Programs + Drop>(
     ensures asked { F.asked runner.new.folder ≡ F.asked runner.old.folder }
     ensures failures { F.failures runner.new.folder ≡ F.failures runner.old.folder }
 {
-    let ReadAround { read, sizes } = around;
+    let read = &around.read;
     let command = command_for(alloc, &read.command)?;
-    let made = claimed(alloc, runner, run, &read.nodes, sizes, &command)?;
-    if !are_those(&made, sizes) {
+    let made = claimed(alloc, runner, run, &read.nodes, &around.sizes, &command)?;
+    if !are_those(&made, &around.sizes) {
         return copied_task(alloc, task);
     }
     task_with(alloc, &task.task.texts, &read.numbers, &read.nodes, &command, &made)

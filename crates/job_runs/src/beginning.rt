@@ -101,8 +101,8 @@ fn nodes_of(alloc: Global, plan: Option<Plan>) -> Vec<PlanNode>
     }
 }
 
-/// What is run for a task, where the run has none of its directories. Those that it claimed all the
-/// same are made by nobody.
+/// What is run for a task of which each node is asked for. Of those that stand in trees which the run
+/// claimed none is made again: the folders see to that.
 fn copied_task(alloc: Global, task: LentTask<'_>) -> Result<Task, AllocError>
     ensures { IfOk result (IsTaskOf (lent_shown task.entry)) }
 {

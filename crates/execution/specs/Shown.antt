@@ -59,8 +59,8 @@ task_told texts read = record {
   texts = texts;
 }
 
--- what a task says was read off its texts, and its nodes but for those in directories of digests that
--- were passed over
+-- what a task says was read off its texts, and its nodes but for those in directories that were
+-- passed over
 pub record IsReadAround (is_passed : Digest → Bool) (t : TaskValue) (read : TaskAround) :
     Type 0 where
   pub command : read.command.items ≡ t.command

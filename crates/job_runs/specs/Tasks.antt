@@ -53,8 +53,8 @@ abbrev pub function_for : List Digest → HashFunction
 function_for [] = Sha256
 function_for (d ∷ ds) = function_of d.hash
 
--- a run makes these nodes of a task, but for what stands in directories that were made before and may
--- be such
+-- a run makes these nodes of a task, but for what stands in directories that were made before and
+-- may be such
 pub record IsTreeOf (t : TaskValue) (nodes : List PlanNodeValue) (run : List TaskNodeValue) :
     Type 0 where
   -- which of the nodes are those directories

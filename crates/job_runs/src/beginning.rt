@@ -62,8 +62,8 @@ fn marked(
 }
 
 /// At which places of a plan directories stand that were made before, and are kept for a run from
-/// now on. There is none beyond the last. Where the sizes of trees say that a node is whole already,
-/// nothing stands in it here.
+/// now on. There is none beyond the last. In a node of which a size is there nothing stands here: it
+/// is whole already.
 ///
 /// Err: a request for memory was refused.
 fn claimed<F: Folder + Drop, P: Programs + Drop>(
@@ -101,8 +101,8 @@ fn nodes_of(alloc: Global, plan: Option<Plan>) -> Vec<PlanNode>
     }
 }
 
-/// What is run for a task of which each node is asked for. Of those that stand in trees which the run
-/// claimed none is made again: the folders see to that.
+/// What is run for a task of which each node is asked for. Of those that stand in trees of the run
+/// none is made again: the folders see to that.
 fn copied_task(alloc: Global, task: LentTask<'_>) -> Result<Task, AllocError>
     ensures { IfOk result (IsTaskOf (lent_shown task.entry)) }
 {

@@ -263,8 +263,8 @@ fn size_behind(level: usize, behind: &[PlanNode], sizes: &[Option<u64>]) -> u64
     size
 }
 
-/// How many bytes a directory of a level is counted for, where these nodes come behind it. The first
-/// of the sizes is its own.
+/// How many bytes a directory of a level is counted for, where these nodes come behind it. The
+/// first of the sizes is its own.
 fn tree_size(level: usize, behind: &[PlanNode], sizes: &[Option<u64>]) -> u64
     ensures { result ≡ tree_size sizes.now (within level (nodes_shown behind.now)) }
 {

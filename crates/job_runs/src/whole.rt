@@ -76,8 +76,8 @@ fn sizes_of<F: Folder + Drop, P: Programs + Drop>(
     Ok(sizes)
 }
 
-/// Whether a directory has so many files in its own tree that it may be made, as far as that is seen
-/// early.
+/// Whether a directory has so many files in its own tree that it may be made, as far as that is
+/// seen early.
 fn has_many_files(
     alloc: Global,
     task: LentTask<'_>,

@@ -180,7 +180,8 @@ all_for run all = (of_instance run.instance all).store.trees
 -- how many bytes the tree of a digest counts that is whole for an instance
 abbrev pub whole_in : ℕ → List RunTreesValue → Digest → Option ℕ
 whole_in instance all digest =
-    whole_size (record { instance = instance; digest = digest }) (of_instance instance all).store.trees
+    whole_size (record { instance = instance; digest = digest })
+    (of_instance instance all).store.trees
 
 -- those that it claimed
 abbrev pub own_in : RunKey → List RunTreesValue → List RunTreeValue

@@ -75,8 +75,8 @@ pub trait Folder {
     // By instance, how many bytes a directory of a digest counts that was made before.
     ghost whole: { Self → ℕ → AnyDigest → Option ℕ } = { λ _ instance digest. None };
 
-    /// How much room a directory takes of which all was made before for the instance of a run, if it
-    /// was (`InputTree::size`).
+    /// How much room a directory takes (`InputTree::size`) of which all was made before for the
+    /// instance of a run, if it was.
     fn whole_tree(&self, run: RunKey, digest: &Digest) -> Option<u64>
         ensures { result ≡ whole self.now run.instance digest.now };
 

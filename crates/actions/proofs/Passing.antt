@@ -29,18 +29,18 @@ along_first : (most : ℕ) (look : Lookup) (n : PlanNodeValue) (next met : List 
 unfolding walk_along
 along_first most look n next met = refl
 
-meets_along : (most : ℕ) (look : Lookup) (xs below next met : List PlanNodeValue) → Meets look xs below →
+meets_along : (look : Lookup) (most : ℕ) (xs below next met : List PlanNodeValue) → Meets look xs below →
     walk_along (length below + most) look (xs ++ next) met ≡ walk_along most look next (met ++ below)
-meets_along most look [] below next met none =
+meets_along look most [] below next met none =
     let fuel : length {A = PlanNodeValue} [] + most ≡ most = omega arith in
     ap (λ (k : ℕ). walk_along k look next met) fuel ∙ ap (walk_along most look next) (sym (append-nil met))
-meets_along most look (n ∷ xs) whole next met (met_first m inside below others after is meets later) =
+meets_along look most (n ∷ xs) whole next met (met_first m inside below others after is meets later) =
     let left : ℕ = length below + (length after + most) in
     let fuel : length (n ∷ (below ++ after)) + most ≡ suc left = (let e = length-append below after in omega (arith, e)) in
     let on : Nodes → Nodes = λ m. (m >>= (λ inside. walk_along left look (inside ++ (xs ++ next)) (met ++ n ∷ []))) in
     ap (λ (k : ℕ). walk_along k look (n ∷ (xs ++ next)) met) fuel ∙ along_first left look n (xs ++ next) met ∙ ap on is
-    ∙ meets_along (length after + most) look inside below (xs ++ next) (met ++ n ∷ []) meets
-    ∙ meets_along most look xs after next ((met ++ n ∷ []) ++ below) later
+    ∙ meets_along look (length after + most) inside below (xs ++ next) (met ++ n ∷ []) meets
+    ∙ meets_along look most xs after next ((met ++ n ∷ []) ++ below) later
     ∙ ap (walk_along most look next) (append_assoc (met ++ n ∷ []) below after ∙ append_assoc met (n ∷ []) (below ++ after))
 
 few_met : (most : ℕ) (look : Lookup) (next met nodes : List PlanNodeValue) → walk_along most look next met ≡ Ok nodes →
@@ -73,7 +73,7 @@ whole_walk look root top met is meets few =
     let fuel : 10000 ≡ length met + left = omega (arith, few) in
     ap on is ∙ ap (λ (k : ℕ). walk_along k look top []) fuel
     ∙ ap (λ (xs : List PlanNodeValue). walk_along (length met + left) look xs []) (sym (append-nil top))
-    ∙ meets_along left look top met [] [] meets ∙ along_end left look met
+    ∙ meets_along look left top met [] [] meets ∙ along_end left look met
 
 -- ---- levels
 
@@ -427,7 +427,7 @@ own_tree look root nodes at n behind d h here kind =
     let few : length s.below ≤ 10000 =
     (let a = few_nodes look root nodes h in let b = within_few n.level behind in let c = ap (length {A = PlanNodeValue}) s.within_is in
     let e = ap (length {A = PlanNodeValue}) here in let f = length-drop at nodes in omega (arith, a, b, c, e, f)) in
-    let same = length-map (raised n.level) s.below in
+    let same = length-map s.below (raised n.level) in
     whole_walk look d (map (raised n.level) s.inside) (map (raised n.level) s.below) first meets (omega (arith, few, same))
     ∙ ap (λ (ns : List PlanNodeValue). Ok (map (raised n.level) ns)) (sym s.within_is)
 
@@ -482,9 +482,8 @@ AreLevelled level (n ∷ nodes) = (1 ≤ n.level) × (n.level ≤ level + 1) × 
 levelled_both : (k l : ℕ) (xs rest : List PlanNodeValue) → l ≤ k → AreLevelled k xs → Deep l xs → AreLevelled l rest →
     AreLevelled k (xs ++ rest)
 levelled_both k l [] [] le one deep more = tt
-levelled_both k l [] (n ∷ rest) le one deep more = (more.0, (let a = more.1.0 in omega (arith, le, a)), more.1.1)
-levelled_both k l (x ∷ xs) rest le one deep more =
-    (one.0, one.1.0, levelled_both x.level l xs rest deep.0 one.1.1 deep.1 more)
+levelled_both k l [] (n ∷ rest) le one deep more = (more.0, (let a = more.1 in omega (arith, le, a)), more.2)
+levelled_both k l (x ∷ xs) rest le one deep more = (one.0, one.1, levelled_both x.level l xs rest deep.0 one.2 deep.1 more)
 
 levelled_met : (look : Lookup) (level k : ℕ) (xs met : List PlanNodeValue) → Meets look xs met → AreAt level xs → 1 ≤ level →
     level ≤ k + 1 → AreLevelled k met

@@ -276,8 +276,8 @@ all_free : (c : CommandValue) (p : Digest → Bool) (s : Option ℕ) (before oth
     AreFree c other marks (around_behind p s ns) → AreFree c before (spread p s ns) ns
 all_free c p s before other marks [] levels agree marked free = tt
 all_free c p s before other marks (n ∷ ns) levels agree marked free =
-    let long = path_longer before n levels.0 levels.1.0 in
-    let next : AreLevelled (length (path_behind before n)) ns = subst (λ (k : ℕ). AreLevelled k ns) (sym long) levels.1.1 in
+    let long = path_longer before n levels.0 levels.1 in
+    let next : AreLevelled (length (path_behind before n)) ns = subst (λ (k : ℕ). AreLevelled k ns) (sym long) levels.2 in
     go (stands_in s n) refl marked free (all_free c p s (path_behind before n) other marks ns next)
     (all_free c p (passed_level p n) (path_behind before n) (path_behind other n) (drop 1 marks) ns next) where
       go : (b : Bool) → stands_in s n ≡ b → Marks p marks (around_behind p s (n ∷ ns)) →
@@ -293,7 +293,7 @@ all_free c p s before other marks (n ∷ ns) levels agree marked free =
           let marks_are : spread p s (n ∷ ns) ≡ false ∷ spread p s ns = rw stands refl in
           subst (λ (m : List Bool). AreFree c before m (n ∷ ns)) (sym marks_are) (
             λ is. absurd (cc),
-            passed (agree_passed s before other n agree stands levels.0 levels.1.0) (subst (Marks p marks) here marked)
+            passed (agree_passed s before other n agree stands levels.0 levels.1) (subst (Marks p marks) here marked)
                 (subst (AreFree c other marks) here free),
           )
       go false stands marked free passed met =
@@ -303,7 +303,7 @@ all_free c p s before other marks (n ∷ ns) levels agree marked free =
           let marked_so : Marks p marks (n ∷ rest) = subst (Marks p marks) here marked in
           let free_so : AreFree c other marks (n ∷ rest) = subst (AreFree c other marks) here free in
           let same : path_behind before n ≡ path_behind other n = agree_met s before other n agree stands in
-          let long = path_longer before n levels.0 levels.1.0 in
+          let long = path_longer before n levels.0 levels.1 in
           subst (λ (m : List Bool). AreFree c before m (n ∷ ns)) (sym marks_are) (
             λ is. ap (λ (b : Path). is_free c (slashed (path_text b))) same ∙ free_so.0 (marked_so 0 ∙ is),
             met (agree_next p (path_behind before n) (path_behind other n) n same (omega (arith, long)))

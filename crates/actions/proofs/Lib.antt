@@ -10,3 +10,4 @@ mod Named
 mod Paths
 pub mod Again
 pub mod Records
+pub mod Passing

@@ -30,10 +30,10 @@ head_in level nodes named m c =
     let same : found.0 ≡ m.name = ap (λ (p : List ℕ × ℕ). p.0) is in
     record { level_is = sym (ap (λ (p : List ℕ × ℕ). p.1) is); there = rw (← same) found.1 }
 
-abbrev AreAt : ℕ → List PlanNodeValue → Type 0
+abbrev pub AreAt : ℕ → List PlanNodeValue → Type 0
 AreAt level nodes = (m : PlanNodeValue) → Contains nodes m → m.level ≡ level
 
-levels_in : (level : ℕ) (nodes : List PlanNodeValue) → Named level nodes → AreAt level nodes
+pub levels_in : (level : ℕ) (nodes : List PlanNodeValue) → Named level nodes → AreAt level nodes
 levels_in level nodes named m c = (head_in level nodes named m c).level_is
 
 names_differ : (level : ℕ) (nodes : List PlanNodeValue) → Named level nodes → Pairs (λ a b. a.name ≢ b.name) nodes

@@ -1,5 +1,6 @@
 -- Steps of a walk.
-use Rattle.std.proofs.Common.{◌≡◌, ℕ, ◌+◌, ◌-◌, ◌*◌, ◌<◌, ◌≤◌, List, [], ◌∷◌, ◌++◌, map, reverse, length, not, is_some, Bool, true, false, ◌&&◌, nat_eq, nat_le, Option, Some, None, Result, Ok, Err, arith, refl, sym, ap, subst, ◌∙◌, append-nil, append_assoc, if◌then◌else◌}
+use Rattle.std.proofs.Common.{◌≡◌, get_or, take, drop, ℕ, ◌+◌, ◌-◌, ◌*◌, ◌<◌, ◌≤◌, List, [], ◌∷◌, ◌++◌, map, reverse, length, not, is_some, Bool, true, false, ◌&&◌, nat_eq, nat_le, Option, Some, None, Result, Ok, Err, arith, refl, sym, ap, subst, ◌∙◌, append-nil, append_assoc, if◌then◌else◌}
+use Rattle.std.proofs.Math.Seq.{take-length}
 use Rattle.std.specs.Prelude.{option_map, IfSome}
 use Rattle.std.specs.List.{filter_map}
 use Rattle.std.specs.Map.{lookup}
@@ -26,7 +27,7 @@ use Rattle.actions.specs.Shown.{node_shown, nodes_shown}
 use Rattle.actions.specs.Walk.{Nodes, TreeFaultValue, bad_directory, digest_of_node, digests_met, directory_nodes, missing, missing_among, nodes_below, nodes_inside, nodes_met, nodes_of_text, nodes_or_fault, nodes_unless_missing, plan_of, too_deep, too_many, walk, walk_along}
 use Rattle.actions.specs.KeptNodes.{AreKept, IsKept}
 use Rattle.actions.specs.Answers.{Fails}
-use Rattle.actions.specs.TreeWalks.{IsReading, LeadsTo, ahead_left, is_over, nodes_ahead, not_looked_for, opened_below, opened_by, reading_left, steps_left, text_of_node, with_ahead}
+use Rattle.actions.specs.TreeWalks.{IsReading, LeadsTo, ahead_left, is_over, nodes_ahead, opened_below, opened_by, reading_left, steps_left, with_ahead}
 use Rattle.actions.proofs.Walks.{along_end, along_full, along_next, fails_as, fails_then, reverse_last}
 
 -- ---- the nodes that what is taken stands for
@@ -78,19 +79,11 @@ nodes_at look level d o h = text (look d) h where
   text None h = cc
   text (Some t) h = read (directory_in t) cc
 
-found_at : (look : Lookup) (d : Digest) (o : Option DirectoryTakenValue) → taken_at look d ≡ Some o → missing_among look (d ∷ []) ≡ []
-found_at look d o h = go (look d) refl h where
-  go : (t : Option (List ℕ)) → look d ≡ t → option_map directory_taken t ≡ Some o → missing_among look (d ∷ []) ≡ []
-  go None is h = cc
-  go (Some t) is h = rw is refl
-
--- where no text is found, no nodes are, and the digest is missing
-pub none_at : (look : Lookup) (level : ℕ) (d : Digest) → taken_at look d ≡ None →
-    (directory_nodes look level d ≡ Ok []) × (d ∷ [] ≡ missing_among look (d ∷ []))
+-- where no text is found, no nodes are
+pub none_at : (look : Lookup) (level : ℕ) (d : Digest) → taken_at look d ≡ None → directory_nodes look level d ≡ Ok []
 none_at look level d h = go (look d) refl h where
-  go : (t : Option (List ℕ)) → look d ≡ t → option_map directory_taken t ≡ None →
-      (directory_nodes look level d ≡ Ok []) × (d ∷ [] ≡ missing_among look (d ∷ []))
-  go None is h = (rw is refl, rw is refl)
+  go : (t : Option (List ℕ)) → look d ≡ t → option_map directory_taken t ≡ None → directory_nodes look level d ≡ Ok []
+  go None is h = rw is refl
   go (Some t) is h = cc
 
 -- ---- what is kept
@@ -120,11 +113,10 @@ begins look root = then_same (directory_nodes look 1 root) (λ inside. walk_alon
     (λ nodes. walk_along 10000 look nodes []) (λ ns. ap (λ (xs : List PlanNodeValue). walk_along 10000 look xs []) (append-nil ns))
 
 pub begun : (look : Lookup) (w : TreeWalk) → w.ahead ≡ Some (record { digest = w.root; level = 1; reading = None }) → w.todo.items ≡ [] →
-    w.met.items ≡ [] → w.missing.items ≡ [] → AreKept look w.kept.entries → LeadsTo look w
-begun look w ahead todo met noted kept = record {
+    w.met.items ≡ [] → AreKept look w.kept.entries → LeadsTo look w
+begun look w ahead todo met kept = record {
   same = rw (ahead, todo, met) (begins look w.root);
   ahead_is = rw ahead tt;
-  missing_are = rw (ahead, met, noted) refl;
   kept_are = kept;
   few = rw met (omega arith);
 }
@@ -133,10 +125,8 @@ begun look w ahead todo met noted kept = record {
 pub enters : (look : Lookup) (old new : TreeWalk) (d : Digest) (level : ℕ) (reading : Option DirectoryReading) (nodes : List PlanNodeValue) →
     LeadsTo look (with_ahead old d level reading) → directory_nodes look level d ≡ Ok nodes → new.root ≡ old.root → new.ahead ≡ None →
     nodes_shown new.todo.items ≡ nodes_shown old.todo.items ++ reverse nodes → new.met ≡ old.met →
-    new.missing.items ≡ old.missing.items
-    ++ missing_among look (not_looked_for (Some (record { digest = d; level = level; reading = reading }))) →
     AreKept look new.kept.entries → LeadsTo look new
-enters look old new d level reading nodes leads gives root ahead stacked met noted kept =
+enters look old new d level reading nodes leads gives root ahead stacked met kept =
     let todo_is : reverse (nodes_shown new.todo.items) ≡ nodes ++ reverse (nodes_shown old.todo.items) =
     ap reverse stacked ∙ reverse-append (nodes_shown old.todo.items) (reverse nodes)
     ∙ ap (λ (ns : List PlanNodeValue). ns ++ reverse (nodes_shown old.todo.items)) (reverse-reverse nodes) in
@@ -145,7 +135,6 @@ enters look old new d level reading nodes leads gives root ahead stacked met not
     record {
       same = rw (root, ahead, met, todo_is) was;
       ahead_is = rw ahead tt;
-      missing_are = rw (root, ahead, met) (append-nil new.missing.items ∙ noted ∙ leads.missing_are);
       kept_are = kept;
       few = rw met leads.few;
     }
@@ -153,31 +142,26 @@ enters look old new d level reading nodes leads gives root ahead stacked met not
 pub enters_kept : (look : Lookup) (old new : TreeWalk) (d : Digest) (level : ℕ) (taken : DirectoryTaken) →
     LeadsTo look (with_ahead old d level None) → taken_at look d ≡ Some (Some (taken_shown taken)) → new.root ≡ old.root →
     new.ahead ≡ None → nodes_shown new.todo.items ≡ nodes_shown old.todo.items ++ reverse (nodes_taken level (taken_shown taken)) →
-    new.met ≡ old.met → new.missing ≡ old.missing → new.kept ≡ old.kept → LeadsTo look new
-enters_kept look old new d level taken leads is root ahead stacked met noted kept =
+    new.met ≡ old.met → new.kept ≡ old.kept → LeadsTo look new
+enters_kept look old new d level taken leads is root ahead stacked met kept =
     enters look old new d level None (nodes_taken level (taken_shown taken)) leads
-    (nodes_at look level d (Some (taken_shown taken)) is) root ahead stacked met
-    (rw (noted, found_at look d (Some (taken_shown taken)) is) (sym (append-nil old.missing.items)))
-    (rw kept leads.kept_are)
+    (nodes_at look level d (Some (taken_shown taken)) is) root ahead stacked met (rw kept leads.kept_are)
 
 pub enters_none : (look : Lookup) (old new : TreeWalk) (d : Digest) (level : ℕ) → LeadsTo look (with_ahead old d level None) →
     taken_at look d ≡ None → new.root ≡ old.root → new.ahead ≡ None → new.todo ≡ old.todo → new.met ≡ old.met →
-    new.missing.items ≡ old.missing.items ++ d ∷ [] → new.kept ≡ old.kept → LeadsTo look new
-enters_none look old new d level leads none root ahead todo met noted kept =
-    let is = none_at look level d none in
-    enters look old new d level None [] leads is.0 root ahead (rw todo (sym (append-nil (nodes_shown old.todo.items)))) met
-    (noted ∙ ap (λ (ds : List Digest). old.missing.items ++ ds) is.1) (rw kept leads.kept_are)
+    new.kept ≡ old.kept → LeadsTo look new
+enters_none look old new d level leads none root ahead todo met kept =
+    enters look old new d level None [] leads (none_at look level d none) root ahead
+    (rw todo (sym (append-nil (nodes_shown old.todo.items)))) met (rw kept leads.kept_are)
 
 -- its text is read
 pub opens : (look : Lookup) (old new : TreeWalk) (d : Digest) (level : ℕ) (r : DirectoryReading) →
     LeadsTo look (with_ahead old d level None) → taken_at look d ≡ Some (given_by r) → new.root ≡ old.root →
     new.ahead ≡ Some (record { digest = d; level = level; reading = Some r }) → new.todo ≡ old.todo → new.met ≡ old.met →
-    new.missing ≡ old.missing → new.kept ≡ old.kept → LeadsTo look new
-opens look old new d level r leads is root ahead todo met noted kept = record {
+    new.kept ≡ old.kept → LeadsTo look new
+opens look old new d level r leads is root ahead todo met kept = record {
   same = rw (root, ahead, todo, met) leads.same;
   ahead_is = rw ahead is;
-  missing_are = rw (root, ahead, met, noted)
-      (ap (λ (ds : List Digest). old.missing.items ++ ds) (sym (found_at look d (given_by r) is)) ∙ leads.missing_are);
   kept_are = rw kept leads.kept_are;
   few = rw met leads.few;
 }
@@ -185,11 +169,10 @@ opens look old new d level r leads is root ahead todo met noted kept = record {
 pub reads : (look : Lookup) (old new : TreeWalk) (d : Digest) (level : ℕ) (r s : DirectoryReading) →
     LeadsTo look (with_ahead old d level (Some r)) → given_by s ≡ given_by r → new.root ≡ old.root →
     new.ahead ≡ Some (record { digest = d; level = level; reading = Some s }) → new.todo ≡ old.todo → new.met ≡ old.met →
-    new.missing ≡ old.missing → new.kept ≡ old.kept → LeadsTo look new
-reads look old new d level r s leads is root ahead todo met noted kept = record {
+    new.kept ≡ old.kept → LeadsTo look new
+reads look old new d level r s leads is root ahead todo met kept = record {
   same = rw (root, ahead, todo, met) leads.same;
   ahead_is = rw (ahead, is) leads.ahead_is;
-  missing_are = rw (root, ahead, met, noted) leads.missing_are;
   kept_are = rw kept leads.kept_are;
   few = rw met leads.few;
 }
@@ -197,12 +180,11 @@ reads look old new d level r s leads is root ahead todo met noted kept = record 
 pub closes : (look : Lookup) (old new : TreeWalk) (d : Digest) (level : ℕ) (r : DirectoryReading) (taken : DirectoryTaken) →
     LeadsTo look (with_ahead old d level (Some r)) → Some (taken_shown taken) ≡ given_by r → new.root ≡ old.root → new.ahead ≡ None →
     nodes_shown new.todo.items ≡ nodes_shown old.todo.items ++ reverse (nodes_taken level (taken_shown taken)) → new.met ≡ old.met →
-    new.missing ≡ old.missing → AreKept look new.kept.entries → LeadsTo look new
-closes look old new d level r taken leads is root ahead stacked met noted kept =
+    AreKept look new.kept.entries → LeadsTo look new
+closes look old new d level r taken leads is root ahead stacked met kept =
     let there : taken_at look d ≡ Some (Some (taken_shown taken)) = rw is leads.ahead_is in
     enters look old new d level (Some r) (nodes_taken level (taken_shown taken)) leads
-    (nodes_at look level d (Some (taken_shown taken)) there) root ahead stacked met
-    (rw noted (sym (append-nil old.missing.items))) kept
+    (nodes_at look level d (Some (taken_shown taken)) there) root ahead stacked met kept
 
 pub closes_bad : (look : Lookup) (old : TreeWalk) (d : Digest) (level : ℕ) (r : DirectoryReading) →
     LeadsTo look (with_ahead old d level (Some r)) → None ≡ given_by r → nodes_met look old.root ≡ Err bad_directory
@@ -223,25 +205,6 @@ inside_by look n = go n.level n.kind where
         ≡ ((if b then Err too_deep else Ok (Some (record { digest = d; level = level + 1; reading = None }))) >>= nodes_ahead look)
     test true = refl
     test false = refl
-
--- what is missing of a node, now or once it is looked for
-missing_of : (look : Lookup) (n : PlanNodeValue) (ahead : Option Ahead) → opened_by n ≡ Ok ahead →
-    missing_among look (filter_map text_of_node (n ∷ [])) ++ missing_among look (not_looked_for ahead)
-    ≡ missing_among look (filter_map digest_of_node (n ∷ []))
-missing_of look n ahead h = go n.level n.kind refl h where
-  go : (level : ℕ) (kind : PlanKindValue) → n.kind ≡ kind → opened_below level kind ≡ Ok ahead →
-      missing_among look (filter_map text_of_node (n ∷ [])) ++ missing_among look (not_looked_for ahead)
-      ≡ missing_among look (filter_map digest_of_node (n ∷ []))
-  go level (file d x) is h =
-      let none : None ≡ ahead = cc in
-      rw (is, ← none) (append-nil (missing_among look (d ∷ [])))
-  go level (symlink t) is h = let none : None ≡ ahead = cc in rw (is, ← none) refl
-  go level (directory d) is h = test (nat_le 64 level) h where
-    test : (b : Bool) → (if b then Err too_deep else Ok (Some (record { digest = d; level = level + 1; reading = None }))) ≡ Ok ahead →
-        missing_among look (filter_map text_of_node (n ∷ [])) ++ missing_among look (not_looked_for ahead)
-        ≡ missing_among look (filter_map digest_of_node (n ∷ []))
-    test true h = cc
-    test false h = let some : Some (record { digest = d; level = level + 1; reading = None }) ≡ ahead = cc in rw (is, ← some) refl
 
 -- what comes behind the node that is met first
 along : (look : Lookup) (old : TreeWalk) (front : List PlanNode) (n : PlanNode) → LeadsTo look old → old.ahead ≡ None →
@@ -298,39 +261,17 @@ reading_none look n ahead h = go n.level n.kind h where
     test true h = cc
     test false h = let some : Some (record { digest = d; level = level + 1; reading = None }) ≡ ahead = cc in rw (← some) (tt, omega arith)
 
-missing_more : (look : Lookup) (root : Digest) (met new : List PlanNode) (n : PlanNode) (ahead : Option Ahead) (some more : List Digest) →
-    opened_by (node_shown n) ≡ Ok ahead → some ≡ missing_among look (digests_met root (nodes_shown met)) → new ≡ met ++ n ∷ [] →
-    more ≡ some ++ missing_among look (filter_map text_of_node (node_shown n ∷ [])) →
-    more ++ missing_among look (not_looked_for ahead) ≡ missing_among look (digests_met root (nodes_shown new))
-missing_more look root met new n ahead some more opened are pushed noted =
-    let shown : nodes_shown new ≡ nodes_shown met ++ node_shown n ∷ [] = ap nodes_shown pushed ∙ map-append node_shown met (n ∷ []) in
-    let digests = filter_map-append digest_of_node (nodes_shown met) (node_shown n ∷ []) in
-    let all = filter-append (λ d. not (is_some (look d))) (digests_met root (nodes_shown met))
-    (filter_map digest_of_node (node_shown n ∷ [])) in
-    ap (λ (ds : List Digest). ds ++ missing_among look (not_looked_for ahead)) noted
-    ∙ append_assoc some (missing_among look (filter_map text_of_node (node_shown n ∷ []))) (missing_among look (not_looked_for ahead))
-    ∙ ap (λ (ds : List Digest). some ++ ds) (missing_of look (node_shown n) ahead opened)
-    ∙ ap (λ (ds : List Digest). ds ++ missing_among look (filter_map digest_of_node (node_shown n ∷ []))) are ∙ sym all
-    ∙ ap (λ (ds : List Digest). missing_among look (root ∷ ds)) (sym digests)
-    ∙ ap (λ (ns : List PlanNodeValue). missing_among look (digests_met root ns)) (sym shown)
-
 pub meets : (look : Lookup) (old new : TreeWalk) (n : PlanNode) (ahead : Option Ahead) → LeadsTo look old → old.ahead ≡ None →
     old.todo.items ≡ new.todo.items ++ n ∷ [] → length old.met.items < 10000 → opened_by (node_shown n) ≡ Ok ahead → new.root ≡ old.root →
-    new.ahead ≡ ahead → new.met.items ≡ old.met.items ++ n ∷ [] →
-    new.missing.items ≡ old.missing.items ++ missing_among look (filter_map text_of_node (node_shown n ∷ [])) → new.kept ≡ old.kept →
-    LeadsTo look new
-meets look old new n ahead leads none popped room opened root comes pushed noted kept =
+    new.ahead ≡ ahead → new.met.items ≡ old.met.items ++ n ∷ [] → new.kept ≡ old.kept → LeadsTo look new
+meets look old new n ahead leads none popped room opened root comes pushed kept =
     let count : length new.met.items ≡ length old.met.items + 1 = ap length pushed ∙ length-append old.met.items (n ∷ []) in
     let met_is : nodes_shown new.met.items ≡ nodes_shown old.met.items ++ node_shown n ∷ [] =
     ap nodes_shown pushed ∙ map-append node_shown old.met.items (n ∷ []) in
     let whole = meets_along look old new.todo.items n leads none popped room in
-    let were : old.missing.items ≡ missing_among look (digests_met old.root (nodes_shown old.met.items)) =
-    sym (append-nil old.missing.items) ∙ rw none at leads.missing_are in
     record {
       same = rw (root, comes, count, met_is) (rw opened at whole);
       ahead_is = rw comes (reading_none look (node_shown n) ahead opened).0;
-      missing_are = rw (root, comes) (missing_more look old.root old.met.items new.met.items n ahead old.missing.items new.missing.items
-          opened were pushed noted);
       kept_are = rw kept leads.kept_are;
       few = omega (arith, room, count);
     }
@@ -391,28 +332,47 @@ all_met look w leads over =
     rw (is.0, is.1) at leads.same in
     sym was ∙ along_end (10000 - length w.met.items) look (nodes_shown w.met.items)
 
-all_planned : (look : Lookup) (w : TreeWalk) → LeadsTo look w → is_over w ≡ true →
-    walk look w.root ≡ nodes_unless_missing (nodes_shown w.met.items) w.missing.items
-all_planned look w leads over =
-    let is = over_is w over in
-    let are : w.missing.items ≡ missing_among look (digests_met w.root (nodes_shown w.met.items)) =
-    sym (append-nil w.missing.items) ∙ rw (is.0) at leads.missing_are in
-    rw are (ap (λ (m : Nodes). m >>= plan_of look w.root) (all_met look w leads over))
+-- ---- what is missing
+
+missing_then : (look : Lookup) (root : Digest) (nodes : List PlanNodeValue) (ds : List Digest) → nodes_met look root ≡ Ok nodes →
+    ds ≡ missing_among look (digests_met root nodes) → walk look root ≡ nodes_unless_missing nodes ds
+missing_then look root nodes ds met are = ap (λ (m : Nodes). m >>= plan_of look root) met ∙ ap (nodes_unless_missing nodes) (sym are)
 
 none_missing : (nodes : List PlanNodeValue) (ds : List Digest) → length ds ≡ 0 → nodes_unless_missing nodes ds ≡ Ok nodes
 none_missing nodes [] h = refl
 none_missing nodes (d ∷ ds) h = absurd (omega arith)
 
 -- nothing is missing
-pub planned : (look : Lookup) (w : TreeWalk) → LeadsTo look w → is_over w ≡ true → length w.missing.items ≡ 0 →
-    walk look w.root ≡ Ok (nodes_shown w.met.items)
-planned look w leads over none = all_planned look w leads over ∙ none_missing (nodes_shown w.met.items) w.missing.items none
+pub planned : (look : Lookup) (root : Digest) (nodes : List PlanNodeValue) (ds : List Digest) → nodes_met look root ≡ Ok nodes →
+    ds ≡ missing_among look (digests_met root nodes) → length ds ≡ 0 → walk look root ≡ Ok nodes
+planned look root nodes ds met are none = missing_then look root nodes ds met are ∙ none_missing nodes ds none
 
 some_missing : (nodes : List PlanNodeValue) (ds : List Digest) → 0 < length ds → nodes_unless_missing nodes ds ≡ Err (missing ds)
 some_missing nodes [] h = absurd (omega arith)
 some_missing nodes (d ∷ ds) h = refl
 
 -- something is missing
-pub unplanned : (look : Lookup) (w : TreeWalk) → LeadsTo look w → is_over w ≡ true → 0 < length w.missing.items →
-    walk look w.root ≡ Err (missing w.missing.items)
-unplanned look w leads over some = all_planned look w leads over ∙ some_missing (nodes_shown w.met.items) w.missing.items some
+pub unplanned : (look : Lookup) (root : Digest) (nodes : List PlanNodeValue) (ds : List Digest) → nodes_met look root ≡ Ok nodes →
+    ds ≡ missing_among look (digests_met root nodes) → 0 < length ds → walk look root ≡ Err (missing ds)
+unplanned look root nodes ds met are some = missing_then look root nodes ds met are ∙ some_missing nodes ds some
+
+pub first_and_rest : {A : Type 0} (xs : List A) (x : A) → 1 ≤ length xs → x ≡ get_or xs 0 x → xs ≡ x ∷ take (length xs - 1) (drop 1 xs)
+first_and_rest [] x le is = absurd (omega (arith, le))
+first_and_rest (y ∷ ys) x le is =
+    let n : length (y ∷ ys) - 1 ≡ length ys = omega arith in
+    ap (λ z. z ∷ ys) (sym is) ∙ ap (λ zs. x ∷ zs) (sym (ap (λ k. take k ys) n ∙ take-length ys))
+
+-- one more node was looked at
+pub missing_more : (look : Lookup) (ds new : List Digest) (left rest : List PlanNode) (n : PlanNode) (all : List Digest) →
+    ds ++ missing_among look (filter_map digest_of_node (nodes_shown left)) ≡ all → left ≡ n ∷ rest →
+    new ≡ ds ++ missing_among look (filter_map digest_of_node (node_shown n ∷ [])) →
+    new ++ missing_among look (filter_map digest_of_node (nodes_shown rest)) ≡ all
+missing_more look ds new left rest n all are left_is noted =
+    let here = filter_map-append digest_of_node (node_shown n ∷ []) (nodes_shown rest) in
+    let both = filter-append (λ d. not (is_some (look d))) (filter_map digest_of_node (node_shown n ∷ []))
+    (filter_map digest_of_node (nodes_shown rest)) in
+    ap (λ (x : List Digest). x ++ missing_among look (filter_map digest_of_node (nodes_shown rest))) noted
+    ∙ append_assoc ds (missing_among look (filter_map digest_of_node (node_shown n ∷ [])))
+    (missing_among look (filter_map digest_of_node (nodes_shown rest)))
+    ∙ ap (λ (x : List Digest). ds ++ x) (sym both ∙ ap (missing_among look) (sym here))
+    ∙ ap (λ (x : List PlanNode). ds ++ missing_among look (filter_map digest_of_node (nodes_shown x))) (sym left_is) ∙ are

@@ -34,10 +34,10 @@ splits look (x ∷ front) rest met (met_first n inside below next after is meets
     with_first look n inside below front rest after is meets (splits look front rest after later)
 
 -- the nodes that were met, and those that are met from what comes next
-record Continues (look : Lookup) (next met nodes : List PlanNodeValue) : Type 0 where
-  after : List PlanNodeValue
-  is : nodes ≡ met ++ after
-  meets : Meets look next after
+pub record Continues (look : Lookup) (next met nodes : List PlanNodeValue) : Type 0 where
+  pub after : List PlanNodeValue
+  pub is : nodes ≡ met ++ after
+  pub meets : Meets look next after
 
 continued : (look : Lookup) (n : PlanNodeValue) (inside next met nodes : List PlanNodeValue) → nodes_inside look n ≡ Ok inside →
     Continues look (inside ++ next) (met ++ n ∷ []) nodes → Continues look (n ∷ next) met nodes
@@ -49,7 +49,7 @@ continued look n inside next met nodes is c =
       meets = met_first n inside s.below next s.after is s.front_meets s.rest_meets;
     }
 
-continues : (most : ℕ) (look : Lookup) (next met nodes : List PlanNodeValue) → walk_along most look next met ≡ Ok nodes →
+pub continues : (most : ℕ) (look : Lookup) (next met nodes : List PlanNodeValue) → walk_along most look next met ≡ Ok nodes →
     Continues look next met nodes
 unfolding walk_along
 continues zero look [] met nodes h = record { after = []; is = (let e : met ≡ nodes = cc in sym e) ∙ sym (append-nil met); meets = none }
@@ -95,7 +95,7 @@ plan_is look root plan h = go (nodes_met look root) refl h where
       )
   go (Err e) is h = cc
 
-met_tree : (look : Lookup) (root : Digest) (nodes : List PlanNodeValue) → nodes_met look root ≡ Ok nodes → IsTree look root nodes
+pub met_tree : (look : Lookup) (root : Digest) (nodes : List PlanNodeValue) → nodes_met look root ≡ Ok nodes → IsTree look root nodes
 met_tree look root nodes h = go (directory_nodes look 1 root) refl h where
   go : (m : Nodes) → directory_nodes look 1 root ≡ m → (m >>= (λ top. walk_along 10000 look top [])) ≡ Ok nodes → IsTree look root nodes
   go (Ok top) is h =

@@ -9,7 +9,7 @@ use Rattle.input_tree.specs.declared.directory.TheConstants.{MOST_DIRECTORY_BYTE
 use Rattle.input_tree.specs.declared.directory_reading.DirectoryReading.{DirectoryReading}
 use Rattle.actions.specs.Nodes.{PlanKindValue, PlanNodeValue, file, symlink, directory}
 use Rattle.actions.specs.Shown.{nodes_shown}
-use Rattle.actions.specs.Walk.{Nodes, TreeFaultValue, digests_met, directory_nodes, missing_among, nodes_met, too_deep, walk_along}
+use Rattle.actions.specs.Walk.{Nodes, TreeFaultValue, directory_nodes, nodes_met, too_deep, walk_along}
 use Rattle.actions.specs.KeptNodes.{AreKept}
 use Rattle.actions.specs.declared.tree_walk.Ahead.{Ahead}
 use Rattle.actions.specs.declared.tree_walk.TreeWalk.{TreeWalk}
@@ -26,14 +26,6 @@ opened_below level (directory d) =
 abbrev pub opened_by : PlanNodeValue → Result (Option Ahead) TreeFaultValue
 opened_by n = opened_below n.level n.kind
 
-abbrev pub text_of_kind : PlanKindValue → Option Digest
-text_of_kind (file d is_executable) = Some d
-text_of_kind (symlink target) = None
-text_of_kind (directory d) = None
-
-abbrev pub text_of_node : PlanNodeValue → Option Digest
-text_of_node n = text_of_kind n.kind
-
 -- the nodes in the directory that comes next
 abbrev pub nodes_ahead : Lookup → Option Ahead → Nodes
 nodes_ahead look None = Ok []
@@ -45,11 +37,6 @@ abbrev pub walk_on : Lookup → Option Ahead → ℕ → List PlanNodeValue → 
 walk_on look ahead most next met =
     nodes_ahead look ahead >>= (λ inside. walk_along most look (inside ++ next) met)
 
--- the digest of the directory that comes next, where its text was not looked for
-abbrev pub not_looked_for : Option Ahead → List Digest
-not_looked_for None = []
-not_looked_for (Some a) = if is_some a.reading then [] else a.digest ∷ []
-
 abbrev pub IsReading : Lookup → Ahead → Type 0
 IsReading look a = IfSome a.reading (λ r. taken_at look a.digest ≡ Some (given_by r))
 
@@ -58,8 +45,6 @@ pub record LeadsTo (look : Lookup) (w : TreeWalk) : Type 0 where
   pub same : walk_on look w.ahead (MOST_NODES - length w.met.items)
       (reverse (nodes_shown w.todo.items)) (nodes_shown w.met.items) ≡ nodes_met look w.root
   pub ahead_is : IfSome w.ahead (IsReading look)
-  pub missing_are : w.missing.items ++ missing_among look (not_looked_for w.ahead)
-      ≡ missing_among look (digests_met w.root (nodes_shown w.met.items))
   pub kept_are : AreKept look w.kept.entries
   pub few : length w.met.items ≤ MOST_NODES
 

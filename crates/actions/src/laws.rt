@@ -1,14 +1,15 @@
 //! What is taken, in examples, and what the definition of the walk says, for every tree.
 
-ghost use Rattle.std.specs.Prelude.{◌≡◌, [], Some, None, pos, negsuc, true, false, codes, ◌≢◌, List, is_some};
+ghost use Rattle.std.specs.Prelude.{◌≡◌, ℕ, Bool, [], ◌∷◌, drop, map, Some, None, pos, negsuc, true, false, codes, ◌≢◌, List, is_some};
 ghost use Rattle.actions.specs.Actions.{duration_of_numbers};
 ghost use Rattle.actions.specs.Commands.{is_path};
 ghost use Rattle.actions.specs.declared.command.TheConstants.{MOST_COMMAND_BYTES};
 ghost use Rattle.std.specs.List.{AllPairs, Contains};
 ghost use Rattle.digest.specs.declared.Digest.{Digest};
 ghost use Rattle.input_tree.specs.Listing.{Lookup};
-ghost use Rattle.actions.specs.Nodes.{PlanNodeValue};
-ghost use Rattle.actions.specs.Walk.{digests_met, directory_nodes, missing, walk};
+ghost use Rattle.actions.specs.Passing.{nodes_around, raised, within, without};
+ghost use Rattle.actions.specs.Nodes.{PlanNodeValue, directory};
+ghost use Rattle.actions.specs.Walk.{digests_met, directory_nodes, missing, nodes_met, walk};
 ghost use Rattle.input_tree.specs.Names.{is_name};
 ghost use Rattle.actions.specs.Tree.{AreMissing, HavePlaces, IsTree};
 ghost use Rattle.actions.specs.Paths.{ArePathsIn, paths_of};
@@ -96,6 +97,22 @@ pub fn a_plan_follows_from_what_it_met()
         walk look root ≡ Ok nodes →
         ((d : Digest) → Contains (digests_met root nodes) d → other d ≡ look d) →
         walk other root ≡ Ok nodes }
+{}
+
+/// What stands in a directory of a tree is the tree of that directory, so many levels deeper.
+pub fn a_directory_has_its_own_tree()
+    ensures { (look : Lookup) (root : Digest) (nodes : List PlanNodeValue) (at : ℕ)
+        (n : PlanNodeValue) (behind : List PlanNodeValue) (d : Digest) →
+        nodes_met look root ≡ Ok nodes → drop at nodes ≡ n ∷ behind → n.kind ≡ directory d →
+        nodes_met look d ≡ Ok (map (raised n.level) (within n.level behind)) }
+{}
+
+/// A walk that does not find the texts of some directories meets the same nodes, but for those that
+/// stand in such a directory.
+pub fn a_walk_around_meets_the_others()
+    ensures { (is_passed : Digest → Bool) (look : Lookup) (root : Digest)
+        (nodes : List PlanNodeValue) → nodes_met look root ≡ Ok nodes → is_passed root ≡ false →
+        nodes_met (without is_passed look) root ≡ Ok (nodes_around is_passed nodes) }
 {}
 
 /// What a walk keeps to: the nodes below the root, and the levels of directories.

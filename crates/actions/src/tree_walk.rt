@@ -1,20 +1,18 @@
 //! A walk that is carried out in steps.
 
 ghost use Rattle.std.specs.Prelude.{◌≡◌, ◌++◌, ◌<◌, Ok, Some, None, [], ◌∷◌, length, true, false, IfErr, OnOk};
-ghost use Rattle.std.specs.List.{filter_map};
-ghost use Rattle.blob_pool.specs.Slots.{Slots};
 ghost use Rattle.input_tree.specs.Listing.{Lookup};
 ghost use Rattle.actions.specs.Shown.{node_shown, nodes_shown};
-ghost use Rattle.actions.specs.Walk.{missing_among, nodes_met, walk};
+ghost use Rattle.actions.specs.Walk.{nodes_met};
 ghost use Rattle.actions.specs.Answers.{Answers, Fails};
-ghost use Rattle.actions.specs.TreeWalks.{LeadsTo, is_over, opened_by, steps_left, text_of_node, with_ahead};
+ghost use Rattle.actions.specs.TreeWalks.{LeadsTo, is_over, opened_by, steps_left, with_ahead};
 
 use crate::fault::TreeFault;
 use crate::finding::Finds;
 use crate::kept_nodes::{KeptNodes, keep, kept_of};
 use crate::node::PlanNode;
 use crate::reading::{open, stack_nodes};
-use crate::walking::{MOST_LEVELS, MOST_NODES, Plan};
+use crate::walking::{MOST_LEVELS, MOST_NODES};
 use blob_pool::Pool;
 use digest::Digest;
 use input_tree::DirectoryReading;
@@ -45,8 +43,6 @@ pub struct TreeWalk {
     pub(crate) todo: Vec<PlanNode>,
     /// The nodes that were met, in order.
     pub(crate) met: Vec<PlanNode>,
-    /// The digests of which no text was found, in the order met.
-    pub(crate) missing: Vec<Digest>,
     pub(crate) kept: KeptNodes,
 }
 
@@ -67,25 +63,6 @@ fn opened_by(node: &PlanNode) -> Result<Option<Ahead>, TreeFault>
     }))
 }
 
-/// Notes the text of a file where the instance sees none.
-fn note_file<F: Finds>(
-    view: &F,
-    missing: &mut Vec<Digest>,
-    node: &PlanNode,
-) -> Result<(), AllocError>
-    ensures { (p : Slots) → OnOk result (missing.new.items ≡ missing.old.items
-        ++ missing_among (F.found_in p view.now)
-        (filter_map text_of_node (node_shown node.now ∷ []))) }
-{
-    let NodeKind::File { text, .. } = &node.kind else {
-        return Ok(());
-    };
-    if !view.contains(text) {
-        missing.push(*text)?;
-    }
-    Ok(())
-}
-
 impl TreeWalk {
     /// A walk of which nothing is done. It takes no memory.
     pub fn begin(alloc: Global, key: MapKey, root: &Digest) -> TreeWalk
@@ -101,7 +78,6 @@ impl TreeWalk {
             }),
             todo: Vec::new(alloc),
             met: Vec::new(alloc),
-            missing: Vec::new(alloc),
             kept: KeyedMap::with_hasher(alloc, key),
         }
     }
@@ -135,7 +111,6 @@ impl TreeWalk {
             return Ok(());
         }
         let Some(reading) = open(alloc, view, pool, &digest)? else {
-            self.missing.push(digest)?;
             return Ok(());
         };
         self.ahead = Some(Ahead {
@@ -184,15 +159,15 @@ impl TreeWalk {
     }
 
     /// Meets the node that comes next.
-    fn meet<F: Finds>(&mut self, view: &F) -> Result<(), TreeFault>
+    fn meet(&mut self) -> Result<(), TreeFault>
         requires none { self.old.ahead ≡ None }
         requires some { 0 < length self.old.todo.items }
         ensures root { self.new.root ≡ self.old.root }
-        ensures leads { (p : Slots) → LeadsTo (F.found_in p view.now) self.old →
-            OnOk result (LeadsTo (F.found_in p view.now) self.new) }
+        ensures leads { (look : Lookup) → LeadsTo look self.old →
+            OnOk result (LeadsTo look self.new) }
         ensures less { OnOk result (steps_left self.new < steps_left self.old) }
-        ensures fault { (p : Slots) → LeadsTo (F.found_in p view.now) self.old →
-            IfErr result (λ e. Fails e (nodes_met (F.found_in p view.now) self.old.root)) }
+        ensures fault { (look : Lookup) → LeadsTo look self.old →
+            IfErr result (λ e. Fails e (nodes_met look self.old.root)) }
     {
         let Some(node) = self.todo.pop() else {
             unreachable!()
@@ -201,27 +176,26 @@ impl TreeWalk {
             return Err(TreeFault::TooMany);
         }
         let opened = opened_by(&node)?;
-        note_file(view, &mut self.missing, &node)?;
         self.met.push(node)?;
         self.ahead = opened;
         Ok(())
     }
 
     /// Meets nodes up to the next directory, 1,000 at most.
-    fn meet_some<F: Finds>(&mut self, view: &F) -> Result<(), TreeFault>
+    fn meet_some(&mut self) -> Result<(), TreeFault>
         requires none { self.old.ahead ≡ None }
         requires some { 0 < length self.old.todo.items }
         ensures root { self.new.root ≡ self.old.root }
-        ensures leads { (p : Slots) → LeadsTo (F.found_in p view.now) self.old →
-            OnOk result (LeadsTo (F.found_in p view.now) self.new) }
+        ensures leads { (look : Lookup) → LeadsTo look self.old →
+            OnOk result (LeadsTo look self.new) }
         ensures less { OnOk result (steps_left self.new < steps_left self.old) }
-        ensures fault { (p : Slots) → LeadsTo (F.found_in p view.now) self.old →
-            IfErr result (λ e. Fails e (nodes_met (F.found_in p view.now) self.old.root)) }
+        ensures fault { (look : Lookup) → LeadsTo look self.old →
+            IfErr result (λ e. Fails e (nodes_met look self.old.root)) }
     {
-        self.meet(view)?;
+        self.meet()?;
         let mut count = 1;
         'nodes: while count < MOST_MET && self.ahead.is_none() && !self.todo.is_empty() {
-            self.meet(view)?;
+            self.meet()?;
             count += 1;
         }
         Ok(())
@@ -247,7 +221,7 @@ impl TreeWalk {
             },
         ) = self.ahead.take()
         else {
-            return self.meet_some(view);
+            return self.meet_some();
         };
         match reading {
             None => {
@@ -258,6 +232,13 @@ impl TreeWalk {
         }
     }
 
+    /// The nodes met so far.
+    pub(crate) fn met(&self) -> &[PlanNode]
+        ensures { result.now ≡ self.now.met.items }
+    {
+        &self.met
+    }
+
     /// The nodes met.
     pub fn into_nodes(self) -> Vec<PlanNode>
         requires over { is_over self ≡ true }
@@ -265,17 +246,5 @@ impl TreeWalk {
             nodes_met look self.root ≡ Ok (nodes_shown result.items) }
     {
         self.met
-    }
-
-    /// The plan, or all that is missing.
-    pub fn end(self) -> Result<Plan, TreeFault>
-        requires over { is_over self ≡ true }
-        ensures { (look : Lookup) → LeadsTo look self →
-            Answers (λ plan. nodes_shown plan.nodes.items) result (walk look self.root) }
-    {
-        if self.missing.is_empty() {
-            return Ok(Plan { nodes: self.met });
-        }
-        Err(TreeFault::Missing(self.missing))
     }
 }

@@ -1,8 +1,10 @@
 //! The walk.
 
-ghost use Rattle.std.specs.Prelude.{◌≡◌, true, IfOk, IfErr};
-ghost use Rattle.actions.specs.Shown.{nodes_shown};
-ghost use Rattle.actions.specs.Walk.{nodes_met, walk};
+ghost use Rattle.std.specs.Prelude.{◌≡◌, ◌++◌, [], ◌∷◌, true, IfOk, IfErr, OnOk};
+ghost use Rattle.std.specs.List.{filter_map};
+ghost use Rattle.blob_pool.specs.Slots.{Slots};
+ghost use Rattle.actions.specs.Shown.{node_shown, nodes_shown};
+ghost use Rattle.actions.specs.Walk.{digest_of_node, digests_met, missing_among, nodes_met, walk};
 ghost use Rattle.actions.specs.Answers.{Answers, Fails};
 ghost use Rattle.actions.specs.TreeWalks.{LeadsTo, is_over};
 
@@ -12,7 +14,8 @@ use crate::node::PlanNode;
 use crate::tree_walk::TreeWalk;
 use blob_pool::Pool;
 use digest::Digest;
-use std::alloc::Global;
+use run_calls::NodeKind;
+use std::alloc::{AllocError, Global};
 
 /// The most nodes that a tree has below its root.
 pub const MOST_NODES: usize = 10_000;
@@ -63,12 +66,60 @@ pub fn nodes_met<F: Finds>(
     Ok(walk.into_nodes())
 }
 
+/// Notes a digest of which there is no text.
+fn note<F: Finds>(view: &F, missing: &mut Vec<Digest>, digest: &Digest) -> Result<(), AllocError>
+    ensures { (p : Slots) → OnOk result (missing.new.items ≡ missing.old.items
+        ++ missing_among (F.found_in p view.now) (digest.now ∷ [])) }
+{
+    if !view.contains(digest) {
+        missing.push(*digest)?;
+    }
+    Ok(())
+}
+
+/// The same of what a node names.
+fn note_node<F: Finds>(
+    view: &F,
+    missing: &mut Vec<Digest>,
+    node: &PlanNode,
+) -> Result<(), AllocError>
+    ensures { (p : Slots) → OnOk result (missing.new.items ≡ missing.old.items
+        ++ missing_among (F.found_in p view.now)
+        (filter_map digest_of_node (node_shown node.now ∷ []))) }
+{
+    match &node.kind {
+        NodeKind::File { text, .. } => note(view, missing, text),
+        NodeKind::Directory { text } => note(view, missing, text),
+        NodeKind::Symlink { .. } => Ok(()),
+    }
+}
+
+/// The digests of a root's tree of which there are no texts, in the order met.
+fn missing_among<F: Finds>(
+    alloc: Global,
+    view: &F,
+    root: &Digest,
+    nodes: &[PlanNode],
+) -> Result<Vec<Digest>, AllocError>
+    ensures { (p : Slots) → IfOk result (λ missing. missing.items
+        ≡ missing_among (F.found_in p view.now) (digests_met root.now (nodes_shown nodes.now))) }
+{
+    let mut missing = Vec::new(alloc);
+    note(view, &mut missing, root)?;
+    let mut left = nodes;
+    'nodes: while let [first, rest @ ..] = left {
+        note_node(view, &mut missing, first)?;
+        left = rest;
+    }
+    Ok(missing)
+}
+
 /// Walks through the tree of a root: of each directory first the files, then the symbolic links,
 /// then each directory with what is in it.
 ///
-/// Each node is counted when it is met, then its level is tested, then its text is looked at; the
-/// first fault that is met is answered. What is missing is answered where the whole walk has no
-/// other fault. A directory that stands in many places is read at most twice.
+/// Each node is counted when it is met, then its level is tested, then the text of a directory is
+/// read; the first fault that is met is answered. What is missing is answered where the whole walk
+/// has no other fault. A directory that stands in many places is read at most twice.
 pub fn walk<F: Finds>(
     alloc: Global,
     view: &F,
@@ -78,6 +129,10 @@ pub fn walk<F: Finds>(
     ensures { Answers (λ plan. nodes_shown plan.nodes.items) result
         (walk (F.found_in pool.now view.now) root.now) }
 {
-    let walk = walked(alloc, view, pool, root)?;
-    walk.end()
+    let nodes = nodes_met(alloc, view, pool, root)?;
+    let missing = missing_among(alloc, view, root, &nodes)?;
+    if missing.is_empty() {
+        return Ok(Plan { nodes });
+    }
+    Err(TreeFault::Missing(missing))
 }

@@ -131,8 +131,8 @@ task_again seen d p h =
     let tree : nodes_met (look_kept texts) p.action.root ≡ Ok p.nodes =
     met_again look (look_kept texts) p.action.root p.nodes parts.walked
     (λ e there. same e (later_in d (p.action.command ∷ inner) e (later_in p.action.command inner e there))) in
-    let task_with : List ℕ → List PlanNodeValue → TaskValue = λ text nodes. record { command = text; nodes = nodes; texts = texts } in
+    let task_with : List ℕ → Option (List PlanNodeValue) → TaskValue = λ text nodes. record { command = text; nodes = nodes; texts = texts } in
     let first : command_among texts (action_among texts d) ≡ p.command =
     ap (command_among texts) action ∙ ap (λ (o : Option (List ℕ)). unwrap_or o []) command in
-    let second : nodes_among texts (action_among texts d) ≡ p.nodes = ap (nodes_among texts) action ∙ ap nodes_or_none tree in
+    let second : nodes_among texts (action_among texts d) ≡ Some p.nodes = ap (nodes_among texts) action ∙ ap nodes_or_none tree in
     sym (ap (λ (text : List ℕ). task_with text (nodes_among texts (action_among texts d))) first ∙ ap (task_with p.command) second)

@@ -3,6 +3,7 @@ pub mod KeptTexts
 pub mod KeptTasks
 pub mod NumberedTexts
 pub mod Rereading
+pub mod Others
 pub mod Calling
 pub mod Starts
 pub mod Timings

@@ -15,14 +15,14 @@ command_again p found es d a command same action is =
     is ∙ ap (command_among (blobs_in p found)) action
     ∙ ap (λ (fs : List ViewEntry). command_among (blobs_in p fs) (action_among (blobs_in p fs) d)) same
 
-nodes_again : (p : Slots) (found es : List ViewEntry) (d : Digest) (a : Option ActionTaken) (nodes : List PlanNodeValue) → found ≡ es →
+pub nodes_again : (p : Slots) (found es : List ViewEntry) (d : Digest) (a : Option ActionTaken) (nodes : Option (List PlanNodeValue)) → found ≡ es →
     a ≡ action_among (blobs_in p found) d → nodes ≡ nodes_among (blobs_in p found) a → nodes ≡ (task_read d (blobs_in p es)).nodes
 unfolding nodes_read
 nodes_again p found es d a nodes same action is =
     is ∙ ap (nodes_among (blobs_in p found)) action
     ∙ ap (λ (fs : List ViewEntry). nodes_among (blobs_in p fs) (action_among (blobs_in p fs) d)) same
 
-abbrev told : Slots → List ViewEntry → List ℕ → List PlanNodeValue → TaskValue
+abbrev told : Slots → List ViewEntry → List ℕ → Option (List PlanNodeValue) → TaskValue
 told p es command nodes = record { command = command; nodes = nodes; texts = blobs_in p es }
 
 -- of its parts the task is made
@@ -31,7 +31,7 @@ whole : (p : Slots) (es : List ViewEntry) (d : Digest) →
 whole p es d = refl
 
 pub task_is : (p : Slots) (found es : List ViewEntry) (d : Digest) (a : Option ActionTaken) (command : List ℕ)
-    (nodes : List PlanNodeValue) → found ≡ es → a ≡ action_among (blobs_in p found) d → command ≡ command_among (blobs_in p found) a →
+    (nodes : Option (List PlanNodeValue)) → found ≡ es → a ≡ action_among (blobs_in p found) d → command ≡ command_among (blobs_in p found) a →
     nodes ≡ nodes_among (blobs_in p found) a → told p es command nodes ≡ task_read d (blobs_in p es)
 task_is p found es d a command nodes same action first second =
     ap (λ (text : List ℕ). told p es text nodes) (command_again p found es d a command same action first)

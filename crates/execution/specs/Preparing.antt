@@ -86,7 +86,7 @@ job_of look d p = record {
   is_stored = p.action.is_stored;
   task = record {
     command = p.command;
-    nodes = p.nodes;
+    nodes = Some p.nodes;
     texts = kept_texts look (met d p);
   };
 }
@@ -113,20 +113,21 @@ action_among texts d = action_by (look_kept texts) d
 abbrev pub command_among : List Blob → Option ActionTaken → List ℕ
 command_among texts a = command_by (look_kept texts) a
 
-abbrev pub nodes_or_none : Nodes → List PlanNodeValue
-nodes_or_none (Ok nodes) = nodes
-nodes_or_none (Err fault) = []
+abbrev pub nodes_or_none : Nodes → Option (List PlanNodeValue)
+nodes_or_none (Ok nodes) = Some nodes
+nodes_or_none (Err fault) = None
 
--- what stands in its input root: what is missing was asked when the job was made
-abbrev pub nodes_among : List Blob → Option ActionTaken → List PlanNodeValue
-nodes_among texts None = []
+-- what stands in its input root, where these have its tree: what is missing was asked when the job
+-- was made
+abbrev pub nodes_among : List Blob → Option ActionTaken → Option (List PlanNodeValue)
+nodes_among texts None = None
 nodes_among texts (Some a) = nodes_or_none (nodes_met (look_kept texts) a.root)
 
 -- the task of the action of a digest, where these are the texts that its job keeps
 unfoldable pub command_read : Digest → List Blob → List ℕ
 command_read d texts = command_among texts (action_among texts d)
 
-unfoldable pub nodes_read : Digest → List Blob → List PlanNodeValue
+unfoldable pub nodes_read : Digest → List Blob → Option (List PlanNodeValue)
 nodes_read d texts = nodes_among texts (action_among texts d)
 
 abbrev pub task_read : Digest → List Blob → TaskValue

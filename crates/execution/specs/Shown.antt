@@ -1,6 +1,9 @@
 -- What is prepared, and why nothing is, as plain values.
-use Rattle.std.specs.Prelude.{◌≡◌, List, Result, Ok, Err}
+use Rattle.std.specs.Prelude.{◌≡◌, Bool, List, Result, Ok, Err, Some, option_map}
+use Rattle.digest.specs.declared.Digest.{Digest}
 use Rattle.instance_view.specs.Visible.{Blob}
+use Rattle.actions.specs.Passing.{nodes_around}
+use Rattle.actions.specs.Nodes.{PlanNodeValue}
 use Rattle.actions.specs.Shown.{action_taken_shown, nodes_shown}
 use Rattle.actions.specs.Walk.{TreeFaultValue, missing, bad_directory, too_many, too_deep}
 use Rattle.actions.specs.declared.fault.TreeFault.{TreeFault}
@@ -8,6 +11,7 @@ use Rattle.actions.specs.declared.fault.TreeFault.TheVariants as Tree
 use Rattle.execution.specs.declared.preparing.Prepared.{Prepared}
 use Rattle.execution.specs.declared.preparing.Unprepared.{Unprepared}
 use Rattle.execution.specs.declared.preparing.Unprepared.TheVariants.{Faulty, NoMemory}
+use Rattle.execution.specs.declared.reading.TaskAround.{TaskAround}
 use Rattle.execution.specs.declared.reading.TaskRead.{TaskRead}
 use Rattle.execution.specs.Job.{TaskValue}
 use Rattle.execution.specs.Preparing.{FaultValue, PreparedValue}
@@ -49,5 +53,16 @@ Answers view (Err e) meaning = Fails e meaning
 
 -- what was read off texts
 abbrev pub task_told : List Blob → TaskRead → TaskValue
-task_told texts read =
-    record { command = read.command.items; nodes = nodes_shown read.plan.nodes.items; texts = texts }
+task_told texts read = record {
+  command = read.command.items;
+  nodes = option_map (λ plan. nodes_shown plan.nodes.items) read.plan;
+  texts = texts;
+}
+
+-- what a task says was read off its texts, and its nodes but for those in directories that were
+-- passed over
+pub record IsReadAround (is_passed : Digest → Bool) (t : TaskValue) (read : TaskAround) :
+    Type 0 where
+  pub command : read.command.items ≡ t.command
+  pub nodes : (nodes : List PlanNodeValue) → t.nodes ≡ Some nodes →
+      nodes_shown read.nodes.items ≡ nodes_around is_passed nodes

@@ -32,7 +32,9 @@ pub use laws::{
 };
 pub use numbering::number_of;
 pub use orders::{Order, Told, task_of};
-pub use reading::{TaskRead, read_task, read_task_command};
+pub use reading::{
+    TaskAround, TaskRead, has_files, read_task, read_task_around, read_task_command,
+};
 pub use steps::{Step, end_steps, start_steps, tick_steps};
 pub use taking::{forget_job, take_steps};
 pub use waiting::wait;

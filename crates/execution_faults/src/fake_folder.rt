@@ -3,6 +3,7 @@
 ghost use Rattle.std.specs.Prelude.{◌≤◌, length};
 
 use crate::counting::{Calls, Deed, Failing};
+use digest::Digest;
 use run_calls::{Entry, FileFacts, Folder, Found, InputTree, Place, RunKey, TaskNodeKind};
 use std::alloc::{AllocError, Global};
 use std::io;
@@ -198,6 +199,11 @@ impl Folder for FakeFolder {
     ghost failures = { λ f. f.calls.faults };
 
     /// None was made before.
+    fn whole_tree(&self, _run: RunKey, _digest: &Digest) -> Option<u64> {
+        None
+    }
+
+    /// None was.
     fn claim(&mut self, _run: RunKey, _trees: &[InputTree]) -> Result<Vec<bool>, AllocError> {
         Ok(Vec::new(self.alloc))
     }

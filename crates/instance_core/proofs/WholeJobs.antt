@@ -180,6 +180,8 @@ task_whole look d p named h =
     record {
       named = along_named look (distinct all) named;
       once = texts-once look all;
+      nodes = p.nodes;
+      planned = refl;
       files = have_files (kept_texts look all) p.nodes kept.1;
     }
 

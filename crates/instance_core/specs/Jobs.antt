@@ -1,5 +1,5 @@
 -- What an instance's jobs have.
-use Rattle.std.specs.Prelude.{◌≡◌, ◌⊎◌, ◌<◌, ◌≤◌, ◌^◌, ℕ, true, List, Contains, length, map}
+use Rattle.std.specs.Prelude.{◌≡◌, ◌⊎◌, ◌<◌, ◌≤◌, ◌^◌, ℕ, true, List, Contains, Some, length, map}
 use Rattle.std.specs.List.{AllByRecursion}
 use Rattle.digest.specs.declared.Digest.{Digest}
 use Rattle.digest.specs.Naming.{Names, is_empty_digest}
@@ -23,12 +23,14 @@ HasContent texts (file d is_executable) = (is_empty_digest d ≡ true) ⊎ HasTe
 HasContent texts (symlink target) = Unit {0}
 HasContent texts (directory d) = Unit {0}
 
--- each text of a task is what its digest says, none stands twice, and each file of its plan has its
--- text there
+-- each text of a task is what its digest says, none stands twice, they say what stands in its input
+-- root, and each file there has its text
 pub record IsWholeTask (task : TaskValue) : Type 0 where
   pub named : AllByRecursion (λ (b : Blob). Names b.0 b.1) task.texts
   pub once : IsEachOnce (map (λ (b : Blob). b.0) task.texts)
-  pub files : AllByRecursion (λ (n : PlanNodeValue). HasContent task.texts n.kind) task.nodes
+  pub nodes : List PlanNodeValue
+  pub planned : task.nodes ≡ Some nodes
+  pub files : AllByRecursion (λ (n : PlanNodeValue). HasContent task.texts n.kind) nodes
 
 pub record IsWholeJob (job : JobValue) : Type 0 where
   pub task : IsWholeTask job.task

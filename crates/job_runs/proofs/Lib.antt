@@ -4,6 +4,7 @@ pub mod Once
 pub mod Killed
 mod Numbering
 mod MadeTrees
+mod Spread
 mod TaskOf
 mod Parts
 mod Spans

@@ -1,5 +1,5 @@
 -- Directories that may be made once for many runs.
-use Rattle.std.proofs.Common.{◌≡◌, ◌⊎◌, inl, inr, ℕ, zero, suc, ◌+◌, ◌-◌, ◌≤◌, Bool, true, false, not, ◌&&◌, List, [], ◌∷◌, ◌++◌, map, length, take, drop, get_or, slice_set, min, nat_eq, nat_lt, Option, Some, None, IfSome, option_map, refl, sym, ap, ap₂, ◌∙◌, append_assoc, append-nil, length-drop, take_all, arith}
+use Rattle.std.proofs.Common.{◌≡◌, ◌⊎◌, inl, inr, ℕ, zero, suc, ◌+◌, ◌-◌, ◌<◌, ◌≤◌, Bool, true, false, not, ◌&&◌, List, [], ◌∷◌, ◌++◌, map, length, take, drop, get_or, slice_set, min, nat_eq, nat_lt, Option, Some, None, IfSome, option_map, unwrap_or, refl, sym, ap, ap₂, ◌∙◌, append_assoc, append-nil, length-drop, take_all, arith}
 use Rattle.std.specs.List.{flat_map, join_by, list_all, starts_with}
 use Rattle.std.specs.Borrow.{Bor}
 use Rattle.std.specs.Global.{Vec}
@@ -11,12 +11,13 @@ use Rattle.std.proofs.lemmas.List.{map-append, take-map}
 use Rattle.std.proofs.lemmas.Slice.Eq.{starts_is}
 use Rattle.execution_messages.specs.Actions.{CommandValue}
 use Rattle.actions.specs.Nodes.{PlanNode, PlanNodeValue}
+use Rattle.actions.specs.Passing.{file_count, within}
 use Rattle.actions.specs.Paths.{Path, path_behind, paths_behind, paths_of}
 use Rattle.actions.specs.Shown.{node_shown, nodes_shown}
 use Rattle.run_calls.specs.declared.folder.InputTree.{InputTree}
 use Rattle.job_runs.specs.declared.trees.FoundTrees.{FoundTrees}
 use Rattle.job_runs.specs.Commands.{output_paths}
-use Rattle.job_runs.specs.Made.{InputTreeValue, are_apart, file_count, is_free, is_free_of, is_large, may_be_first, may_be_made, nodes_size, path_text, slashed, tree_at, tree_of_first, tree_of_kind, tree_shown, within}
+use Rattle.job_runs.specs.Made.{InputTreeValue, are_apart, is_first_free, is_first_large, is_free, is_free_at, is_free_of, is_large, is_large_at, node_size, nodes_size, path_text, slashed, tree_at, tree_of_first, tree_of_kind, tree_shown}
 
 -- ---- what stands in a directory
 
@@ -31,21 +32,40 @@ IsCount level files left all = files + file_count (within level left) ≡ all
 abbrev pub most : ℕ
 most = 18446744073709551615
 
-abbrev pub IsSize : ℕ → ℕ → List PlanNodeValue → ℕ → Type 0
-IsSize level size left all = min (size + nodes_size (within level left)) most ≡ all
+abbrev pub IsSize : ℕ → ℕ → List (Option ℕ) → List PlanNodeValue → ℕ → Type 0
+IsSize level size sizes left all = min (size + nodes_size sizes (within level left)) most ≡ all
 
-pub size_ends : (level size all : ℕ) (left : List PlanNode) (n : PlanNode) (rest : List PlanNode) → IsSize level size (nodes_shown left) all →
-    left ≡ n ∷ rest → n.level ≤ level → size ≤ most → size ≡ all
-size_ends level size all left n rest is left_is le small =
-    let e : nodes_size (within level (nodes_shown left)) ≡ 0 =
-    ap (λ ns. nodes_size (within level (nodes_shown ns))) left_is
-    ∙ ap nodes_size (within_none level (node_shown n) (nodes_shown rest) le) in
+pub size_ends : (level size all : ℕ) (sizes : List (Option ℕ)) (left : List PlanNode) (n : PlanNode) (rest : List PlanNode) →
+    IsSize level size sizes (nodes_shown left) all → left ≡ n ∷ rest → n.level ≤ level → size ≤ most → size ≡ all
+size_ends level size all sizes left n rest is left_is le small =
+    let e : nodes_size sizes (within level (nodes_shown left)) ≡ 0 =
+    ap (λ ns. nodes_size sizes (within level (nodes_shown ns))) left_is
+    ∙ ap (nodes_size sizes) (within_none level (node_shown n) (nodes_shown rest) le) in
     omega (arith, is, e, small)
 
-pub size_is : (level size all : ℕ) (left : List PlanNode) → IsSize level size (nodes_shown left) all → left ≡ [] → size ≤ most → size ≡ all
-size_is level size all left is left_is small =
-    let e : nodes_size (within level (nodes_shown left)) ≡ 0 = ap (λ ns. nodes_size (within level (nodes_shown ns))) left_is in
+pub size_is : (level size all : ℕ) (sizes : List (Option ℕ)) (left : List PlanNode) → IsSize level size sizes (nodes_shown left) all →
+    left ≡ [] → size ≤ most → size ≡ all
+size_is level size all sizes left is left_is small =
+    let e : nodes_size sizes (within level (nodes_shown left)) ≡ 0 =
+    ap (λ ns. nodes_size sizes (within level (nodes_shown ns))) left_is in
     omega (arith, is, e, small)
+
+-- one more node is counted, of its own bytes or of those of its tree
+pub size_more : (level size counted own node all : ℕ) (sizes : List (Option ℕ)) (left : List PlanNode) (n : PlanNode)
+    (rest : List PlanNode) → IsSize level size sizes (nodes_shown left) all → left ≡ n ∷ rest → level < n.level → size ≤ most →
+    node ≡ min (node_size (node_shown n).kind) most → own ≡ unwrap_or (get_or sizes 0 None) node → counted ≡ min (size + own) most →
+    IsSize level counted (drop 1 sizes) (nodes_shown rest) all
+size_more level size counted own node all sizes left n rest is left_is deep small node_is own_is counted_is =
+    let test : nat_lt level n.level ≡ true = grind (arith, nat_tests) in
+    let e : nodes_size sizes (within level (nodes_shown left)) ≡ unwrap_or (get_or sizes 0 None) (node_size (node_shown n).kind)
+    + nodes_size (drop 1 sizes) (within level (nodes_shown rest)) =
+    ap (λ ns. nodes_size sizes (within level (nodes_shown ns))) left_is ∙ rw test refl in
+    go (get_or sizes 0 None) e own_is where
+      go : (o : Option ℕ) → nodes_size sizes (within level (nodes_shown left)) ≡ unwrap_or o (node_size (node_shown n).kind)
+          + nodes_size (drop 1 sizes) (within level (nodes_shown rest)) → own ≡ unwrap_or o node →
+          IsSize level counted (drop 1 sizes) (nodes_shown rest) all
+      go None e own_is = omega (arith, is, e, own_is, node_is, counted_is, small)
+      go (Some size) e own_is = omega (arith, is, e, own_is, counted_is, small)
 
 -- ---- paths
 
@@ -164,33 +184,48 @@ names_behind f before cut now name k n push trunc is named =
     ap (map f) push ∙ map-append f cut (name ∷ []) ∙ ap (λ c. map f c ++ f name ∷ []) trunc
     ∙ ap (λ c. c ++ f name ∷ []) (sym (take-map f k before)) ∙ ap₂ (λ m t. take m (map f before) ++ t ∷ []) is named
 
-may_here : (nodes : List PlanNodeValue) (c : CommandValue) (at : ℕ) (path : Path) (paths : List Path) (n : PlanNodeValue)
-    (behind : List PlanNodeValue) → drop at nodes ≡ n ∷ behind → drop at (paths_of nodes) ≡ path ∷ paths
-    → is_large n.kind (within n.level behind) ≡ true → is_free c (slashed (path_text path)) ≡ true → may_be_made nodes c at ≡ true
-may_here nodes c at path paths n behind here paths_are large free =
-    ap₂ (may_be_first c) paths_are here ∙ ap₂ (λ a b. a && b) large free
+large_here : (nodes : List PlanNodeValue) (at : ℕ) (n : PlanNodeValue) (behind : List PlanNodeValue) → drop at nodes ≡ n ∷ behind
+    → is_large n.kind (within n.level behind) ≡ true → is_large_at nodes at ≡ true
+large_here nodes at n behind here large = ap is_first_large here ∙ large
 
-tree_here : (nodes : List PlanNodeValue) (at : ℕ) (path : Path) (paths : List Path) (n : PlanNodeValue) (behind : List PlanNodeValue)
-    (tree : InputTreeValue) → drop at nodes ≡ n ∷ behind → drop at (paths_of nodes) ≡ path ∷ paths
-    → tree_of_kind path n.kind (within n.level behind) ≡ Some tree → Some tree ≡ tree_at nodes at
-tree_here nodes at path paths n behind tree here paths_are is = sym (ap₂ tree_of_first paths_are here ∙ is)
+free_here : (nodes : List PlanNodeValue) (c : CommandValue) (at : ℕ) (path : Path) (paths : List Path)
+    → drop at (paths_of nodes) ≡ path ∷ paths → is_free c (slashed (path_text path)) ≡ true → is_free_at c nodes at ≡ true
+free_here nodes c at path paths paths_are free = ap (is_first_free c) paths_are ∙ free
+
+tree_here : (sizes left : List (Option ℕ)) (nodes : List PlanNodeValue) (at : ℕ) (path : Path) (paths : List Path) (n : PlanNodeValue)
+    (behind : List PlanNodeValue) (tree : InputTreeValue) → drop at sizes ≡ left → drop at nodes ≡ n ∷ behind
+    → drop at (paths_of nodes) ≡ path ∷ paths → tree_of_kind path n.kind left (within n.level behind) ≡ Some tree
+    → Some tree ≡ tree_at sizes nodes at
+tree_here sizes left nodes at path paths n behind tree sizes_are here paths_are is =
+    sym (ap₂ (λ ps ns. tree_of_first ps (drop at sizes) ns) paths_are here
+    ∙ ap (λ s. tree_of_first (path ∷ paths) s (n ∷ behind)) sizes_are ∙ is)
+
+pub sizes_more : (sizes left : List (Option ℕ)) (at : ℕ) → drop at sizes ≡ left → drop (at + 1) sizes ≡ drop 1 left
+sizes_more sizes left zero is = ap (drop 1) is
+sizes_more [] left (suc at) is = ap (drop 1) is
+sizes_more (s ∷ sizes) left (suc at) is =
+    let k : suc at + 1 ≡ suc (at + 1) = omega arith in ap (λ j. drop j (s ∷ sizes)) k ∙ sizes_more sizes left at is
 
 -- what was found among the nodes before a place, where these are left, and these names lead to the
 -- last of them
-pub record AreFound (nodes : List PlanNode) (c : CommandValue) (at : ℕ) (left : List PlanNode) (names : List (Bor (List ℕ)))
-    (found : FoundTrees) : Type 0 where
+pub record AreFound (sizes : List (Option ℕ)) (nodes : List PlanNode) (c : CommandValue) (at : ℕ) (sizes_left : List (Option ℕ))
+    (left : List PlanNode) (names : List (Bor (List ℕ))) (found : FoundTrees) : Type 0 where
+  pub sizes_here : drop at sizes ≡ sizes_left
   pub here : drop at (nodes_shown nodes) ≡ nodes_shown left
   pub paths : drop at (paths_of (nodes_shown nodes)) ≡ paths_behind (map (λ s. s.now) names) (nodes_shown left)
-  pub may_be : list_all (may_be_made (nodes_shown nodes) c) found.places.items ≡ true
-  pub trees : map (λ t. Some (tree_shown t)) found.trees.items ≡ map (tree_at (nodes_shown nodes)) found.places.items
+  pub free : list_all (is_free_at c (nodes_shown nodes)) found.places.items ≡ true
+  pub large : sizes ≡ [] → list_all (is_large_at (nodes_shown nodes)) found.places.items ≡ true
+  pub trees : map (λ t. Some (tree_shown t)) found.trees.items ≡ map (tree_at sizes (nodes_shown nodes)) found.places.items
 
-pub found_none : (nodes : List PlanNode) (c : CommandValue) (names : List (Bor (List ℕ))) (found : FoundTrees) → names ≡ []
-    → found.places.items ≡ [] → found.trees.items ≡ [] → AreFound nodes c 0 nodes names found
-found_none nodes c names found names_are places_are trees_are = record {
+pub found_none : (sizes : List (Option ℕ)) (nodes : List PlanNode) (c : CommandValue) (names : List (Bor (List ℕ))) (found : FoundTrees)
+    → names ≡ [] → found.places.items ≡ [] → found.trees.items ≡ [] → AreFound sizes nodes c 0 sizes nodes names found
+found_none sizes nodes c names found names_are places_are trees_are = record {
+  sizes_here = refl;
   here = refl;
   paths = ap (λ (ns : List (Bor (List ℕ))). paths_behind (map (λ s. s.now) ns) (nodes_shown nodes)) (sym names_are);
-  may_be = ap (list_all (may_be_made (nodes_shown nodes) c)) places_are;
-  trees = ap (map (λ t. Some (tree_shown t))) trees_are ∙ sym (ap (map (tree_at (nodes_shown nodes))) places_are);
+  free = ap (list_all (is_free_at c (nodes_shown nodes))) places_are;
+  large = λ none. ap (list_all (is_large_at (nodes_shown nodes))) places_are;
+  trees = ap (map (λ t. Some (tree_shown t))) trees_are ∙ sym (ap (map (tree_at sizes (nodes_shown nodes))) places_are);
 }
 
 more_may : (p : ℕ → Bool) (places now : List ℕ) (at : ℕ) (tree : Option InputTree)
@@ -209,19 +244,25 @@ more_trees f g trees now places then at (Some t) then_is now_is were this =
     ap (map f) now_is ∙ map-append f trees (t ∷ []) ∙ ap₂ (λ a b. a ++ b ∷ []) were this
     ∙ sym (map-append g places (at ∷ [])) ∙ sym (ap (map g) then_is)
 
-pub found_more : (nodes : List PlanNode) (c : CommandValue) (at : ℕ) (left rest : List PlanNode) (first : PlanNode)
+drop_none : (at : ℕ) → drop {A = Option ℕ} at [] ≡ []
+drop_none zero = refl
+drop_none (suc at) = refl
+
+pub found_more : (sizes : List (Option ℕ)) (nodes : List PlanNode) (c : CommandValue) (at : ℕ) (sizes_left sizes_rest : List (Option ℕ))
+    (left rest : List PlanNode) (first : PlanNode)
     (before cut now shown : List (Bor (List ℕ))) (name : Bor (List ℕ)) (k : ℕ) (place : List ℕ) (outputs : List (List ℕ))
     (found then : FoundTrees) (tree : Option InputTree)
-    → AreFound nodes c at left before found → left ≡ first ∷ rest
+    → AreFound sizes nodes c at sizes_left left before found → left ≡ first ∷ rest → sizes_rest ≡ drop 1 sizes_left
     → now ≡ cut ++ name ∷ [] → cut ≡ take k before → k ≡ first.level - 1 → name.now ≡ rc_str_bytes first.name → shown ≡ now
     → place ≡ slashed c.working_directory → outputs ≡ map slashed (output_paths c)
-    → IfSome tree (λ t. is_large (node_shown first).kind (within first.level (nodes_shown rest)) ≡ true)
+    → (sizes_left ≡ [] → IfSome tree (λ t. is_large (node_shown first).kind (within first.level (nodes_shown rest)) ≡ true))
     → IfSome tree (λ t. is_free_of place outputs (slashed (path_text (map (λ s. s.now) shown))) ≡ true)
-    → IfSome tree (λ t. tree_of_kind (map (λ s. s.now) shown) (node_shown first).kind (within first.level (nodes_shown rest))
+    → IfSome tree (λ t. tree_of_kind (map (λ s. s.now) shown) (node_shown first).kind sizes_left (within first.level (nodes_shown rest))
     ≡ Some (tree_shown t))
     → then.places.items ≡ found.places.items ++ option_to_list (option_map (λ t. at) tree)
-    → then.trees.items ≡ found.trees.items ++ option_to_list tree → AreFound nodes c (at + 1) rest now then
-found_more nodes c at left rest first before cut now shown name k place outputs found then tree are left_is push trunc k_is named shown_is
+    → then.trees.items ≡ found.trees.items ++ option_to_list tree → AreFound sizes nodes c (at + 1) sizes_rest rest now then
+found_more sizes nodes c at sizes_left sizes_rest left rest first before cut now shown name k place outputs found then tree are left_is
+    sizes_are push trunc k_is named shown_is
     place_is outputs_is large free asked places_are trees_are =
     let n : PlanNodeValue = node_shown first in
     let behind : List PlanNodeValue = nodes_shown rest in
@@ -232,36 +273,44 @@ found_more nodes c at left rest first before cut now shown name k place outputs 
     let paths : drop at (paths_of (nodes_shown nodes)) ≡ path ∷ paths_behind path behind =
     are.paths ∙ ap (paths_behind (map (λ s. s.now) before)) (ap nodes_shown left_is) ∙ ap (λ p. p ∷ paths_behind p behind) (sym path_is) in
     record {
+      sizes_here = sizes_more sizes sizes_left at are.sizes_here ∙ sym sizes_are;
       here = drop_more at (nodes_shown nodes) n behind here;
       paths = drop_more at (paths_of (nodes_shown nodes)) path (paths_behind path behind) paths;
-      may_be = more_may (may_be_made (nodes_shown nodes) c) found.places.items then.places.items at tree places_are are.may_be
-          (may tree large free here paths path_is);
-      trees = more_trees (λ t. Some (tree_shown t)) (tree_at (nodes_shown nodes)) found.trees.items then.trees.items
+      free = more_may (is_free_at c (nodes_shown nodes)) found.places.items then.places.items at tree places_are are.free
+          (frees tree free paths);
+      large = λ none. more_may (is_large_at (nodes_shown nodes)) found.places.items then.places.items at tree places_are
+          (are.large none) (larges tree (large (sym are.sizes_here ∙ ap (drop at) none ∙ drop_none at)) here);
+      trees = more_trees (λ t. Some (tree_shown t)) (tree_at sizes (nodes_shown nodes)) found.trees.items then.trees.items
           found.places.items then.places.items at tree places_are trees_are are.trees (asks tree asked here paths);
     } where
-      may : (tree : Option InputTree)
+      larges : (tree : Option InputTree)
           → IfSome tree (λ t. is_large (node_shown first).kind (within first.level (nodes_shown rest)) ≡ true)
-          → IfSome tree (λ t. is_free_of place outputs (slashed (path_text (map (λ s. s.now) shown))) ≡ true)
           → drop at (nodes_shown nodes) ≡ node_shown first ∷ nodes_shown rest
+          → IfSome tree (λ t. is_large_at (nodes_shown nodes) at ≡ true)
+      larges None large here = tt
+      larges (Some t) large here = large_here (nodes_shown nodes) at (node_shown first) (nodes_shown rest) here large
+
+      frees : (tree : Option InputTree)
+          → IfSome tree (λ t. is_free_of place outputs (slashed (path_text (map (λ s. s.now) shown))) ≡ true)
           → drop at (paths_of (nodes_shown nodes)) ≡ map (λ s. s.now) now ∷ paths_behind (map (λ s. s.now) now) (nodes_shown rest)
-          → map (λ s. s.now) now ≡ path_behind (map (λ s. s.now) before) (node_shown first)
-          → IfSome tree (λ t. may_be_made (nodes_shown nodes) c at ≡ true)
-      may None large free here paths path_is = tt
-      may (Some t) large free here paths path_is =
-          may_here (nodes_shown nodes) c at (map (λ s. s.now) now) _ (node_shown first) (nodes_shown rest) here paths large
+          → IfSome tree (λ t. is_free_at c (nodes_shown nodes) at ≡ true)
+      frees None free paths = tt
+      frees (Some t) free paths =
+          free_here (nodes_shown nodes) c at (map (λ s. s.now) now) _ paths
           (ap₂ (λ p os. is_free_of p os (slashed (path_text (map (λ s. s.now) now)))) (sym place_is) (sym outputs_is)
           ∙ ap (λ ns. is_free_of place outputs (slashed (path_text (map (λ s. s.now) ns)))) (sym shown_is) ∙ free)
 
       asks : (tree : Option InputTree)
-          → IfSome tree (λ t. tree_of_kind (map (λ s. s.now) shown) (node_shown first).kind (within first.level (nodes_shown rest))
-          ≡ Some (tree_shown t))
+          → IfSome tree (λ t. tree_of_kind (map (λ s. s.now) shown) (node_shown first).kind sizes_left
+          (within first.level (nodes_shown rest)) ≡ Some (tree_shown t))
           → drop at (nodes_shown nodes) ≡ node_shown first ∷ nodes_shown rest
           → drop at (paths_of (nodes_shown nodes)) ≡ map (λ s. s.now) now ∷ paths_behind (map (λ s. s.now) now) (nodes_shown rest)
-          → IfSome tree (λ t. Some (tree_shown t) ≡ tree_at (nodes_shown nodes) at)
+          → IfSome tree (λ t. Some (tree_shown t) ≡ tree_at sizes (nodes_shown nodes) at)
       asks None asked here paths = tt
       asks (Some t) asked here paths =
-          tree_here (nodes_shown nodes) at (map (λ s. s.now) now) _ (node_shown first) (nodes_shown rest) (tree_shown t) here paths
-          (ap (λ ns. tree_of_kind (map (λ s. s.now) ns) (node_shown first).kind (within first.level (nodes_shown rest))) (sym shown_is) ∙ asked)
+          tree_here sizes sizes_left (nodes_shown nodes) at (map (λ s. s.now) now) _ (node_shown first) (nodes_shown rest) (tree_shown t)
+          are.sizes_here here paths
+          (ap (λ ns. tree_of_kind (map (λ s. s.now) ns) (node_shown first).kind sizes_left (within first.level (nodes_shown rest))) (sym shown_is) ∙ asked)
 
 -- ---- marks
 

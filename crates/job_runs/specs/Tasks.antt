@@ -1,9 +1,10 @@
 -- What is run for a task of a job: its command, in its tree.
-use Rattle.std.specs.Prelude.{◌≡◌, ℕ, ◌+◌, Bool, true, false, List, [], ◌∷◌, map, get_or, nat_lt, Option, Some, None, string_bytes, if◌then◌else◌}
+use Rattle.std.specs.Prelude.{◌≡◌, ℕ, ◌+◌, Bool, true, false, List, [], ◌∷◌, map, get_or, Option, Some, None, IfSome, string_bytes, if◌then◌else◌}
 use Rattle.digest.specs.declared.Digest.{Digest}
 use Rattle.digest.specs.declared.HashFunction.{HashFunction}
 use Rattle.digest.specs.declared.HashFunction.TheVariants.{Sha256}
 use Rattle.digest.specs.Naming.{function_of}
+use Rattle.actions.specs.Passing.{stands_in}
 use Rattle.actions.specs.Nodes.{PlanKindValue, PlanNodeValue, file, symlink, directory}
 use Rattle.execution.specs.Job.{TaskValue}
 use Rattle.run_calls.specs.Values.{TaskKindValue, TaskNodeValue, task_file, task_symlink, task_directory, task_made, command_shown, task_nodes_shown}
@@ -31,11 +32,6 @@ node_of digests is_made n =
 abbrev pub made_level : Bool → PlanNodeValue → Option ℕ
 made_level is_made n = if is_made then Some n.level else None
 
--- a node behind such a directory in walk order stands in it
-abbrev pub stands_in : Option ℕ → PlanNodeValue → Bool
-stands_in None n = false
-stands_in (Some level) n = nat_lt level n.level
-
 -- the nodes from a place on, behind a directory that was made before, if any was: what stands in
 -- that is passed over
 abbrev pub nodes_from : List Bool → List Digest → Option ℕ → ℕ → List PlanNodeValue →
@@ -57,15 +53,21 @@ abbrev pub function_for : List Digest → HashFunction
 function_for [] = Sha256
 function_for (d ∷ ds) = function_of d.hash
 
+-- a run makes these nodes of a task, but for what stands in directories that were made before and
+-- may be such
+pub record IsTreeOf (t : TaskValue) (nodes : List PlanNodeValue) (run : List TaskNodeValue) :
+    Type 0 where
+  -- which of the nodes are those directories
+  pub made : List Bool
+  pub nodes_are : run ≡ nodes_with made (blob_digests t.texts) nodes
+  pub may_be : (at : ℕ) → get_or made at false ≡ true →
+      may_be_made nodes (command_for t.command) at ≡ true
+
 -- what runs is the command of the task, in the tree of the task, of which no directories were made
 -- before but such as may be, and what it leaves is hashed by the function of the task's action
 pub record IsTaskOf (t : TaskValue) (run : Task) : Type 0 where
   pub program : command_shown run.command ≡ program_of (command_for t.command)
   pub directory : string_bytes run.working_directory ≡ (command_for t.command).working_directory
   pub outputs : map string_bytes run.outputs.items ≡ output_paths (command_for t.command)
-  -- which of the nodes are directories that were made before
-  pub made : List Bool
-  pub nodes : task_nodes_shown run.nodes.items ≡ nodes_with made (blob_digests t.texts) t.nodes
-  pub may_be : (at : ℕ) → get_or made at false ≡ true →
-      may_be_made t.nodes (command_for t.command) at ≡ true
+  pub tree : IfSome t.nodes (λ nodes. IsTreeOf t nodes (task_nodes_shown run.nodes.items))
   pub function : run.function ≡ function_for (blob_digests t.texts)

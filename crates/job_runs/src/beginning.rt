@@ -1,20 +1,27 @@
 //! The begin of a job's run.
 
-ghost use Rattle.std.specs.Prelude.{◌≡◌, ℕ, Bool, true, false, get_or, slice_set, IfOk, OnErr, OnOk};
+ghost use Rattle.std.specs.Prelude.{◌≡◌, ℕ, [], Bool, true, false, get_or, slice_set, IfOk, IfSome, OnErr, OnOk};
 ghost use Rattle.std.specs.List.{list_all};
 ghost use Rattle.actions.specs.Shown.{nodes_shown};
 ghost use Rattle.execution_messages.specs.Actions.{command_shown};
 ghost use Rattle.server_core.specs.Lent.{lent_shown};
-ghost use Rattle.job_runs.specs.Made.{may_be_made};
+ghost use Rattle.execution.specs.Keeping.{kept_entries};
+ghost use Rattle.execution.specs.Numbers.{AreNumbers, kept_digests};
+ghost use Rattle.execution.specs.Preparing.{look_kept};
+ghost use Rattle.instance_view.specs.Shown.{blobs_in};
+ghost use Rattle.job_runs.specs.Made.{IsReadWith, is_free_at, is_large_at};
+ghost use Rattle.job_runs.specs.Tasks.{IsTaskOf};
 ghost use Rattle.job_runs.specs.Runs.{IsBegun};
 
 use crate::commands::command_for;
 use crate::tasks::task_with;
+use crate::sizes::are_those;
 use crate::trees::find_trees;
-use actions::PlanNode;
+use crate::whole::{ReadAround, read_around};
+use actions::{Plan, PlanNode};
 use execution::read_task;
 use execution_messages::Command as CommandMessage;
-use run_calls::{Folder, Programs, RunKey};
+use run_calls::{Folder, Programs, RunKey, Task};
 use runner::Runner;
 use server_core::LentTask;
 use std::alloc::{AllocError, Global};
@@ -55,7 +62,8 @@ fn marked(
 }
 
 /// At which places of a plan directories stand that were made before, and are kept for a run from
-/// now on. There is none beyond the last.
+/// now on. There is none beyond the last. In a node of which a size is there nothing stands here: it
+/// is whole already.
 ///
 /// Err: a request for memory was refused.
 fn claimed<F: Folder + Drop, P: Programs + Drop>(
@@ -63,21 +71,113 @@ fn claimed<F: Folder + Drop, P: Programs + Drop>(
     runner: &mut Runner<F, P>,
     run: RunKey,
     nodes: &[PlanNode],
+    sizes: &[Option<u64>],
     command: &CommandMessage<'_>,
 ) -> Result<Vec<bool>, AllocError>
-    ensures may_be { IfOk result (λ made. (at : ℕ) → get_or made.items at false ≡ true
-        → may_be_made (nodes_shown nodes.now) (command_shown command.now) at ≡ true) }
+    ensures free { IfOk result (λ made. (at : ℕ) → get_or made.items at false ≡ true
+        → is_free_at (command_shown command.now) (nodes_shown nodes.now) at ≡ true) }
+    ensures large { sizes.now ≡ [] → IfOk result (λ made. (at : ℕ)
+        → get_or made.items at false ≡ true → is_large_at (nodes_shown nodes.now) at ≡ true) }
     ensures runs { runner.new.runs ≡ runner.old.runs }
     ensures programs { runner.new.programs ≡ runner.old.programs }
     ensures asked { F.asked runner.new.folder ≡ F.asked runner.old.folder }
     ensures failures { F.failures runner.new.folder ≡ F.failures runner.old.folder }
 {
-    let found = find_trees(alloc, nodes, command)?;
+    let found = find_trees(alloc, nodes, sizes, command)?;
     if found.trees.is_empty() {
         return Ok(Vec::new(alloc));
     }
     let are_bound = runner.claim(run, &found.trees)?;
     marked(alloc, nodes.len(), &found.places, &are_bound)
+}
+
+/// The nodes of a task's plan. There are none where its texts have no plan.
+fn nodes_of(alloc: Global, plan: Option<Plan>) -> Vec<PlanNode>
+    ensures { IfSome plan (λ p. result ≡ p.nodes) }
+{
+    match plan {
+        Some(plan) => plan.nodes,
+        None => Vec::new(alloc),
+    }
+}
+
+/// What is run for a task of which each node is asked for. Of those that stand in trees of the run
+/// none is made again: the folders see to that.
+fn copied_task(alloc: Global, task: LentTask<'_>) -> Result<Task, AllocError>
+    ensures { IfOk result (IsTaskOf (lent_shown task.entry)) }
+{
+    let read = read_task(alloc, task.pool, task.task)?;
+    let command = command_for(alloc, &read.command)?;
+    let nodes = nodes_of(alloc, read.plan);
+    task_with(alloc, &task.task.texts, &read.numbers, &nodes, &command, &[])
+}
+
+/// What is run for a task, of which directories are claimed.
+fn claimed_task<F: Folder + Drop, P: Programs + Drop>(
+    alloc: Global,
+    runner: &mut Runner<F, P>,
+    run: RunKey,
+    task: LentTask<'_>,
+) -> Result<Task, AllocError>
+    ensures of_task { IfOk result (IsTaskOf (lent_shown task.entry)) }
+    ensures runs { runner.new.runs ≡ runner.old.runs }
+    ensures programs { runner.new.programs ≡ runner.old.programs }
+    ensures asked { F.asked runner.new.folder ≡ F.asked runner.old.folder }
+    ensures failures { F.failures runner.new.folder ≡ F.failures runner.old.folder }
+{
+    let read = read_task(alloc, task.pool, task.task)?;
+    let command = command_for(alloc, &read.command)?;
+    let nodes = nodes_of(alloc, read.plan);
+    let made = claimed(alloc, runner, run, &nodes, &[], &command)?;
+    task_with(alloc, &task.task.texts, &read.numbers, &nodes, &command, &made)
+}
+
+/// The same, where what stands in directories that were made before was not read. Each of these has
+/// to be claimed as such. Where one was not, all of the task is read.
+fn task_around<F: Folder + Drop, P: Programs + Drop>(
+    alloc: Global,
+    runner: &mut Runner<F, P>,
+    run: RunKey,
+    task: LentTask<'_>,
+    around: &ReadAround,
+) -> Result<Task, AllocError>
+    requires read { IsReadWith (look_kept (blobs_in task.entry.pool.now
+        (kept_entries task.entry.task.now.texts.items))) (lent_shown task.entry) around.now.read
+        around.now.sizes.items }
+    requires numbers { AreNumbers (kept_digests task.entry.task.now.texts.items)
+        around.now.read.numbers.entries }
+    ensures of_task { IfOk result (IsTaskOf (lent_shown task.entry)) }
+    ensures runs { runner.new.runs ≡ runner.old.runs }
+    ensures programs { runner.new.programs ≡ runner.old.programs }
+    ensures asked { F.asked runner.new.folder ≡ F.asked runner.old.folder }
+    ensures failures { F.failures runner.new.folder ≡ F.failures runner.old.folder }
+{
+    let read = &around.read;
+    let command = command_for(alloc, &read.command)?;
+    let made = claimed(alloc, runner, run, &read.nodes, &around.sizes, &command)?;
+    if !are_those(&made, &around.sizes) {
+        return copied_task(alloc, task);
+    }
+    task_with(alloc, &task.task.texts, &read.numbers, &read.nodes, &command, &made)
+}
+
+/// What is run for a task.
+fn task_for<F: Folder + Drop, P: Programs + Drop>(
+    alloc: Global,
+    runner: &mut Runner<F, P>,
+    run: RunKey,
+    task: LentTask<'_>,
+) -> Result<Task, AllocError>
+    ensures of_task { IfOk result (IsTaskOf (lent_shown task.entry)) }
+    ensures runs { runner.new.runs ≡ runner.old.runs }
+    ensures programs { runner.new.programs ≡ runner.old.programs }
+    ensures asked { F.asked runner.new.folder ≡ F.asked runner.old.folder }
+    ensures failures { F.failures runner.new.folder ≡ F.failures runner.old.folder }
+{
+    match read_around(alloc, runner, run, task)? {
+        Some(around) => task_around(alloc, runner, run, task, &around),
+        None => claimed_task(alloc, runner, run, task),
+    }
 }
 
 /// Begins the run of a job. Where memory is refused, what was claimed for it may stay so.
@@ -94,10 +194,7 @@ fn begin_claimed<F: Folder + Drop, P: Programs + Drop>(
     ensures asked { F.asked runner.new.folder ≡ F.asked runner.old.folder }
     ensures failures { F.failures runner.new.folder ≡ F.failures runner.old.folder }
 {
-    let read = read_task(alloc, task.pool, task.task)?;
-    let command = command_for(alloc, &read.command)?;
-    let made = claimed(alloc, runner, run, &read.plan.nodes, &command)?;
-    let made_task = task_with(alloc, &task.task.texts, &read, &command, &made)?;
+    let made_task = task_for(alloc, runner, run, task)?;
     runner.start(run.instance, run.job, made_task)
 }
 

@@ -13,9 +13,11 @@ mod operated;
 mod output_rules;
 mod reasons;
 mod run_counts;
+mod sizes;
 mod span;
 mod tasks;
 mod trees;
+mod whole;
 
 pub use ended::EndedJobs;
 pub use job_runner::JobRunner;

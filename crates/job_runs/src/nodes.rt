@@ -4,7 +4,8 @@ ghost use Rattle.std.specs.Prelude.{◌≡◌, false, get_or, IfOk};
 ghost use Rattle.actions.specs.Shown.{node_shown, nodes_shown};
 ghost use Rattle.run_calls.specs.Nodes.{kind_shown};
 ghost use Rattle.run_calls.specs.Values.{task_kind_shown, task_node_shown, task_nodes_shown};
-ghost use Rattle.job_runs.specs.Tasks.{kind_of, made_level, node_of, nodes_with, stands_in};
+ghost use Rattle.job_runs.specs.Tasks.{kind_of, made_level, node_of, nodes_with};
+ghost use Rattle.actions.specs.Passing.{stands_in};
 ghost use Rattle.execution.specs.Numbers.{AreNumbers, kept_digests};
 
 use actions::PlanNode;

@@ -1,22 +1,24 @@
 //! Directories of a task's tree that may be made once for many runs.
 
-ghost use Rattle.std.specs.Prelude.{◌≡◌, true, IfOk, IfSome, OnOk, Some, ◌++◌, map, min, nat_le, option_map, string_bytes};
+ghost use Rattle.std.specs.Prelude.{◌≡◌, ◌+◌, [], true, IfOk, IfSome, OnOk, Some, ◌++◌, map, min, nat_le, option_map, string_bytes};
 ghost use Rattle.std.specs.Option.{option_to_list};
 ghost use Rattle.std.specs.List.{list_all};
 ghost use Rattle.actions.specs.Nodes.{directory};
 ghost use Rattle.actions.specs.Shown.{asked_shown, node_shown, nodes_shown};
 ghost use Rattle.execution_messages.specs.Actions.{command_shown};
 ghost use Rattle.job_runs.specs.Commands.{output_paths};
-ghost use Rattle.job_runs.specs.Made.{are_apart, file_count, is_file, is_free_of, is_large, may_be_made, node_size, path_text, slashed, tree_at, tree_of_kind, tree_shown, tree_size, within};
+ghost use Rattle.actions.specs.Passing.{file_count, within};
+ghost use Rattle.job_runs.specs.Made.{are_apart, is_free_at, is_free_of, is_large, is_large_at, node_size, nodes_size, path_text, slashed, tree_at, tree_of_kind, tree_shown, tree_size};
 
-use actions::{AskedOutput, PlanNode, asked_outputs};
+use crate::sizes::{first_size, has_any, sizes_behind};
+use actions::{AskedOutput, PlanNode, asked_outputs, is_file};
 use digest::Digest;
 use execution_messages::Command as CommandMessage;
 use run_calls::{InputTree, NodeKind};
 use std::alloc::{AllocError, Global};
 
 /// How many files a directory has that may be made, at any depth.
-const FEWEST_FILES: usize = 64;
+pub(crate) const FEWEST_FILES: usize = 64;
 
 /// How many directories of a task's tree are asked for at most.
 const MOST_TREES: usize = 64;
@@ -147,58 +149,55 @@ impl Taken {
     }
 
     /// What is asked for a directory of these names, where a node is one that may be made, and
-    /// these come behind it. No more than so many are compared.
+    /// these come behind it; the first of the sizes is its own. No more than so many are compared.
     fn tree_of(
         &self,
         alloc: Global,
         names: &[&str],
         node: &PlanNode,
         behind: &[PlanNode],
+        sizes: &[Option<u64>],
         may_compare: &mut usize,
     ) -> Result<Option<InputTree>, AllocError>
-        ensures is_large { IfOk result (λ found. IfSome found (λ tree. is_large
+        ensures is_large { sizes.now ≡ [] → IfOk result (λ found. IfSome found (λ tree. is_large
             (node_shown node.now).kind (within node.now.level (nodes_shown behind.now)) ≡ true)) }
         ensures is_free { IfOk result (λ found. IfSome found (λ tree. is_free_of
             self.now.directory.items (map (λ o. o.items) self.now.outputs.items)
             (slashed (path_text (map (λ s. s.now) names.now))) ≡ true)) }
         ensures tree { IfOk result (λ found. IfSome found (λ tree. tree_of_kind
-            (map (λ s. s.now) names.now) (node_shown node.now).kind
+            (map (λ s. s.now) names.now) (node_shown node.now).kind sizes.now
             (within node.now.level (nodes_shown behind.now)) ≡ Some (tree_shown tree))) }
     {
         if *may_compare == 0 {
             return Ok(None);
         }
-        let Some(digest) = large_directory(node, behind) else {
+        let Some(digest) = large_directory(node, behind, sizes) else {
             return Ok(None);
         };
         *may_compare -= 1;
         let Some(path) = self.free_path(alloc, names)? else {
             return Ok(None);
         };
-        let size = tree_size(node.level, behind);
+        let size = tree_size(node.level, behind, sizes);
         Ok(Some(InputTree { path, digest, size }))
     }
 }
 
-fn is_file(node: &PlanNode) -> bool
-    ensures { result ≡ is_file (node_shown node.now).kind }
-{
-    match &node.kind {
-        NodeKind::File { .. } => true,
-        NodeKind::Symlink { .. } | NodeKind::Directory { .. } => false,
-    }
-}
-
 /// Whether so many files stand in a directory of a level that it may be made, where these nodes
-/// come behind it.
-fn has_many_files(level: usize, behind: &[PlanNode]) -> bool
-    ensures { result ≡ nat_le 64 (file_count (within level (nodes_shown behind.now))) }
+/// come behind it. One that was made before has so many.
+fn has_many_files(level: usize, behind: &[PlanNode], sizes: &[Option<u64>]) -> bool
+    ensures { sizes.now ≡ [] →
+        result ≡ nat_le 64 (file_count (within level (nodes_shown behind.now))) }
 {
     let mut files = 0;
+    let mut sizes_left = sizes;
     let mut left = behind;
     while let [first, rest @ ..] = left {
         if first.level <= level {
             return false;
+        }
+        if first_size(sizes_left).is_some() {
+            return true;
         }
         if is_file(first) {
             files += 1;
@@ -206,26 +205,30 @@ fn has_many_files(level: usize, behind: &[PlanNode]) -> bool
                 return true;
             }
         }
+        sizes_left = sizes_behind(sizes_left);
         left = rest;
     }
     false
 }
 
-/// The digest of a node that is a directory with so many files, where these come behind it.
-fn large_directory(node: &PlanNode, behind: &[PlanNode]) -> Option<Digest>
-    ensures is_large { IfSome result (λ d. is_large (node_shown node.now).kind
+/// The digest of a node that is a directory with so many files, where these come behind it. The
+/// first of the sizes is its own.
+fn large_directory(
+    node: &PlanNode,
+    behind: &[PlanNode],
+    sizes: &[Option<u64>],
+) -> Option<Digest>
+    ensures is_large { sizes.now ≡ [] → IfSome result (λ d. is_large (node_shown node.now).kind
         (within node.now.level (nodes_shown behind.now)) ≡ true) }
     ensures digest { IfSome result (λ d. (node_shown node.now).kind ≡ directory d) }
 {
-    match &node.kind {
-        NodeKind::File { .. } | NodeKind::Symlink { .. } => None,
-        NodeKind::Directory { text } => {
-            if has_many_files(node.level, behind) {
-                Some(*text)
-            } else {
-                None
-            }
-        }
+    let NodeKind::Directory { text } = &node.kind else {
+        return None;
+    };
+    if first_size(sizes).is_some() || has_many_files(node.level, behind, sizes_behind(sizes)) {
+        Some(*text)
+    } else {
+        None
     }
 }
 
@@ -239,20 +242,36 @@ fn node_size(node: &PlanNode) -> u64
     }
 }
 
-/// How many bytes a directory of a level is counted for, where these nodes come behind it.
-fn tree_size(level: usize, behind: &[PlanNode]) -> u64
-    ensures { result ≡ tree_size (within level (nodes_shown behind.now)) }
+/// How many bytes the nodes in a directory of a level are counted for, and it, where these come
+/// behind it. One that was made before counts as its tree does.
+fn size_behind(level: usize, behind: &[PlanNode], sizes: &[Option<u64>]) -> u64
+    ensures { result ≡ min (4096 + nodes_size sizes.now (within level (nodes_shown behind.now)))
+        18446744073709551615 }
 {
     let mut size = NODE_BYTES;
+    let mut sizes_left = sizes;
     let mut left = behind;
     while let [first, rest @ ..] = left {
         if first.level <= level {
             return size;
         }
-        size = size.saturating_add(node_size(first));
+        let own = first_size(sizes_left).unwrap_or(node_size(first));
+        size = size.saturating_add(own);
+        sizes_left = sizes_behind(sizes_left);
         left = rest;
     }
     size
+}
+
+/// How many bytes a directory of a level is counted for, where these nodes come behind it. The
+/// first of the sizes is its own.
+fn tree_size(level: usize, behind: &[PlanNode], sizes: &[Option<u64>]) -> u64
+    ensures { result ≡ tree_size sizes.now (within level (nodes_shown behind.now)) }
+{
+    match first_size(sizes) {
+        Some(size) => size,
+        None => size_behind(level, behind, sizes_behind(sizes)),
+    }
 }
 
 impl FoundTrees {
@@ -272,31 +291,36 @@ impl FoundTrees {
 }
 
 /// The directories of a plan that may be made once for many runs, as this command is run: the first
-/// of them in walk order. The work for them is bounded, so that some may be passed over.
+/// of them in walk order. The work for them is bounded, so that some may be passed over. Nodes that
+/// are whole already, of which the sizes of trees say which they are, have nothing in them here.
 ///
 /// Err: a request for memory was refused.
 pub(crate) fn find_trees(
     alloc: Global,
     nodes: &[PlanNode],
+    sizes: &[Option<u64>],
     command: &CommandMessage<'_>,
 ) -> Result<FoundTrees, AllocError>
-    ensures may_be { IfOk result (λ found. list_all
-        (may_be_made (nodes_shown nodes.now) (command_shown command.now)) found.places.items
+    ensures free { IfOk result (λ found. list_all
+        (is_free_at (command_shown command.now) (nodes_shown nodes.now)) found.places.items
         ≡ true) }
+    ensures large { sizes.now ≡ [] → IfOk result (λ found. list_all
+        (is_large_at (nodes_shown nodes.now)) found.places.items ≡ true) }
     ensures trees { IfOk result (λ found. map (λ t. Some (tree_shown t)) found.trees.items
-        ≡ map (tree_at (nodes_shown nodes.now)) found.places.items) }
+        ≡ map (tree_at sizes.now (nodes_shown nodes.now)) found.places.items) }
 {
     let mut found = FoundTrees {
         places: Vec::new(alloc),
         trees: Vec::new(alloc),
     };
-    if nodes.len() < FEWEST_FILES {
+    if nodes.len() < FEWEST_FILES && !has_any(sizes) {
         return Ok(found);
     }
     let taken = Taken::new(alloc, command)?;
     let mut may_compare = taken.most_compared();
     let mut names = Vec::new(alloc);
     let mut at = 0;
+    let mut sizes_left = sizes;
     let mut left = nodes;
     'nodes: while let [first, rest @ ..] = left {
         if found.places.len() >= MOST_TREES {
@@ -304,9 +328,10 @@ pub(crate) fn find_trees(
         }
         names.truncate(first.level.saturating_sub(1));
         names.push(first.name.as_str())?;
-        let tree = taken.tree_of(alloc, &names, first, rest, &mut may_compare)?;
+        let tree = taken.tree_of(alloc, &names, first, rest, sizes_left, &mut may_compare)?;
         found.add(at, tree)?;
         at += 1;
+        sizes_left = sizes_behind(sizes_left);
         left = rest;
     }
     Ok(found)

@@ -7,6 +7,7 @@ ghost use Rattle.logs.specs.LoggedCalls.{folder_log, folder_question, folder_res
 ghost use Rattle.run_calls.specs.Values.{place_shown, task_kind_shown};
 
 use crate::copies::{copied_bytes, copied_entries, copied_names, copied_place, shared_names};
+use digest::Digest;
 use run_calls::{Entry, FileFacts, Folder, Found, InputTree, Place, RunKey, TaskNodeKind};
 use std::alloc::{AllocError, Global};
 use std::io::{self, ErrorKind};
@@ -263,6 +264,12 @@ impl<F: Folder> Folder for LoggedFolder<F> {
     ghost asked = { λ f. folder_log f.log };
 
     ghost failures = { λ f. F.failures f.folder };
+
+    ghost whole = { λ f instance digest. F.whole f.folder instance digest };
+
+    fn whole_tree(&self, run: RunKey, digest: &Digest) -> Option<u64> {
+        self.folder.whole_tree(run, digest)
+    }
 
     fn claim(&mut self, run: RunKey, trees: &[InputTree]) -> Result<Vec<bool>, AllocError> {
         self.folder.claim(run, trees)

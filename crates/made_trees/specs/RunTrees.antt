@@ -1,5 +1,5 @@
 -- Which trees runs have, where the nodes of a run are made for that, and what is told of it.
-use Rattle.std.specs.Prelude.{◌≡◌, ◌⊎◌, ◌≢◌, ℕ, Bool, true, false, List, [], ◌∷◌, ◌++◌, Contains, map, slice_index_or, string_bytes, if◌then◌else◌, ⊤}
+use Rattle.std.specs.Prelude.{◌≡◌, ◌⊎◌, ◌≢◌, ℕ, Bool, Option, true, false, List, [], ◌∷◌, ◌++◌, Contains, map, slice_index_or, string_bytes, if◌then◌else◌, ⊤}
 use Rattle.std.specs.List.{All}
 use Rattle.std.specs.Option.{option_map_or}
 use Rattle.std.specs.Rc.{rc_str_bytes}
@@ -12,7 +12,7 @@ use Rattle.run_folders.specs.Folders.{root_path}
 use Rattle.run_folders.specs.Segments.{names_behind, path_names}
 use Rattle.made_trees.specs.Claims.{IsRemoval}
 use Rattle.made_trees.specs.declared.store.Removal.{Removal}
-use Rattle.made_trees.specs.Trees.{HeldValue, StoreValue, Trees, changed, finished, given_back, held, key_of, makes, nothing, same_run, uses}
+use Rattle.made_trees.specs.Trees.{HeldValue, StoreValue, Trees, changed, finished, given_back, held, key_of, makes, nothing, same_run, uses, whole_size}
 use Rattle.made_trees.specs.declared.tree.TreeKey.{TreeKey}
 use Rattle.made_trees.specs.declared.sites.Site.{Site}
 use Rattle.made_trees.specs.declared.sites.Site.TheVariants as Is
@@ -176,6 +176,12 @@ OnlyOf instance old new = (other : ℕ) → other ≢ instance
 -- the trees that there are for a run
 abbrev pub all_for : RunKey → List RunTreesValue → Trees
 all_for run all = (of_instance run.instance all).store.trees
+
+-- how many bytes the tree of a digest counts that is whole for an instance
+abbrev pub whole_in : ℕ → List RunTreesValue → Digest → Option ℕ
+whole_in instance all digest =
+    whole_size (record { instance = instance; digest = digest })
+    (of_instance instance all).store.trees
 
 -- those that it claimed
 abbrev pub own_in : RunKey → List RunTreesValue → List RunTreeValue

@@ -1,5 +1,5 @@
 -- Directories of inputs that are made once for many runs of an instance.
-use Rattle.std.specs.Prelude.{◌≡◌, ◌⊎◌, ◌≤◌, ◌+◌, ◌-◌, ◌==◌, ◌&&◌, ℕ, Bool, true, false, not, List, [], ◌∷◌, Option, if◌then◌else◌}
+use Rattle.std.specs.Prelude.{◌≡◌, ◌⊎◌, ◌≤◌, ◌+◌, ◌-◌, ◌==◌, ◌&&◌, ℕ, Bool, true, false, not, List, [], ◌∷◌, Option, Some, None, if◌then◌else◌}
 use Rattle.std.specs.List.{filter, list_any}
 use Rattle.std.specs.Map.{lookup, remove_entry, set_value}
 use Rattle.std.specs.Option.{option_map_or}
@@ -125,6 +125,15 @@ is_making leaving = false
 -- a run makes the tree of a key
 abbrev pub is_made : TreeKey → Trees → Bool
 is_made key trees = option_map_or (λ t. is_making t.state) (tree_at key trees) false
+
+-- how many bytes the tree of a key counts that is whole
+abbrev pub size_by : TreeValue → TreeState → Option ℕ
+size_by t (making r) = None
+size_by t (whole users) = Some t.size
+size_by t leaving = None
+
+abbrev pub whole_size : TreeKey → Trees → Option ℕ
+whole_size key trees = option_map_or (λ t. size_by t t.state) (tree_at key trees) None
 
 -- the tree of a key goes, where it is to be removed
 abbrev pub without_leaving : TreeKey → Trees → Trees

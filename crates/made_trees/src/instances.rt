@@ -5,13 +5,14 @@ ghost use Rattle.std.specs.Prelude.{◌≡◌, [], IfNone, IfOk, IfSome, List, O
 ghost use Rattle.std.specs.Rc.{rc_str_bytes};
 ghost use Rattle.run_calls.specs.declared.task.RunKey.{RunKey};
 ghost use Rattle.made_trees.specs.Trees.{Trees};
-ghost use Rattle.made_trees.specs.RunTrees.{AllStay, AllStayUsed, AreBound, AreClaimed, IsRemovalIn, OnlyOf, OthersStay, OthersStayUsed, RunTreeValue, all_finished, all_for, all_given_back, ended, no_trees, of_instance, own_in, site_in, site_shown, told};
+ghost use Rattle.made_trees.specs.RunTrees.{AllStay, AllStayUsed, AreBound, AreClaimed, IsRemovalIn, OnlyOf, OthersStay, OthersStayUsed, RunTreeValue, all_finished, all_for, all_given_back, ended, no_trees, of_instance, own_in, site_in, site_shown, told, whole_in};
 
 use crate::counts::TreeCounts;
 use crate::sites::Site;
 use crate::store::{MadeTrees, Removal};
 use crate::tree::TreeKey;
 use crate::trees::RunTrees;
+use digest::Digest;
 use keyed_maps::MapKey;
 use run_calls::{InputTree, RunKey};
 use std::alloc::{AllocError, Global};
@@ -61,6 +62,20 @@ impl<'a> InstanceTrees<'a> {
         ensures none { IfNone result (of_instance instance self.now ≡ no_trees 0) }
     {
         self.stores.get(instance as usize)
+    }
+
+    /// How many bytes the tree of a digest counts that is whole for an instance, if there is one.
+    pub fn whole_size(&self, instance: u32, digest: &Digest) -> Option<u64>
+        ensures { result ≡ whole_in instance self.now digest.now }
+    {
+        let key = TreeKey {
+            instance,
+            digest: *digest,
+        };
+        match self.of(instance) {
+            Some(store) => store.whole_size(&key),
+            None => None,
+        }
     }
 
     /// Claims trees for a run. Whether each was made before. No other ones are claimed below one

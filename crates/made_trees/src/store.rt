@@ -1,7 +1,7 @@
 //! The trees that there are.
 
 ghost use Rattle.std.specs.Prelude.{◌≡◌, ◌≤◌, ◌<◌, ◌+◌, [], Ok, None, IfOk, IfSome, OnErr};
-ghost use Rattle.made_trees.specs.Trees.{StoreValue, changed, finished, given_back, held, is_made, key_of, sizes_of, tree_at, without_leaving};
+ghost use Rattle.made_trees.specs.Trees.{StoreValue, changed, finished, given_back, held, is_made, key_of, sizes_of, tree_at, whole_size, without_leaving};
 ghost use Rattle.made_trees.specs.Claims.{IsClaimedSo, IsRemoval, MakesRoom};
 ghost use Rattle.made_trees.specs.Stages.{held_shown};
 ghost use Rattle.made_trees.specs.declared.store.Claim.TheVariants.{Copied};
@@ -139,6 +139,16 @@ impl<'a> MadeTrees<'a> {
         let claim = self.claim_key(run, key, size)?;
         self.count(run.instance, claim);
         Ok(claim)
+    }
+
+    /// How many bytes the tree of a key counts, where it is whole.
+    pub fn whole_size(&self, key: &TreeKey) -> Option<u64>
+        ensures { result ≡ whole_size key.now self.now.trees }
+    {
+        match self.trees.get(key) {
+            Some(tree) => tree.whole_size(),
+            None => None,
+        }
     }
 
     fn count(&self, instance: u32, claim: Claim) {

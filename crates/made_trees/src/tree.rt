@@ -2,7 +2,7 @@
 
 ghost use Rattle.std.specs.Prelude.{◌≡◌, IfOk, OnErr, not};
 ghost use Rattle.std.specs.List.{filter, list_any};
-ghost use Rattle.made_trees.specs.Trees.{IsLetGo, finished, given_back, held_by, is_leaving, is_making, making, same_run, tree_folder};
+ghost use Rattle.made_trees.specs.Trees.{IsLetGo, finished, given_back, held_by, is_leaving, is_making, making, same_run, size_by, tree_folder};
 ghost use Rattle.made_trees.specs.Stages.{held_shown};
 ghost use Rattle.made_trees.specs.Claims.{IsSeenSo};
 
@@ -150,6 +150,16 @@ impl Tree {
             Stage::Making(maker) if is_same_run(run, maker) => Held::Makes(folder),
             Stage::Whole if is_among(run, &self.users) => Held::Uses(folder),
             Stage::Making(_) | Stage::Whole | Stage::Leaving => Held::Nothing,
+        }
+    }
+
+    /// How many bytes it counts, where it is whole.
+    pub(crate) fn whole_size(&self) -> Option<u64>
+        ensures { result ≡ size_by self.now self.now.state }
+    {
+        match self.stage {
+            Stage::Whole => Some(self.size),
+            Stage::Making(_) | Stage::Leaving => None,
         }
     }
 

@@ -4,7 +4,7 @@ ghost use Rattle.std.specs.Prelude.{◌≡◌, ◌≤◌, ◌+◌, [], false, If
 ghost use Rattle.std.specs.Rc.{rc_str_bytes};
 ghost use Rattle.run_calls.specs.declared.task.RunKey.{RunKey};
 ghost use Rattle.made_trees.specs.Claims.{IsRemoval};
-ghost use Rattle.made_trees.specs.Trees.{same_run};
+ghost use Rattle.made_trees.specs.Trees.{same_run, whole_size};
 ghost use Rattle.made_trees.specs.RunTrees.{AllStayUsed, AreBound, AreClaimed, OthersStayUsed, all_finished, all_given_back, site_of, site_shown, told, trees_of};
 
 use crate::claims::{claim_all, settle_all};
@@ -51,6 +51,13 @@ impl<'a> RunTrees<'a> {
         ensures { result.now ≡ trees_of run self.now.runs }
     {
         trees_of(&self.runs, run)
+    }
+
+    /// How many bytes the tree of a key counts, where it is whole.
+    pub(crate) fn whole_size(&self, key: &TreeKey) -> Option<u64>
+        ensures { result ≡ whole_size key.now self.now.store.trees }
+    {
+        self.store.whole_size(key)
     }
 
     /// Where a node of a run is made.

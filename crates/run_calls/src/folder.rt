@@ -60,6 +60,7 @@ pub struct InputTree {
 /// output, from the working directory on, and its names below that.
 pub trait Folder {
     ghost use Rattle.std.specs.Prelude.{map, string_bytes};
+    ghost use Rattle.digest.specs.declared.Digest.{Digest as AnyDigest};
     ghost use Rattle.std.specs.Rc.{rc_str_bytes};
     ghost use Rattle.run_calls.specs.Calls.{FolderCall, root_asked, node_asked, text_asked, directory_asked, parents_asked, look_asked, file_asked, list_asked, bytes_asked, removal_asked, Adds, done_of, found_of, facts_of, entries_of, folder_bytes_of, gone_of, call};
     ghost use Rattle.run_calls.specs.Values.{place_shown, task_kind_shown};
@@ -70,6 +71,14 @@ pub trait Folder {
 
     // How many calls failed, 2^64 - 1 at most.
     ghost failures: { Self → ℕ };
+
+    // By instance, how many bytes a directory of a digest counts that was made before.
+    ghost whole: { Self → ℕ → AnyDigest → Option ℕ } = { λ _ instance digest. None };
+
+    /// How much room a directory takes (`InputTree::size`) of which all was made before for the
+    /// instance of a run, if it was.
+    fn whole_tree(&self, run: RunKey, digest: &Digest) -> Option<u64>
+        ensures { result ≡ whole self.now run.instance digest.now };
 
     /// Which of these directories of a run's tree were made before, and are kept for it from now on:
     /// whether each is. They stand in walk order.

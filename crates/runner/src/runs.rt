@@ -16,6 +16,7 @@ use crate::going::Going;
 use crate::stage::{Ending, Making, Nodes, Prepared, Run, Stage, State, Step};
 use crate::turn::turn;
 use crate::wanted::Wanted;
+use digest::Digest;
 use run_calls::{Folder, InputTree, Outcome, Place, Programs, RunKey, Streams, Task, Texts};
 use std::alloc::{AllocError, Global};
 use std::mem;
@@ -151,6 +152,13 @@ impl<F: Folder + Drop, P: Programs + Drop> Runner<F, P> {
             programs,
             runs: Vec::new(alloc),
         }
+    }
+
+    /// How much room a directory takes of which all was made before for the instance of a run.
+    pub fn whole_tree(&self, run: RunKey, digest: &Digest) -> Option<u64>
+        ensures { result ≡ F.whole self.now.folder run.instance digest.now }
+    {
+        self.folder.whole_tree(run, digest)
     }
 
     /// Which of these directories of a run's tree were made before, and are kept for it from now on.

@@ -29,7 +29,7 @@ text_shown t = (t.digest, t.text.items)
 abbrev pub task_shown : RunTask → TaskValue
 task_shown t = record {
   command = t.command.items;
-  nodes = nodes_shown t.nodes.items;
+  nodes = option_map (λ n. nodes_shown n.items) t.nodes;
   texts = map text_shown t.texts.items;
 }
 

@@ -1,6 +1,7 @@
 //! What a run ordered of whoever runs jobs, with all that it names.
 
 ghost use Rattle.std.specs.Prelude.{◌≡◌, map, option_map, IfOk};
+ghost use Rattle.actions.specs.Shown.{nodes_shown};
 ghost use Rattle.blob_pool.specs.Slots.{Slots};
 ghost use Rattle.instance_view.specs.Shown.{blobs_in};
 ghost use Rattle.execution.specs.InPool.{task_in};
@@ -9,7 +10,7 @@ ghost use Rattle.execution.specs.Ordered.{order_meant};
 ghost use Rattle.instance_core.specs.Slots.{state_in};
 ghost use Rattle.server_core.specs.Shown.{order_shown, task_shown, text_shown};
 
-use actions::PlanNode;
+use actions::{Plan, PlanNode};
 use blob_pool::Pool;
 use digest::Digest;
 use execution::{KeptText, read_task};
@@ -28,8 +29,9 @@ pub struct TaskText {
 pub struct RunTask {
     /// The text of the command.
     pub command: Vec<u8>,
-    /// What stands in the input root, in the order of a walk.
-    pub nodes: Vec<PlanNode>,
+    /// What stands in the input root, in the order of a walk, where the texts say that: those of a
+    /// job do.
+    pub nodes: Option<Vec<PlanNode>>,
     /// Each distinct text that is needed and that is not empty, once.
     pub texts: Vec<TaskText>,
 }
@@ -69,6 +71,17 @@ fn copy_texts(alloc: Global, pool: &Pool, kept: &[KeptText]) -> Result<Vec<TaskT
     Ok(copied)
 }
 
+/// The nodes of a plan, where there is one.
+fn nodes_of(plan: Option<Plan>) -> Option<Vec<PlanNode>>
+    ensures { option_map (λ n. nodes_shown n.items) result
+        ≡ option_map (λ p. nodes_shown p.nodes.items) plan }
+{
+    match plan {
+        Some(plan) => Some(plan.nodes),
+        None => None,
+    }
+}
+
 fn copy_task(alloc: Global, pool: &Pool, task: &Task) -> Result<RunTask, AllocError>
     ensures { IfOk result (λ copied. task_shown copied ≡ task_in pool.now task.now) }
 {
@@ -76,7 +89,7 @@ fn copy_task(alloc: Global, pool: &Pool, task: &Task) -> Result<RunTask, AllocEr
     let texts = copy_texts(alloc, pool, &task.texts)?;
     Ok(RunTask {
         command: read.command,
-        nodes: read.plan.nodes,
+        nodes: nodes_of(read.plan),
         texts,
     })
 }

@@ -1,2 +1,3 @@
 pub mod Rights
 pub mod Reading
+pub mod Shown

@@ -8,6 +8,7 @@ ghost use Rattle.work_folders.specs.Rights.{MayRun};
 use crate::counts::FolderCounts;
 use crate::folders::{Folders, Links};
 use crate::work::Work;
+use digest::Digest;
 use made_trees::InstanceTrees;
 use run_calls::{Entry, FileFacts, Folder, Found, InputTree, Place, RunKey, TaskNodeKind};
 use std::alloc::AllocError;
@@ -30,14 +31,14 @@ pub struct WorkFolder<'a, D: Directory, S: Shells> {
 }
 
 impl<'a, D: Directory, S: Shells> Model for WorkFolder<'a, D, S> {
-    ghost use Rattle.std.specs.Prelude.{ℕ, IfSome};
+    ghost use Rattle.std.specs.Prelude.{IfSome};
     ghost use Rattle.run_calls.specs.declared.task.RunKey.{RunKey};
+    ghost use Rattle.work_folders.specs.Shown.{WorkFolderValue};
     ghost use Rattle.work_folders.specs.Rights.{MayRun};
 
-    ghost Value = { ℕ };
+    ghost Value = { WorkFolderValue };
 
-    // how many calls failed
-    ghost view = { λ f. f.faults };
+    ghost view = { λ f. record { failures = f.faults; trees = f.folders.trees } };
 
     // all that may be touched: what is of runs, in the folder of the start
     ghost invariant = { λ f. (run : RunKey) → IfSome f.folders.work.start
@@ -72,7 +73,7 @@ impl<'a, D: Directory, S: Shells<File = D::File>> WorkFolder<'a, D, S> {
     ) -> WorkFolder<'a, D, S>
         requires may { (run : RunKey) → IfSome work.start
             (λ at. MayRun D.may_look D.may_change D.is_settled at run) }
-        ensures none { result ≡ 0 }
+        ensures none { result.failures ≡ 0 }
     {
         WorkFolder {
             folders: Folders::new(shells, work, links, trees, counts),
@@ -92,7 +93,7 @@ impl<'a, D: Directory, S: Shells<File = D::File>> WorkFolder<'a, D, S> {
 
     /// Counts a call that failed, and notes why it did.
     fn count<T>(&mut self, answer: &io::Result<T>)
-        ensures { Counts answer.now self.old self.new }
+        ensures { Counts answer.now self.old.failures self.new.failures }
     {
         if let Err(error) = answer {
             self.failure.set(Some(*error));
@@ -102,7 +103,7 @@ impl<'a, D: Directory, S: Shells<File = D::File>> WorkFolder<'a, D, S> {
 
     /// The same of a call about an output, or about what has these names below it.
     fn count_at<T>(&mut self, answer: &io::Result<T>, path: &str, names: &[String])
-        ensures { Counts answer.now self.old self.new }
+        ensures { Counts answer.now self.old.failures self.new.failures }
     {
         if answer.is_err() {
             note_path(self.failed_at, path, names);
@@ -112,7 +113,15 @@ impl<'a, D: Directory, S: Shells<File = D::File>> WorkFolder<'a, D, S> {
 }
 
 impl<'a, D: Directory, S: Shells<File = D::File>> Folder for WorkFolder<'a, D, S> {
-    ghost failures = { λ f. f };
+    ghost use Rattle.made_trees.specs.RunTrees.{whole_in};
+
+    ghost failures = { λ f. f.failures };
+
+    ghost whole = { λ f instance digest. whole_in instance f.trees digest };
+
+    fn whole_tree(&self, run: RunKey, digest: &Digest) -> Option<u64> {
+        self.folders.whole_tree(run.instance, digest)
+    }
 
     fn claim(&mut self, run: RunKey, trees: &[InputTree]) -> Result<Vec<bool>, AllocError> {
         self.folders.claim(run, trees)

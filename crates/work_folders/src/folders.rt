@@ -7,7 +7,7 @@ ghost use Rattle.run_folders.specs.Folders.{left_path, root_name};
 ghost use Rattle.run_calls.specs.Values.{place_shown};
 ghost use Rattle.work_folders.specs.Reading.{WasRead};
 ghost use Rattle.work_folders.specs.Rights.{Below, MayLink, MayRemove, MayRun, MayTell, aside_place, root_place};
-ghost use Rattle.made_trees.specs.RunTrees.{IfTree, IsBoundAs, IsRemovalIn, site_in};
+ghost use Rattle.made_trees.specs.RunTrees.{IfTree, IsBoundAs, IsRemovalIn, site_in, whole_in};
 
 use crate::counts::FolderCounts;
 use crate::places::Places;
@@ -15,6 +15,7 @@ use crate::remover::Remover;
 use crate::sited::{make_at, write_at};
 use crate::tallies::Tallies;
 use crate::work::Work;
+use digest::Digest;
 use made_trees::{InstanceTrees, Removal};
 use run_calls::{Entry, FileFacts, Found, InputTree, Place, RunKey, TaskNodeKind};
 use run_folders::{Listed, PRIVATE_MODE, root_name};
@@ -95,6 +96,13 @@ impl<'a, D: Directory, S: Shells<File = D::File>> Folders<'a, D, S> {
             Some(start) => start.guard_against_leases(&mut self.shells),
             None => Err(nowhere()),
         }
+    }
+
+    /// How many bytes the tree of a digest counts that is whole for an instance, if there is one.
+    pub(crate) fn whole_tree(&self, instance: u32, digest: &Digest) -> Option<u64>
+        ensures { result ≡ whole_in instance self.now.trees digest.now }
+    {
+        self.trees.whole_size(instance, digest)
     }
 
     /// Claims trees for a run. Whether each was made before.

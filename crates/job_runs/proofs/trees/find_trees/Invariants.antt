@@ -5,7 +5,8 @@ use Rattle.job_runs.proofs.trees.find_trees.Given as goal
 
 abbrev pub invariant-nodes : goal.invariant-nodes
 invariant-nodes l =
-    AreFound l.nodes (command_shown l.command) l.at l.left l.names.items l.found × (l.at + length l.left ≡ length l.nodes)
+    AreFound l.sizes l.nodes (command_shown l.command) l.at l.sizes_left l.left l.names.items l.found
+    × (l.at + length l.left ≡ length l.nodes)
 
 abbrev pub decreases-nodes : goal.decreases-nodes
 decreases-nodes l = length l.left

@@ -1,14 +1,14 @@
 use Rattle.std.proofs.Common.{◌≡◌, ◌-◌, ◌<◌}
-use Rattle.blob_pool.specs.Slots.{Slots}
+use Rattle.input_tree.specs.Listing.{Lookup}
 use Rattle.actions.specs.TreeWalks.{LeadsTo, steps_left}
 use Rattle.actions.proofs.tree_walk.TreeWalk.meet_some.Given as goal
 
 abbrev pub invariant-nodes : goal.invariant-nodes
-invariant-nodes g l = record {
+invariant-nodes l = record {
   root : l.self.root ≡ l.fn.self.root;
-  leads : (p : Slots) → LeadsTo (g.F.Finds.found_in p l.view) l.fn.self → LeadsTo (g.F.Finds.found_in p l.view) l.self;
+  leads : (look : Lookup) → LeadsTo look l.fn.self → LeadsTo look l.self;
   less : steps_left l.self < steps_left l.fn.self;
 }
 
 abbrev pub decreases-nodes : goal.decreases-nodes
-decreases-nodes g l = 1000 - l.count
+decreases-nodes l = 1000 - l.count

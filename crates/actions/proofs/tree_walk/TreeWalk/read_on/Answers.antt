@@ -6,7 +6,7 @@ use Rattle.actions.proofs.tree_walk.TreeWalk.read_on.Goals as goal
 
 pub returns-then-not-is_over-clause-leads : goal.returns-then-not-is_over-clause-leads
 returns-then-not-is_over-clause-leads c = λ look leads.
-    reads look c.args.self.now _ c.args.digest c.args.level c.args.reading _ leads c.in_ok-step.ensures.given refl refl refl refl refl refl
+    reads look c.args.self.now _ c.args.digest c.args.level c.args.reading _ leads c.in_ok-step.ensures.given refl refl refl refl refl
 
 pub returns-in_default-clause-fault : goal.returns-in_default-clause-fault
 returns-in_default-clause-fault c = λ look leads.
@@ -17,4 +17,4 @@ pub returns-clause-leads : goal.returns-clause-leads
 returns-clause-leads c = λ look leads.
     let is : Some (taken_shown c.in-Some.taken) ≡ given_by c.args.reading = search rules in
     closes look c.args.self.now _ c.args.digest c.args.level c.args.reading c.in-Some.taken leads is refl c.requires.none
-    c.in_ok-stack_nodes.ensures refl refl (c.in_ok-keep.ensures look (leads.kept_are) (search rules))
+    c.in_ok-stack_nodes.ensures refl (c.in_ok-keep.ensures look (leads.kept_are) (search rules))

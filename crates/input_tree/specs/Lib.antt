@@ -13,3 +13,4 @@ pub mod NodeTexts
 pub mod Taking
 pub mod Work
 pub mod Listings
+pub mod TreeReadings

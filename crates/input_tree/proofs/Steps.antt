@@ -1,5 +1,5 @@
 -- Steps of a list that is made in steps.
-use Rattle.std.proofs.Common.{◌≡◌, ℕ, zero, suc, ◌+◌, ◌-◌, ◌*◌, ◌<◌, ◌≤◌, length, map, drop, Bool, true, false, not, ◌&&◌, nat_eq, nat_le, List, [], ◌∷◌, ◌++◌, Option, Some, None, Result, Ok, Err, is_some, slice_get, unwrap_or, refl, sym, ap, subst, ◌∙◌, arith, if◌then◌else◌}
+use Rattle.std.proofs.Common.{◌≡◌, ℕ, zero, suc, ◌+◌, ◌-◌, ◌*◌, ◌<◌, ◌≤◌, length, map, drop, Bool, true, false, not, ◌&&◌, nat_eq, nat_le, List, [], ◌∷◌, ◌++◌, Option, Some, None, Ok, Err, is_some, slice_get, refl, sym, ap, ◌∙◌, arith, if◌then◌else◌}
 use Rattle.std.specs.Prelude.{option_map, IfSome}
 use Rattle.std.specs.List.{filter_map, list_any}
 use Rattle.std.proofs.lemmas.Bool.Decides.{nat_tests}
@@ -11,18 +11,17 @@ use Rattle.std.specs.declared.vec.Vec.{Vec}
 use Rattle.digest.specs.declared.Digest.{Digest}
 use Rattle.digest.specs.Naming.{same_digest}
 use Rattle.tree_messages.specs.Directories.{DirectoryValue, DirectoryNodeValue}
-use Rattle.input_tree.specs.declared.error.TreeRefusal.{TreeRefusal}
 use Rattle.input_tree.specs.declared.error.TreeRefusal.TheVariants.{NotFound, BadDirectory, TooMany}
 use Rattle.input_tree.specs.declared.listing.Listing.{Listing}
 use Rattle.input_tree.specs.declared.listing.ChildReading.{ChildReading}
 use Rattle.input_tree.specs.Directories.{child_digest, children_in, directory_in, written_digest}
-use Rattle.input_tree.specs.Listing.{Lookup, children, children_of_text, listed_along, listed_from, tree_list, with_all_listed, with_children, with_listed}
+use Rattle.input_tree.specs.Listing.{Lookup, children, children_of_text, listed_along, listed_from, tree_list, with_all_listed, with_listed}
 use Rattle.input_tree.specs.ListingSteps.{AreDue, AreNone}
-use Rattle.input_tree.specs.Listings.{Closes, IsReading, LeadsTo, Opens, is_over, left_of, list_on, named_left, reading_left, steps_left, with_read, with_reading}
-use Rattle.input_tree.specs.Taken.{ChildTakenValue, DirectoryTakenValue, child_taken, directory_taken, taken_at, taken_of}
-use Rattle.input_tree.specs.Taking.{bytes_left, given_by}
-use Rattle.input_tree.specs.Work.{named_along, named_in_tree}
-use Rattle.input_tree.proofs.Listed.{along_end, along_full, along_next, due_more, due_next, named_next, none_due, none_with}
+use Rattle.input_tree.specs.Listings.{Closes, IsReading, LeadsTo, Opens, is_over, left_of, named_left, reading_left, steps_left, with_read, with_reading}
+use Rattle.input_tree.specs.Taken.{DirectoryTakenValue, child_taken, directory_taken, taken_at, taken_of}
+use Rattle.input_tree.specs.Taking.{given_by}
+use Rattle.input_tree.specs.Work.{named_along}
+use Rattle.input_tree.proofs.Listed.{along_end, along_full, along_next, due_more, due_next, named_next, none_due}
 
 -- ---- the directories in what is taken
 

@@ -1,4 +1,4 @@
-use Rattle.std.proofs.Common.{◌≡◌, [], ◌∷◌, ◌++◌, None, Some, refl, rules, true, ◌∙◌}
+use Rattle.std.proofs.Common.{◌≡◌, None, Some, refl, rules, true, ◌∙◌}
 use Rattle.input_tree.specs.Listing.{children}
 use Rattle.input_tree.specs.Taken.{taken_at, taken_shown}
 use Rattle.input_tree.proofs.Listed.{none_with}

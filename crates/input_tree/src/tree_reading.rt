@@ -4,7 +4,7 @@ ghost use Rattle.std.specs.Prelude.{◌≡◌, ◌+◌, ◌*◌, ◌≤◌, leng
 ghost use Rattle.instance_view.specs.Texts.{look_of};
 ghost use Rattle.input_tree.specs.Answers.{Lists};
 ghost use Rattle.input_tree.specs.Listing.{Lookup, tree_list};
-ghost use Rattle.input_tree.specs.TreeReadings.{Reads};
+ghost use Rattle.input_tree.specs.TreeReadings.{AreMeant, Reads};
 ghost use Rattle.input_tree.specs.Work.{named_in_tree};
 
 use crate::error::{GetTreeError, TreeRefusal};
@@ -76,6 +76,23 @@ impl TreeReading {
             TreeReading::Over(root, listed) => Ok(TreeReading::Over(root, listed)),
         }
     }
+
+    /// What it came to, where it is of this root.
+    fn listed(self, root: &Digest) -> Option<Result<KeyedSet<Digest>, TreeRefusal>>
+        ensures meant { (look : Lookup) → Reads look self →
+            IfSome result (λ listed. AreMeant listed (tree_list look root.now)) }
+    {
+        match self {
+            TreeReading::Going(_listing, _work) => None,
+            TreeReading::Over(known, listed) => {
+                if known == *root {
+                    Some(listed)
+                } else {
+                    None
+                }
+            }
+        }
+    }
 }
 
 /// The list of a root's tree: what was read of it before, where that is over, or else as
@@ -92,10 +109,12 @@ pub(crate) fn list_read(
     ensures looks { work.new.looks
         ≤ work.old.looks + 2 * length (named_in_tree (look_of texts.now) root.now) }
 {
-    if let Some(TreeReading::Over(known, listed)) = read {
-        if known == *root {
-            return Ok(listed?);
-        }
+    let Some(read) = read else {
+        return list_tree(alloc, texts, work, root);
+    };
+    match read.listed(root) {
+        Some(Ok(listed)) => Ok(listed),
+        Some(Err(refusal)) => Err(GetTreeError::Refused(refusal)),
+        None => list_tree(alloc, texts, work, root),
     }
-    list_tree(alloc, texts, work, root)
 }

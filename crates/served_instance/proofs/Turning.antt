@@ -36,6 +36,7 @@ use Rattle.server_events.specs.Events.{received, tick, ended}
 use Rattle.served_instance.specs.declared.open_connection.OpenConnection.{OpenConnection}
 use Rattle.served_instance.specs.Acts.{ActsIn, FindAlike, IsDone, LentStands, StandsBy}
 use Rattle.served_instance.specs.Connections.{LoneConnection, open_ones}
+use Rattle.served_instance.specs.Courses.{StartsJobs}
 use Rattle.served_instance.specs.Cuts.{IsCut, KeepsApart}
 use Rattle.served_instance.specs.Events.{bytes_events}
 use Rattle.served_instance.specs.Lent.{LentValue, GoesOn, IsKept, IsLent, lent_slots, lent_state}
@@ -230,6 +231,34 @@ starts_done (Ok orders) c bytes a b d turn h ready t gives done same =
           (ap (λ (t : InstanceState). t.jobs) done)
           ∙ ap (λ (t : InstanceState). map Some (orders_at t start_jobs)) came.state;
     }
+
+-- whatever the bytes were
+pub starts_stand : {E : Type 0} (x : Result (Vec Order Global) E) (c : ℕ) (b d : LentValue) (turn : Turn) → IsLent b →
+    (let s = state_in b.pool b.instance in
+    IsReady b.pool s start_jobs (replies_on c (answer s start_jobs).replies) turn) → TakesTurn turn b d →
+    OnOk x (AreGiven turn.replies.items b.connections d.connections) →
+    OnOk x (state_in d.pool d.instance ≡ state_after_change (Settles (steps_shown turn.steps.items)) (state_in b.pool b.instance)) →
+    IfOk x (λ orders. orders ≡ turn.orders) → IfOk x (StartsJobs c b d)
+starts_stand (Err e) c b d turn lent ready t gives done same = tt
+starts_stand (Ok orders) c b d turn lent ready t gives done same = λ bytes l jobs rest came.
+    let s = state_in b.pool b.instance in
+    let ss = steps_shown turn.steps.items in
+    let m = after_bytes_on c bytes l in
+    let all : map (reply_shown b.pool) turn.replies.items ≡ (answer m.state start_jobs).replies =
+    ready.replies ∙ ap (λ (t : InstanceState). replies_on c (answer t start_jobs).replies) came.state
+    ∙ told_alone c bytes l jobs rest in
+    let own : state_in d.pool d.instance ≡ state_after s start_jobs =
+    done ∙ ap (λ (ys : List StepValue). state_after_change (Settles ys) s) ready.steps in
+    let after : lent_state d ≡ state_after m.state start_jobs =
+    beside_at b d (state_after s start_jobs) t.parent t.moves lent own
+    ∙ seeing_after (visible_in b.pool b.parent) s start_jobs refl
+    ∙ ap (λ (t : InstanceState). state_after t start_jobs) came.state in (
+      turns start_jobs d.parent b.pool d.pool d.instance b.connections d.connections turn.replies.items m came.connections gives
+          t.texts all after,
+      orders_are s start_jobs ss (state_in d.pool d.instance).jobs turn.orders orders same ready.orders ready.steps
+          (ap (λ (t : InstanceState). t.jobs) done)
+          ∙ ap (λ (t : InstanceState). map Some (orders_at t start_jobs)) came.state,
+    )
 
 pub starts_cut : (c : ℕ) (bytes : List ℕ) (a b d : LentValue) → HaveCome c bytes a b → GoesOn b d → KeepsApart c a d →
     state_in d.pool d.instance ≡ state_in b.pool b.instance → IsCut (received c bytes) a d

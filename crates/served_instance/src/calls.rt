@@ -31,7 +31,7 @@ use std::alloc::AllocError;
 
 impl<'a> Lent<'a> {
     /// Something happens to a call: the instance answers.
-    fn happen(&mut self, event: CallEvent) -> Result<(), AllocError>
+    pub(crate) fn happen(&mut self, event: CallEvent) -> Result<(), AllocError>
         requires short { IsShortEvent (event_shown event) }
         requires lent { IsLent (lent_value self.old) }
         ensures happened { OnOk result (ActsIn (lent_value self.old) (lent_value self.new)

@@ -1,0 +1,170 @@
+//! An event that is carried out in pieces.
+
+ghost use Rattle.std.specs.Prelude.{◌≡◌, ◌≢◌, ◌++◌, IfErr, IfOk, Err};
+ghost use Rattle.blob_pool.specs.Moves.{Moves};
+ghost use Rattle.instance_core.specs.InstanceViewShown.{visible_in};
+ghost use Rattle.instance_core.specs.Readings.{IsRead};
+ghost use Rattle.instance_core.specs.Slots.{state_in};
+ghost use Rattle.instance_core.specs.Turns.{AreOrders};
+ghost use Rattle.server_events.specs.Events.{LoneEvent};
+ghost use Rattle.server_events.specs.Shown.{event_value};
+ghost use Rattle.served_instance.specs.Courses.{IsInCourse};
+ghost use Rattle.served_instance.specs.Lone.{LoneInstance};
+ghost use Rattle.served_instance.specs.Pieces.{ForDone, ForHalt};
+ghost use Rattle.served_instance.specs.Ranges.{AreTidy};
+ghost use Rattle.served_instance.specs.Refusals.{IsRefusalOutcome, lone_orders, lone_step, refusal_of};
+ghost use Rattle.served_instance.specs.Short.{IsServedShort};
+ghost use Rattle.served_instance.specs.Slots.{IsServedBeside, IsServedInPool, holders_of, served_state_in};
+ghost use Rattle.served_instance.specs.StandsFor.{AreSettled, IsServedInstance};
+
+use super::{ServedInstance, accept};
+use crate::courses::Halt;
+use crate::lent::Lent;
+use crate::refusal::EventRefusal;
+use crate::release::release_all;
+use blob_pool::Pool;
+use instance_core::Order;
+use instance_view::View;
+use server_events::{Event, What};
+
+/// What came of an event that was begun, or gone on with.
+#[derive(Drop)]
+pub enum Begun {
+    /// It was carried out to its end, and gives these orders to whoever runs jobs.
+    Done(Vec<Order>),
+    /// It stopped before a request ends whose call reads much.
+    Halts(Halt),
+}
+
+impl ServedInstance {
+    /// Takes an event as `step` does, but stops before a request ends whose call reads much. Then
+    /// it is gone on with by `go_on`, once what the call reads is over: the reading goes on by
+    /// itself, and changes nothing. No other event of this instance may come before, and no text of
+    /// it or of its parent may change.
+    pub fn begin(
+        &mut self,
+        parent: &View,
+        pool: &mut Pool,
+        event: Event,
+    ) -> Result<Begun, EventRefusal>
+        requires kept { IsServedInPool pool.old self.old }
+        requires beside { IsServedBeside pool.old parent.now self.old }
+        requires tidy { AreTidy self.old.connections }
+        ensures outcome { (l : LoneInstance) →
+            IsServedInstance (served_state_in pool.old self.old) l
+            → IsRefusalOutcome result (refusal_of (event_value event).lone l) }
+        // Carried out to its end, it is what `step` makes of it.
+        ensures stands { IfOk result (ForDone (λ orders. (l : LoneInstance) →
+            IsServedInstance (served_state_in pool.old self.old) l
+            → IsServedInstance (served_state_in pool.new self.new)
+            (lone_step (visible_in pool.old parent.now) (event_value event).lone l))) }
+        ensures settled { IfOk result (ForDone (λ orders. (l : LoneInstance) →
+            IsServedInstance (served_state_in pool.old self.old) l → AreSettled
+            (lone_step (visible_in pool.old parent.now) (event_value event).lone l))) }
+        ensures orders { IfOk result (ForDone (λ orders. (l : LoneInstance) →
+            IsServedInstance (served_state_in pool.old self.old) l
+            → AreOrders (state_in pool.new self.new.instance).jobs orders.items
+            (lone_orders (visible_in pool.old parent.now) (event_value event).lone l))) }
+        // Where it stopped, what is kept leads to that.
+        ensures course { IfOk result (ForHalt (λ halt. (l : LoneInstance) →
+            IsServedInstance (served_state_in pool.old self.old) l
+            → IsInCourse (visible_in pool.old parent.now) (event_value event).lone halt.call
+            (served_state_in pool.new self.new) l)) }
+        ensures read { IfOk result (ForHalt (λ halt.
+            IsRead (visible_in pool.new self.new.instance.view ++ visible_in pool.new parent.now)
+            halt.reading)) }
+        ensures short { result ≡ Err EventRefusal.NoMemory → (l : LoneInstance)
+            → IsServedInstance (served_state_in pool.old self.old) l
+            → IsServedShort (visible_in pool.old parent.now) (event_value event).lone l
+            (served_state_in pool.new self.new) }
+        ensures here { result ≢ Err EventRefusal.NoSuchInstance }
+        ensures refused { IfErr result (λ refusal. refusal ≢ EventRefusal.NoMemory
+            → (self.new ≡ self.old) × (pool.new ≡ pool.old)) }
+        ensures tidy { AreTidy self.new.connections }
+        ensures moves { Moves pool.old pool.new (holders_of self.old) (holders_of self.new) }
+        ensures kept { IsServedInPool pool.new self.new }
+    {
+        let What::Bytes(_, _) = &event.what else {
+            let orders = self.step(parent, pool, event)?;
+            return Ok(Begun::Done(orders));
+        };
+        let place = accept(&self.instance, &self.connections, &event)?;
+        self.instance.set_moment(event.moment);
+        self.begin_bytes(parent, pool, place, event.what)
+    }
+
+    /// Goes on with an event that stopped: the request ends, and all that is left of the event is
+    /// done, perhaps up to another request's end.
+    pub fn go_on(
+        &mut self,
+        parent: &View,
+        pool: &mut Pool,
+        halt: Halt,
+    ) -> Result<Begun, EventRefusal>
+        requires kept { IsServedInPool pool.old self.old }
+        requires beside { IsServedBeside pool.old parent.now self.old }
+        requires tidy { AreTidy self.old.connections }
+        requires read { IsRead
+            (visible_in pool.old self.old.instance.view ++ visible_in pool.old parent.now)
+            halt.reading }
+        ensures stands { IfOk result (ForDone (λ orders. (e : LoneEvent) (l : LoneInstance) →
+            IsInCourse (visible_in pool.old parent.now) e halt.call
+            (served_state_in pool.old self.old) l
+            → IsServedInstance (served_state_in pool.new self.new)
+            (lone_step (visible_in pool.old parent.now) e l))) }
+        ensures settled { IfOk result (ForDone (λ orders. (e : LoneEvent) (l : LoneInstance) →
+            IsInCourse (visible_in pool.old parent.now) e halt.call
+            (served_state_in pool.old self.old) l
+            → AreSettled (lone_step (visible_in pool.old parent.now) e l))) }
+        ensures orders { IfOk result (ForDone (λ orders. (e : LoneEvent) (l : LoneInstance) →
+            IsInCourse (visible_in pool.old parent.now) e halt.call
+            (served_state_in pool.old self.old) l
+            → AreOrders (state_in pool.new self.new.instance).jobs orders.items
+            (lone_orders (visible_in pool.old parent.now) e l))) }
+        ensures course { IfOk result (ForHalt (λ next. (e : LoneEvent) (l : LoneInstance) →
+            IsInCourse (visible_in pool.old parent.now) e halt.call
+            (served_state_in pool.old self.old) l
+            → IsInCourse (visible_in pool.old parent.now) e next.call
+            (served_state_in pool.new self.new) l)) }
+        ensures read { IfOk result (ForHalt (λ next.
+            IsRead (visible_in pool.new self.new.instance.view ++ visible_in pool.new parent.now)
+            next.reading)) }
+        ensures only { IfErr result (λ refusal. refusal ≡ EventRefusal.NoMemory) }
+        ensures short { result ≡ Err EventRefusal.NoMemory → (e : LoneEvent) (l : LoneInstance)
+            → IsInCourse (visible_in pool.old parent.now) e halt.call
+            (served_state_in pool.old self.old) l
+            → IsServedShort (visible_in pool.old parent.now) e l
+            (served_state_in pool.new self.new) }
+        ensures tidy { AreTidy self.new.connections }
+        ensures moves { Moves pool.old pool.new (holders_of self.old) (holders_of self.new) }
+        ensures kept { IsServedInPool pool.new self.new }
+    {
+        let number = halt.call.connection;
+        let mut lent = self.lend(parent, pool);
+        match lent.go_on(halt) {
+            Err(_) => {
+                lent.break_off(number);
+                Err(EventRefusal::NoMemory)
+            }
+            Ok(next) => self.come_to(parent, pool, number, next),
+        }
+    }
+
+    /// Lets go of the connection of an event that stopped, where memory was refused for what its
+    /// call reads.
+    pub fn give_up(&mut self, parent: &View, pool: &mut Pool, halt: &Halt)
+        requires kept { IsServedInPool pool.old self.old }
+        requires tidy { AreTidy self.old.connections }
+        ensures short { (e : LoneEvent) (l : LoneInstance)
+            → IsInCourse (visible_in pool.old parent.now) e halt.now.call
+            (served_state_in pool.old self.old) l
+            → IsServedShort (visible_in pool.old parent.now) e l
+            (served_state_in pool.new self.new) }
+        ensures tidy { AreTidy self.new.connections }
+        ensures moves { Moves pool.old pool.new (holders_of self.old) (holders_of self.new) }
+        ensures kept { IsServedInPool pool.new self.new }
+    {
+        let mut lent = self.lend(parent, pool);
+        lent.break_off(halt.call.connection);
+    }
+}

@@ -1,6 +1,6 @@
 -- An event of received bytes that stops before a request ends, through the steps of the code.
 use Rattle.std.proofs.Common.{◌≡◌, refl, sym, ap, ◌∙◌, subst, inl, inr, append_assoc}
-use Rattle.std.specs.Prelude.{ℕ, true, false, List, [], ◌∷◌, ◌++◌, None, Some, ◌⊎◌, map, position}
+use Rattle.std.specs.Prelude.{ℕ, true, false, List, [], ◌∷◌, ◌++◌, Option, None, Some, Result, Ok, Err, IfOk, OnErr, ◌⊎◌, position}
 use Rattle.blob_pool.specs.Slots.{text_at}
 use Rattle.conn_core.specs.ErrorCode.{ErrorCode}
 use Rattle.conn_core.specs.FrameError.{FrameError}
@@ -14,13 +14,15 @@ use Rattle.instance_core.specs.Answer.{answer, state_after}
 use Rattle.instance_core.specs.Calls.{CallEventValue, end}
 use Rattle.instance_core.specs.State.{InstanceState}
 use Rattle.instance_core.specs.declared.event.CallId.{CallId}
+use Rattle.served_instance.specs.declared.courses.Halt.{Halt}
 use Rattle.served_instance.specs.declared.open_connection.OpenConnection.{OpenConnection}
 use Rattle.served_instance.specs.Acts.{ActsBy, BecomesAt, Pops, ReadsFrame, StandsBy, TakesStep, after_rest_on, present_at, with_present}
 use Rattle.served_instance.specs.Calls.{call_event_on}
 use Rattle.served_instance.specs.Connections.{at_open, open_at}
-use Rattle.served_instance.specs.Courses.{ComesBy, IsRestOf, Rest, bytes_left, due_behind, due_left, first_left, left_behind, then_unread, unread_left}
-use Rattle.served_instance.specs.Cuts.{CutsShortBy}
+use Rattle.served_instance.specs.Courses.{ComesBy, ComesTo, GoesOrHalts, IsRestOf, Rest, bytes_left, due_behind, due_left, first_left, left_behind, then_unread, unread_left}
+use Rattle.served_instance.specs.Cuts.{CutsShort, CutsShortBy}
 use Rattle.served_instance.specs.Events.{due_events, fault_met, frame_taken, rest_events}
+use Rattle.served_instance.specs.Lent.{LentValue, lent_state}
 use Rattle.served_instance.specs.Lone.{LoneInstance, after_call_event, after_due_on}
 use Rattle.served_instance.specs.Present.{is_numbered}
 use Rattle.served_instance.specs.Short.{IsCutShort, IsMadeInPart}
@@ -257,3 +259,22 @@ nowhere_acts texts c s os none = λ l st.
     let gone = no_past texts c os l.connections (sym (place_none c os none)) st.connections in
     let still : (then_unread c (due_left c)).makes l ≡ l = ap (after_rest_on c) (none_due_there c l gone) ∙ nothing_there c l gone in
     subst (λ (k : LoneInstance). StandsBy texts s os k) (sym still) st
+
+-- ---- by a result
+
+-- what goes on from where it came to
+pub goes_after : {E : Type 0} (r : Result (Option Halt) E) (a f g : LentValue) (w v : Rest) (x : CallId → Rest) → ComesTo a f w v →
+    IfOk r (GoesOrHalts f g v x) → IfOk r (GoesOrHalts a g w x)
+goes_after (Err e) a f g w v x comes goes = tt
+goes_after (Ok None) a f g w v x comes goes =
+    comes_acts (text_at a.pool) (text_at f.pool) (text_at g.pool) (lent_state a) (lent_state f) (lent_state g) a.connections f.connections
+    g.connections w v comes goes
+goes_after (Ok (Some h)) a f g w v x comes goes =
+    comes_trans (text_at a.pool) (text_at f.pool) (text_at g.pool) (lent_state a) (lent_state f) (lent_state g) a.connections f.connections
+    g.connections w v (x h.call) comes goes
+
+pub short_after : {T E : Type 0} (r : Result T E) (a f g : LentValue) (w v : Rest) → ComesTo a f w v →
+    OnErr r (CutsShort f g v.brings) → OnErr r (CutsShort a g w.brings)
+short_after (Ok x) a f g w v comes cut = tt
+short_after (Err e) a f g w v comes cut =
+    comes_short (text_at a.pool) (text_at f.pool) (lent_state a) (lent_state f) (lent_state g) a.connections f.connections w v comes cut

@@ -1,7 +1,7 @@
 -- An event of received bytes that stopped before a request ends whose call reads much (`Halt`). What
 -- is kept meanwhile stands for a state from which the rest leads to what the event makes:
 -- `IsInCourse` says so. The parts of the code are for the code alone.
-use Rattle.std.specs.Prelude.{◌≡◌, ◌==◌, ℕ, List, [], ◌∷◌, ◌++◌, Option, Some, None, if◌then◌else◌}
+use Rattle.std.specs.Prelude.{◌≡◌, ◌==◌, ◌<◌, ℕ, List, [], ◌∷◌, ◌++◌, Option, Some, None, if◌then◌else◌}
 use Rattle.std.specs.declared.alloc.Global.{Global}
 use Rattle.std.specs.declared.vec.Vec.{Vec}
 use Rattle.execution.specs.declared.orders.Order.{Order}
@@ -15,11 +15,13 @@ use Rattle.instance_core.specs.Watching.{WatchAtRest}
 use Rattle.instance_core.specs.declared.event.CallId.{CallId}
 use Rattle.job_queue.specs.Order.{AreJobs}
 use Rattle.server_events.specs.Events.{LoneEvent, received}
+use Rattle.served_instance.specs.declared.courses.Front.{Front}
+use Rattle.served_instance.specs.declared.courses.Front.TheVariants.{Nothing, Taken, Halts}
 use Rattle.served_instance.specs.declared.courses.Halt.{Halt}
 use Rattle.grpc_sending.specs.StoredSending.{SourceTexts}
 use Rattle.blob_pool.specs.Slots.{text_at}
 use Rattle.served_instance.specs.declared.open_connection.OpenConnection.{OpenConnection}
-use Rattle.served_instance.specs.Acts.{ActsIn, LentStands, StandsBy, after_rest_on}
+use Rattle.served_instance.specs.Acts.{ActsIn, LentStands, StandsBy, after_rest_on, unread_at}
 use Rattle.served_instance.specs.Connections.{open_ones, with_closed}
 use Rattle.served_instance.specs.Events.{bytes_events, due_events, rest_events}
 use Rattle.served_instance.specs.Lent.{LentValue, lent_state}
@@ -103,6 +105,14 @@ GoesOrHalts a b before after (Some h) = ComesTo a b before (after h.call)
 pub record IsHalt (c : ℕ) (h : Halt) : Type 0 where
   pub on : h.call.connection ≡ c
   pub read : (visible : List Blob) → IsRead visible h.reading
+
+-- no frame is left, or one was taken, or it stopped in the midst of one
+abbrev pub ReadsOrHalts : ℕ → LentValue → LentValue → Front → Type 0
+ReadsOrHalts c a b Nothing = ActsIn a b (after_rest_on c)
+ReadsOrHalts c a b Taken =
+    ComesTo a b (unread_left c) (unread_left c)
+    × (unread_at c b.connections < unread_at c a.connections)
+ReadsOrHalts c a b (Halts h) = ComesTo a b (unread_left c) (left_behind c h.call) × IsHalt c h
 
 -- behind the bytes of an event the jobs start for which there is a slot
 abbrev pub StartsJobs : ℕ → LentValue → LentValue → Vec Order Global → Type 0

@@ -1,14 +1,13 @@
 //! Events of received bytes that are carried out in pieces: they stop before a request ends whose
 //! call reads much.
 
-ghost use Rattle.std.specs.Prelude.{◌≡◌, ◌<◌, IfOk, IfSome, OnOk, OnErr};
+ghost use Rattle.std.specs.Prelude.{◌≡◌, IfOk, IfSome, OnOk, OnErr};
 ghost use Rattle.instance_core.specs.Readings.{IsRead};
 ghost use Rattle.instance_core.specs.Shown.{event_shown};
 ghost use Rattle.instance_core.specs.Slots.{state_in};
 ghost use Rattle.instance_core.specs.State.{seen};
-ghost use Rattle.served_instance.specs.declared.courses.Front.TheVariants.{Taken, Nothing, Halts};
-ghost use Rattle.served_instance.specs.Acts.{ActsIn, after_rest_on, unread_at};
-ghost use Rattle.served_instance.specs.Courses.{ComesTo, GoesOrHalts, HaltsAt, IsHalt, StartsJobs, bytes_left, due_behind, due_left, left_behind, unread_left};
+ghost use Rattle.served_instance.specs.Acts.{unread_at};
+ghost use Rattle.served_instance.specs.Courses.{GoesOrHalts, HaltsAt, IsHalt, ReadsOrHalts, StartsJobs, bytes_left, due_behind, due_left, left_behind, unread_left};
 ghost use Rattle.served_instance.specs.Cuts.{CutsShort};
 ghost use Rattle.served_instance.specs.Events.{bytes_events, due_events, rest_events};
 ghost use Rattle.served_instance.specs.Lent.{IsLent, IsSameLoan, lent_state, lent_value};
@@ -87,18 +86,8 @@ impl<'a> Lent<'a> {
     fn read_next_until(&mut self, place: usize, number: u32) -> Result<Front, AllocError>
         requires there { IsPlaceOf number place self.old.connections.now.items }
         requires lent { IsLent (lent_value self.old) }
-        ensures reads { IfOk result (λ front. front ≡ Taken →
-            ComesTo (lent_value self.old) (lent_value self.new)
-            (unread_left number) (unread_left number)) }
-        ensures ends { IfOk result (λ front. front ≡ Nothing →
-            ActsIn (lent_value self.old) (lent_value self.new) (after_rest_on number)) }
-        ensures halts { IfOk result (λ front. (h : Halt) → front ≡ Halts h →
-            ComesTo (lent_value self.old) (lent_value self.new)
-            (unread_left number) (left_behind number h.call)) }
-        ensures fewer { IfOk result (λ front. front ≡ Taken →
-            unread_at number self.new.connections.now.items
-            < unread_at number self.old.connections.now.items) }
-        ensures halt { IfOk result (λ front. (h : Halt) → front ≡ Halts h → IsHalt number h) }
+        ensures reads { IfOk result (ReadsOrHalts number
+            (lent_value self.old) (lent_value self.new)) }
         ensures memory { OnErr result (CutsShort (lent_value self.old) (lent_value self.new)
             (rest_events number)) }
         ensures went { GoesApart number (lent_value self.old) (lent_value self.new) }
@@ -158,23 +147,25 @@ impl<'a> Lent<'a> {
         self.read_until(place, number)
     }
 
-    /// The request ends before which an event stopped, and the event goes on, perhaps up to another
-    /// one.
-    pub(crate) fn go_on(&mut self, halt: Halt) -> Result<Option<Halt>, AllocError>
+    /// The request of a call ends before which an event stopped, and the event goes on, perhaps up to
+    /// another one. What was read for the call before is not read again.
+    pub(crate) fn go_on(
+        &mut self,
+        call: CallId,
+        read: Option<CallReading>,
+    ) -> Result<Option<Halt>, AllocError>
         requires lent { IsLent (lent_value self.old) }
-        requires read { IsRead (seen (lent_state (lent_value self.old))) halt.reading }
+        requires read { IfSome read (IsRead (seen (lent_state (lent_value self.old)))) }
         ensures went_on { IfOk result (GoesOrHalts (lent_value self.old) (lent_value self.new)
-            (left_behind halt.call.connection halt.call) (left_behind halt.call.connection)) }
-        ensures halt { IfOk result (λ next. IfSome next (IsHalt halt.call.connection)) }
+            (left_behind call.connection call) (left_behind call.connection)) }
+        ensures halt { IfOk result (λ next. IfSome next (IsHalt call.connection)) }
         ensures memory { OnErr result (CutsShort (lent_value self.old) (lent_value self.new)
-            (left_behind halt.call.connection halt.call).brings) }
-        ensures went { GoesApart halt.call.connection
-            (lent_value self.old) (lent_value self.new) }
+            (left_behind call.connection call).brings) }
+        ensures went { GoesApart call.connection (lent_value self.old) (lent_value self.new) }
         ensures same { IsSameLoan self.old self.new }
     {
-        let Halt { call, reading } = halt;
         let number = call.connection;
-        self.happen(CallEvent::End(call, Some(reading)))?;
+        self.happen(CallEvent::End(call, read))?;
         let Some(place) = find(self.connections, number) else {
             return Ok(None);
         };

@@ -1,6 +1,6 @@
 //! An event that is carried out in pieces.
 
-ghost use Rattle.std.specs.Prelude.{◌≡◌, ◌≢◌, ◌++◌, IfErr, IfOk, Err};
+ghost use Rattle.std.specs.Prelude.{◌≡◌, ◌≢◌, ◌++◌, IfErr, IfOk, IfSome, Err};
 ghost use Rattle.blob_pool.specs.Moves.{Moves};
 ghost use Rattle.instance_core.specs.InstanceViewShown.{visible_in};
 ghost use Rattle.instance_core.specs.Readings.{IsRead};
@@ -23,7 +23,7 @@ use crate::lent::Lent;
 use crate::refusal::EventRefusal;
 use crate::release::release_all;
 use blob_pool::Pool;
-use instance_core::Order;
+use instance_core::{CallId, CallReading, Order};
 use instance_view::View;
 use server_events::{Event, What};
 
@@ -84,13 +84,20 @@ impl ServedInstance {
         ensures moves { Moves pool.old pool.new (holders_of self.old) (holders_of self.new) }
         ensures kept { IsServedInPool pool.new self.new }
     {
-        let What::Bytes(_, _) = &event.what else {
-            let orders = self.step(parent, pool, event)?;
-            return Ok(Begun::Done(orders));
+        let place = match accept(&self.instance, &self.connections, &event) {
+            Ok(place) => place,
+            Err(refusal) => return Err(refusal),
         };
-        let place = accept(&self.instance, &self.connections, &event)?;
-        self.instance.set_moment(event.moment);
-        self.begin_bytes(parent, pool, place, event.what)
+        match event.what {
+            What::Bytes(number, bytes) => {
+                self.instance.set_moment(event.moment);
+                self.receive_at(parent, pool, place, number, bytes)
+            }
+            what => {
+                let orders = self.step(parent, pool, Event { what, ..event })?;
+                Ok(Begun::Done(orders))
+            }
+        }
     }
 
     /// Goes on with an event that stopped: the request ends, and all that is left of the event is
@@ -99,30 +106,30 @@ impl ServedInstance {
         &mut self,
         parent: &View,
         pool: &mut Pool,
-        halt: Halt,
+        call: CallId,
+        read: Option<CallReading>,
     ) -> Result<Begun, EventRefusal>
         requires kept { IsServedInPool pool.old self.old }
         requires beside { IsServedBeside pool.old parent.now self.old }
         requires tidy { AreTidy self.old.connections }
-        requires read { IsRead
-            (visible_in pool.old self.old.instance.view ++ visible_in pool.old parent.now)
-            halt.reading }
+        requires read { IfSome read (IsRead
+            (visible_in pool.old self.old.instance.view ++ visible_in pool.old parent.now)) }
         ensures stands { IfOk result (ForDone (λ orders. (e : LoneEvent) (l : LoneInstance) →
-            IsInCourse (visible_in pool.old parent.now) e halt.call
+            IsInCourse (visible_in pool.old parent.now) e call
             (served_state_in pool.old self.old) l
             → IsServedInstance (served_state_in pool.new self.new)
             (lone_step (visible_in pool.old parent.now) e l))) }
         ensures settled { IfOk result (ForDone (λ orders. (e : LoneEvent) (l : LoneInstance) →
-            IsInCourse (visible_in pool.old parent.now) e halt.call
+            IsInCourse (visible_in pool.old parent.now) e call
             (served_state_in pool.old self.old) l
             → AreSettled (lone_step (visible_in pool.old parent.now) e l))) }
         ensures orders { IfOk result (ForDone (λ orders. (e : LoneEvent) (l : LoneInstance) →
-            IsInCourse (visible_in pool.old parent.now) e halt.call
+            IsInCourse (visible_in pool.old parent.now) e call
             (served_state_in pool.old self.old) l
             → AreOrders (state_in pool.new self.new.instance).jobs orders.items
             (lone_orders (visible_in pool.old parent.now) e l))) }
         ensures course { IfOk result (ForHalt (λ next. (e : LoneEvent) (l : LoneInstance) →
-            IsInCourse (visible_in pool.old parent.now) e halt.call
+            IsInCourse (visible_in pool.old parent.now) e call
             (served_state_in pool.old self.old) l
             → IsInCourse (visible_in pool.old parent.now) e next.call
             (served_state_in pool.new self.new) l)) }
@@ -131,7 +138,7 @@ impl ServedInstance {
             next.reading)) }
         ensures only { IfErr result (λ refusal. refusal ≡ EventRefusal.NoMemory) }
         ensures short { result ≡ Err EventRefusal.NoMemory → (e : LoneEvent) (l : LoneInstance)
-            → IsInCourse (visible_in pool.old parent.now) e halt.call
+            → IsInCourse (visible_in pool.old parent.now) e call
             (served_state_in pool.old self.old) l
             → IsServedShort (visible_in pool.old parent.now) e l
             (served_state_in pool.new self.new) }
@@ -139,9 +146,15 @@ impl ServedInstance {
         ensures moves { Moves pool.old pool.new (holders_of self.old) (holders_of self.new) }
         ensures kept { IsServedInPool pool.new self.new }
     {
-        let number = halt.call.connection;
-        let mut lent = self.lend(parent, pool);
-        match lent.go_on(halt) {
+        let number = call.connection;
+        let mut lent = Lent {
+            alloc: *self.connections.allocator(),
+            parent,
+            pool: &mut *pool,
+            instance: &mut self.instance,
+            connections: &mut self.connections,
+        };
+        match lent.go_on(call, read) {
             Err(_) => {
                 lent.break_off(number);
                 Err(EventRefusal::NoMemory)
@@ -152,11 +165,11 @@ impl ServedInstance {
 
     /// Lets go of the connection of an event that stopped, where memory was refused for what its
     /// call reads.
-    pub fn give_up(&mut self, parent: &View, pool: &mut Pool, halt: &Halt)
+    pub fn give_up(&mut self, parent: &View, pool: &mut Pool, call: CallId)
         requires kept { IsServedInPool pool.old self.old }
         requires tidy { AreTidy self.old.connections }
         ensures short { (e : LoneEvent) (l : LoneInstance)
-            → IsInCourse (visible_in pool.old parent.now) e halt.now.call
+            → IsInCourse (visible_in pool.old parent.now) e call
             (served_state_in pool.old self.old) l
             → IsServedShort (visible_in pool.old parent.now) e l
             (served_state_in pool.new self.new) }
@@ -164,7 +177,70 @@ impl ServedInstance {
         ensures moves { Moves pool.old pool.new (holders_of self.old) (holders_of self.new) }
         ensures kept { IsServedInPool pool.new self.new }
     {
-        let mut lent = self.lend(parent, pool);
-        lent.break_off(halt.call.connection);
+        let mut lent = Lent {
+            alloc: *self.connections.allocator(),
+            parent,
+            pool,
+            instance: &mut self.instance,
+            connections: &mut self.connections,
+        };
+        lent.break_off(call.connection);
+    }
+
+    /// Bytes come on the connection at this place.
+    fn receive_at(
+        &mut self,
+        parent: &View,
+        pool: &mut Pool,
+        place: usize,
+        number: u32,
+        bytes: Vec<u8>,
+    ) -> Result<Begun, EventRefusal> {
+        let mut lent = Lent {
+            alloc: *self.connections.allocator(),
+            parent,
+            pool: &mut *pool,
+            instance: &mut self.instance,
+            connections: &mut self.connections,
+        };
+        match lent.receive_until(place, number, bytes) {
+            Err(_) => {
+                lent.break_off(number);
+                Err(EventRefusal::NoMemory)
+            }
+            Ok(halt) => self.come_to(parent, pool, number, halt),
+        }
+    }
+
+    /// An event on a connection came to where it stops, or all of its bytes were read: then the jobs
+    /// start for which there is a slot, and all is put that can be.
+    fn come_to(
+        &mut self,
+        parent: &View,
+        pool: &mut Pool,
+        number: u32,
+        halt: Option<Halt>,
+    ) -> Result<Begun, EventRefusal> {
+        if let Some(halt) = halt {
+            release_all(pool, &mut self.connections);
+            return Ok(Begun::Halts(halt));
+        }
+        let mut lent = Lent {
+            alloc: *self.connections.allocator(),
+            parent,
+            pool: &mut *pool,
+            instance: &mut self.instance,
+            connections: &mut self.connections,
+        };
+        match lent.start(number) {
+            Err(_) => {
+                lent.break_off(number);
+                Err(EventRefusal::NoMemory)
+            }
+            Ok(orders) => {
+                self.pump(pool);
+                Ok(Begun::Done(orders))
+            }
+        }
     }
 }

@@ -17,18 +17,10 @@ use tree_calls::{TreeReading, begin_tree};
 
 /// What a call reads before it is answered, as far as it has come. It holds no reference, so that
 /// other work may come between its steps.
+#[derive(Drop)]
 pub enum CallReading {
     /// The list of the tree that a `GetTree` asks for.
     Tree(TreeReading),
-}
-
-// Written out, so that each exit of a function that owns one has one call.
-impl Drop for CallReading {
-    fn drop(self) {
-        match self {
-            CallReading::Tree(tree) => drop(tree),
-        }
-    }
 }
 
 impl CallReading {

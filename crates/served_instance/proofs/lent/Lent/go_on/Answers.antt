@@ -11,7 +11,7 @@ use Rattle.served_instance.proofs.Lends.{still_lent, went_trans}
 use Rattle.served_instance.proofs.lent.Lent.go_on.Goals as goal
 
 pub happen-requires : goal.happen-requires
-happen-requires c = record { short = tt; lent = c.requires.lent; brings = c.requires.read }
+happen-requires c = record { short = tt; lent = c.requires.lent; read = c.requires.read }
 
 pub returns-in_err-happen-clause-memory : goal.returns-in_err-happen-clause-memory
 returns-in_err-happen-clause-memory c =

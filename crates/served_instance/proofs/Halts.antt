@@ -121,6 +121,13 @@ next_comes texts others c s0 s os0 os ns event what h d there e =
     (comes_trans texts others others s0 s s os0 os ns (due_left c) (due_left c) (first_left (call_event_on c event) (due_left c)) h
     (popped_comes others c s os ns event d there))
 
+-- it is the request's end, before which it stops
+pub due_halts : (texts others : SourceTexts) (c : ℕ) (id : CallId) (s0 s : InstanceState) (os0 ns : List OpenConnection)
+    (what : CallEventValue) → ComesBy texts s0 os0 others s ns (due_left c) (first_left what (due_left c)) → what ≡ end id →
+    ComesBy texts s0 os0 others s ns (due_left c) (due_behind c id)
+due_halts texts others c id s0 s os0 ns what h is =
+    subst (λ (x : CallEventValue). ComesBy texts s0 os0 others s ns (due_left c) (first_left x (due_left c))) is h
+
 -- ---- and then all that was received
 
 -- behind all events of a list stands what they make

@@ -240,25 +240,27 @@ pub starts_stand : {E : Type 0} (x : Result (Vec Order Global) E) (c : ℕ) (b d
     OnOk x (state_in d.pool d.instance ≡ state_after_change (Settles (steps_shown turn.steps.items)) (state_in b.pool b.instance)) →
     IfOk x (λ orders. orders ≡ turn.orders) → IfOk x (StartsJobs c b d)
 starts_stand (Err e) c b d turn lent ready t gives done same = tt
-starts_stand (Ok orders) c b d turn lent ready t gives done same = λ bytes l jobs rest came.
-    let s = state_in b.pool b.instance in
-    let ss = steps_shown turn.steps.items in
-    let m = after_bytes_on c bytes l in
-    let all : map (reply_shown b.pool) turn.replies.items ≡ (answer m.state start_jobs).replies =
-    ready.replies ∙ ap (λ (t : InstanceState). replies_on c (answer t start_jobs).replies) came.state
-    ∙ told_alone c bytes l jobs rest in
-    let own : state_in d.pool d.instance ≡ state_after s start_jobs =
-    done ∙ ap (λ (ys : List StepValue). state_after_change (Settles ys) s) ready.steps in
-    let after : lent_state d ≡ state_after m.state start_jobs =
-    beside_at b d (state_after s start_jobs) t.parent t.moves lent own
-    ∙ seeing_after (visible_in b.pool b.parent) s start_jobs refl
-    ∙ ap (λ (t : InstanceState). state_after t start_jobs) came.state in (
+starts_stand (Ok orders) c b d turn lent ready t gives done same = record {
+  stands = λ bytes l jobs rest came.
+      let s = state_in b.pool b.instance in
+      let m = after_bytes_on c bytes l in
+      let all : map (reply_shown b.pool) turn.replies.items ≡ (answer m.state start_jobs).replies =
+      ready.replies ∙ ap (λ (t : InstanceState). replies_on c (answer t start_jobs).replies) came.state
+      ∙ told_alone c bytes l jobs rest in
+      let own : state_in d.pool d.instance ≡ state_after s start_jobs =
+      done ∙ ap (λ (ys : List StepValue). state_after_change (Settles ys) s) ready.steps in
+      let after : lent_state d ≡ state_after m.state start_jobs =
+      beside_at b d (state_after s start_jobs) t.parent t.moves lent own
+      ∙ seeing_after (visible_in b.pool b.parent) s start_jobs refl
+      ∙ ap (λ (t : InstanceState). state_after t start_jobs) came.state in
       turns start_jobs d.parent b.pool d.pool d.instance b.connections d.connections turn.replies.items m came.connections gives
-          t.texts all after,
-      orders_are s start_jobs ss (state_in d.pool d.instance).jobs turn.orders orders same ready.orders ready.steps
-          (ap (λ (t : InstanceState). t.jobs) done)
-          ∙ ap (λ (t : InstanceState). map Some (orders_at t start_jobs)) came.state,
-    )
+      t.texts all after;
+  are_those = λ bytes l came.
+      let s = state_in b.pool b.instance in
+      orders_are s start_jobs (steps_shown turn.steps.items) (state_in d.pool d.instance).jobs turn.orders orders same ready.orders
+      ready.steps (ap (λ (t : InstanceState). t.jobs) done)
+      ∙ ap (λ (t : InstanceState). map Some (orders_at t start_jobs)) came.state;
+}
 
 pub starts_cut : (c : ℕ) (bytes : List ℕ) (a b d : LentValue) → HaveCome c bytes a b → GoesOn b d → KeepsApart c a d →
     state_in d.pool d.instance ≡ state_in b.pool b.instance → IsCut (received c bytes) a d
@@ -270,6 +272,16 @@ starts_cut c bytes a b d h goes apart same = record {
       subst (λ (s : InstanceState). IsCutShort (bytes_events c bytes l) l.state s) (sym still) (all_done c bytes l);
   others = apart.others;
   finds = apart.finds;
+}
+
+-- the bytes came, and the jobs started
+pub whole_done : (c : ℕ) (bytes : List ℕ) (a b d : LentValue) (orders : Vec Order Global) → HaveCome c bytes a b → StartsJobs c b d orders →
+    IsDone (received c bytes) a d orders
+whole_done c bytes a b d orders h starts = record {
+  acts = λ l rest st.
+      let first : IsInstanceWithin l.state = subst IsInstanceWithin st.state (within_seeing a h.lent) in
+      starts.stands bytes l first.jobs rest (h.acts l st);
+  orders = λ l st. starts.are_those bytes l (h.acts l st);
 }
 
 pub starts_within : {T E : Type 0} (x : Result T E) (s t : InstanceState) (ss : List StepValue) → IsInstanceWithin s →

@@ -18,16 +18,19 @@ use Rattle.server_events.specs.Events.{LoneEvent, received}
 use Rattle.served_instance.specs.declared.courses.Front.{Front}
 use Rattle.served_instance.specs.declared.courses.Front.TheVariants.{Nothing, Taken, Halts}
 use Rattle.served_instance.specs.declared.courses.Halt.{Halt}
+use Rattle.served_instance.specs.declared.courses.Reached.{Reached}
+use Rattle.served_instance.specs.declared.courses.Reached.TheVariants.{Ended, Stopped}
 use Rattle.grpc_sending.specs.StoredSending.{SourceTexts}
 use Rattle.blob_pool.specs.Slots.{text_at}
 use Rattle.served_instance.specs.declared.open_connection.OpenConnection.{OpenConnection}
-use Rattle.served_instance.specs.Acts.{ActsIn, LentStands, StandsBy, after_rest_on, unread_at}
+use Rattle.served_instance.specs.Acts.{ActsIn, IsDone, LentStands, StandsBy, after_rest_on, unread_at}
 use Rattle.served_instance.specs.Connections.{open_ones, with_closed}
 use Rattle.served_instance.specs.Events.{bytes_events, due_events, rest_events}
 use Rattle.served_instance.specs.Lent.{LentValue, lent_state}
 use Rattle.served_instance.specs.Lone.{LoneInstance, after_bytes_on, after_call_event, after_due_on, effect_of, lone_at_moment, orders_of_what}
 use Rattle.served_instance.specs.Refusals.{refusal_of}
 use Rattle.served_instance.specs.Short.{IsCutShort}
+use Rattle.served_instance.specs.Turns.{GoesApart}
 use Rattle.served_instance.specs.StandsFor.{AreSeen, SeenConnection, ServedState}
 
 -- ---- what is left
@@ -115,13 +118,37 @@ ReadsOrHalts c a b Taken =
 ReadsOrHalts c a b (Halts h) = ComesTo a b (unread_left c) (left_behind c h.call) × IsHalt c h
 
 -- behind the bytes of an event the jobs start for which there is a slot
-abbrev pub StartsJobs : ℕ → LentValue → LentValue → Vec Order Global → Type 0
-StartsJobs c a b orders =
-    (bytes : List ℕ) (l : LoneInstance) → AreJobs l.state.jobs → WatchAtRest l.state →
-    LentStands a (after_bytes_on c bytes l) →
-    LentStands b (effect_of (received c bytes) l)
+pub record StartsJobs (c : ℕ) (a b : LentValue) (orders : Vec Order Global) : Type 0 where
+  pub stands : (bytes : List ℕ) (l : LoneInstance) → AreJobs l.state.jobs → WatchAtRest l.state →
+      LentStands a (after_bytes_on c bytes l) → LentStands b (effect_of (received c bytes) l)
+  pub are_those : (bytes : List ℕ) (l : LoneInstance) → LentStands a (after_bytes_on c bytes l) →
+      AreOrders (state_in b.pool b.instance).jobs orders.items
+      (orders_of_what (received c bytes) l)
+
+-- an event of these bytes was carried out to its end, or stopped
+abbrev pub ActsOrHalts : ℕ → List ℕ → LentValue → LentValue → Reached → Type 0
+ActsOrHalts c bytes a b (Ended orders) = IsDone (received c bytes) a b orders
+ActsOrHalts c bytes a b (Stopped h) =
+    ComesTo a b (bytes_left c bytes) (left_behind c h.call) × IsHalt c h × GoesApart c a b
+
+-- .. that had stopped before this request's end
+abbrev pub FinishesOrHalts : CallId → LentValue → LentValue → Reached → Type 0
+FinishesOrHalts id a b (Ended orders) =
+    (bytes : List ℕ) (l k : LoneInstance) → AreJobs l.state.jobs → WatchAtRest l.state →
+    LentStands a k → IsRestOf (bytes_left id.connection bytes) (left_behind id.connection id) l k →
+    LentStands b (effect_of (received id.connection bytes) l)
     × AreOrders (state_in b.pool b.instance).jobs orders.items
-    (orders_of_what (received c bytes) l)
+    (orders_of_what (received id.connection bytes) l)
+FinishesOrHalts id a b (Stopped h) =
+    ComesTo a b (left_behind id.connection id) (left_behind id.connection h.call)
+    × IsHalt id.connection h
+
+-- memory was refused in the midst of what is left
+abbrev pub FinishCut : CallId → LentValue → LentValue → Type 0
+FinishCut id a b =
+    (bytes : List ℕ) (l k : LoneInstance) → LentStands a k →
+    IsRestOf (bytes_left id.connection bytes) (left_behind id.connection id) l k →
+    IsCutShort (bytes_events id.connection bytes l) l.state (lent_state b)
 
 -- ---- what is kept meanwhile
 

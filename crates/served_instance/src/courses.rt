@@ -6,11 +6,12 @@ ghost use Rattle.instance_core.specs.Readings.{IsRead};
 ghost use Rattle.instance_core.specs.Shown.{event_shown};
 ghost use Rattle.instance_core.specs.Slots.{state_in};
 ghost use Rattle.instance_core.specs.State.{seen};
+ghost use Rattle.server_events.specs.Events.{received};
 ghost use Rattle.served_instance.specs.Acts.{unread_at};
-ghost use Rattle.served_instance.specs.Courses.{GoesOrHalts, HaltsAt, IsHalt, ReadsOrHalts, StartsJobs, bytes_left, due_behind, due_left, left_behind, unread_left};
-ghost use Rattle.served_instance.specs.Cuts.{CutsShort};
+ghost use Rattle.served_instance.specs.Courses.{ActsOrHalts, FinishCut, FinishesOrHalts, GoesOrHalts, HaltsAt, IsHalt, ReadsOrHalts, StartsJobs, bytes_left, due_behind, due_left, left_behind, unread_left};
+ghost use Rattle.served_instance.specs.Cuts.{CutsShort, IsCut};
 ghost use Rattle.served_instance.specs.Events.{bytes_events, due_events, rest_events};
-ghost use Rattle.served_instance.specs.Lent.{IsLent, IsSameLoan, lent_state, lent_value};
+ghost use Rattle.served_instance.specs.Lent.{GoesOn, IsLent, IsSameLoan, lent_state, lent_value};
 ghost use Rattle.served_instance.specs.Present.{IsPlaceOf};
 ghost use Rattle.served_instance.specs.Turns.{GoesApart};
 
@@ -37,6 +38,15 @@ pub(crate) enum Front {
     Taken,
     /// A frame was taken, and what it brings to calls was carried out up to here.
     Halts(Halt),
+}
+
+/// How far an event of received bytes came.
+#[derive(Drop)]
+pub(crate) enum Reached {
+    /// To its end, with these orders.
+    Ended(Vec<Order>),
+    /// Up to here.
+    Stopped(Halt),
 }
 
 impl<'a> Lent<'a> {
@@ -187,5 +197,51 @@ impl<'a> Lent<'a> {
     {
         let turn = self.instance.ready_starts(self.alloc, number)?;
         self.settle(turn)
+    }
+
+    /// Bytes come on the connection at this place, and then the jobs start for which there is a
+    /// slot, unless the event stops before a request's end.
+    pub(crate) fn act_until(
+        &mut self,
+        place: usize,
+        number: u32,
+        bytes: Vec<u8>,
+    ) -> Result<Reached, AllocError>
+        requires there { IsPlaceOf number place self.old.connections.now.items }
+        requires lent { IsLent (lent_value self.old) }
+        ensures acts { IfOk result (ActsOrHalts number bytes.items
+            (lent_value self.old) (lent_value self.new)) }
+        ensures cut { OnErr result (IsCut (received number bytes.items)
+            (lent_value self.old) (lent_value self.new)) }
+        ensures goes { GoesOn (lent_value self.old) (lent_value self.new) }
+        ensures same { IsSameLoan self.old self.new }
+    {
+        if let Some(halt) = self.receive_until(place, number, bytes)? {
+            return Ok(Reached::Stopped(halt));
+        }
+        let orders = self.start(number)?;
+        Ok(Reached::Ended(orders))
+    }
+
+    /// The request of a call ends before which an event stopped, and the event goes on to its end, or
+    /// up to another request's.
+    pub(crate) fn finish_until(
+        &mut self,
+        call: CallId,
+        read: Option<CallReading>,
+    ) -> Result<Reached, AllocError>
+        requires lent { IsLent (lent_value self.old) }
+        requires read { IfSome read (IsRead (seen (lent_state (lent_value self.old)))) }
+        ensures acts { IfOk result (FinishesOrHalts call
+            (lent_value self.old) (lent_value self.new)) }
+        ensures cut { OnErr result (FinishCut call (lent_value self.old) (lent_value self.new)) }
+        ensures went { GoesApart call.connection (lent_value self.old) (lent_value self.new) }
+        ensures same { IsSameLoan self.old self.new }
+    {
+        if let Some(halt) = self.go_on(call, read)? {
+            return Ok(Reached::Stopped(halt));
+        }
+        let orders = self.start(call.connection)?;
+        Ok(Reached::Ended(orders))
     }
 }

@@ -7,25 +7,23 @@ ghost use Rattle.instance_core.specs.Readings.{IsRead};
 ghost use Rattle.instance_core.specs.Slots.{state_in};
 ghost use Rattle.instance_core.specs.Turns.{AreOrders};
 ghost use Rattle.server_events.specs.Events.{LoneEvent};
-ghost use Rattle.server_events.specs.Shown.{event_value};
 ghost use Rattle.served_instance.specs.Courses.{IsInCourse};
 ghost use Rattle.served_instance.specs.Lone.{LoneInstance};
-ghost use Rattle.served_instance.specs.Pieces.{ForDone, ForHalt};
+ghost use Rattle.served_instance.specs.Pieces.{ForDone, ForHalt, bytes_at};
 ghost use Rattle.served_instance.specs.Ranges.{AreTidy};
 ghost use Rattle.served_instance.specs.Refusals.{IsRefusalOutcome, lone_orders, lone_step, refusal_of};
 ghost use Rattle.served_instance.specs.Short.{IsServedShort};
 ghost use Rattle.served_instance.specs.Slots.{IsServedBeside, IsServedInPool, holders_of, served_state_in};
 ghost use Rattle.served_instance.specs.StandsFor.{AreSettled, IsServedInstance};
 
-use super::{ServedInstance, accept};
-use crate::courses::Halt;
+use super::{ServedInstance, place_if_open};
+use crate::courses::{Halt, Reached};
 use crate::lent::Lent;
 use crate::refusal::EventRefusal;
 use crate::release::release_all;
 use blob_pool::Pool;
 use instance_core::{CallId, CallReading, Order};
 use instance_view::View;
-use server_events::{Event, What};
 
 /// What came of an event that was begun, or gone on with.
 #[derive(Drop)]
@@ -37,45 +35,52 @@ pub enum Begun {
 }
 
 impl ServedInstance {
-    /// Takes an event as `step` does, but stops before a request ends whose call reads much. Then
-    /// it is gone on with by `go_on`, once what the call reads is over: the reading goes on by
-    /// itself, and changes nothing. No other event of this instance may come before, and no text of
-    /// it or of its parent may change.
+    /// Bytes come on a connection at a moment: this is taken as `step` takes such an event, but stops
+    /// before a request ends whose call reads much. Then it is gone on with by `go_on`, once what
+    /// the call reads is over: the reading goes on by itself, and changes nothing. No other event of
+    /// this instance may come before, and no text of it or of its parent may change.
     pub fn begin(
         &mut self,
         parent: &View,
         pool: &mut Pool,
-        event: Event,
+        moment: u64,
+        number: u32,
+        bytes: Vec<u8>,
     ) -> Result<Begun, EventRefusal>
         requires kept { IsServedInPool pool.old self.old }
         requires beside { IsServedBeside pool.old parent.now self.old }
         requires tidy { AreTidy self.old.connections }
-        ensures outcome { (l : LoneInstance) →
+        ensures outcome { let e = bytes_at moment number bytes.items in (l : LoneInstance) →
             IsServedInstance (served_state_in pool.old self.old) l
-            → IsRefusalOutcome result (refusal_of (event_value event).lone l) }
+            → IsRefusalOutcome result (refusal_of e l) }
         // Carried out to its end, it is what `step` makes of it.
-        ensures stands { IfOk result (ForDone (λ orders. (l : LoneInstance) →
+        ensures stands { let e = bytes_at moment number bytes.items in
+            IfOk result (ForDone (λ orders. (l : LoneInstance) →
             IsServedInstance (served_state_in pool.old self.old) l
             → IsServedInstance (served_state_in pool.new self.new)
-            (lone_step (visible_in pool.old parent.now) (event_value event).lone l))) }
-        ensures settled { IfOk result (ForDone (λ orders. (l : LoneInstance) →
-            IsServedInstance (served_state_in pool.old self.old) l → AreSettled
-            (lone_step (visible_in pool.old parent.now) (event_value event).lone l))) }
-        ensures orders { IfOk result (ForDone (λ orders. (l : LoneInstance) →
+            (lone_step (visible_in pool.old parent.now) e l))) }
+        ensures settled { let e = bytes_at moment number bytes.items in
+            IfOk result (ForDone (λ orders. (l : LoneInstance) →
+            IsServedInstance (served_state_in pool.old self.old) l
+            → AreSettled (lone_step (visible_in pool.old parent.now) e l))) }
+        ensures orders { let e = bytes_at moment number bytes.items in
+            IfOk result (ForDone (λ orders. (l : LoneInstance) →
             IsServedInstance (served_state_in pool.old self.old) l
             → AreOrders (state_in pool.new self.new.instance).jobs orders.items
-            (lone_orders (visible_in pool.old parent.now) (event_value event).lone l))) }
+            (lone_orders (visible_in pool.old parent.now) e l))) }
         // Where it stopped, what is kept leads to that.
-        ensures course { IfOk result (ForHalt (λ halt. (l : LoneInstance) →
+        ensures course { let e = bytes_at moment number bytes.items in
+            IfOk result (ForHalt (λ halt. (l : LoneInstance) →
             IsServedInstance (served_state_in pool.old self.old) l
-            → IsInCourse (visible_in pool.old parent.now) (event_value event).lone halt.call
+            → IsInCourse (visible_in pool.old parent.now) e halt.call
             (served_state_in pool.new self.new) l)) }
-        ensures read { IfOk result (ForHalt (λ halt.
-            IsRead (visible_in pool.new self.new.instance.view ++ visible_in pool.new parent.now)
+        ensures read { IfOk result (ForHalt (λ halt. IsRead
+            (visible_in pool.new self.new.instance.view ++ visible_in pool.new parent.now)
             halt.reading)) }
-        ensures short { result ≡ Err EventRefusal.NoMemory → (l : LoneInstance)
+        ensures short { let e = bytes_at moment number bytes.items in
+            result ≡ Err EventRefusal.NoMemory → (l : LoneInstance)
             → IsServedInstance (served_state_in pool.old self.old) l
-            → IsServedShort (visible_in pool.old parent.now) (event_value event).lone l
+            → IsServedShort (visible_in pool.old parent.now) e l
             (served_state_in pool.new self.new) }
         ensures here { result ≢ Err EventRefusal.NoSuchInstance }
         ensures refused { IfErr result (λ refusal. refusal ≢ EventRefusal.NoMemory
@@ -84,19 +89,27 @@ impl ServedInstance {
         ensures moves { Moves pool.old pool.new (holders_of self.old) (holders_of self.new) }
         ensures kept { IsServedInPool pool.new self.new }
     {
-        let place = match accept(&self.instance, &self.connections, &event) {
+        if moment < self.instance.moment() {
+            return Err(EventRefusal::TimeWentBack);
+        }
+        let place = match place_if_open(&self.connections, number) {
             Ok(place) => place,
             Err(refusal) => return Err(refusal),
         };
-        match event.what {
-            What::Bytes(number, bytes) => {
-                self.instance.set_moment(event.moment);
-                self.receive_at(parent, pool, place, number, bytes)
+        self.instance.set_moment(moment);
+        let mut lent = Lent {
+            alloc: *self.connections.allocator(),
+            parent,
+            pool: &mut *pool,
+            instance: &mut self.instance,
+            connections: &mut self.connections,
+        };
+        match lent.act_until(place, number, bytes) {
+            Err(_) => {
+                lent.break_off(number);
+                Err(EventRefusal::NoMemory)
             }
-            what => {
-                let orders = self.step(parent, pool, Event { what, ..event })?;
-                Ok(Begun::Done(orders))
-            }
+            Ok(reached) => Ok(self.come_to(pool, reached)),
         }
     }
 
@@ -154,12 +167,12 @@ impl ServedInstance {
             instance: &mut self.instance,
             connections: &mut self.connections,
         };
-        match lent.go_on(call, read) {
+        match lent.finish_until(call, read) {
             Err(_) => {
                 lent.break_off(number);
                 Err(EventRefusal::NoMemory)
             }
-            Ok(next) => self.come_to(parent, pool, number, next),
+            Ok(reached) => Ok(self.come_to(pool, reached)),
         }
     }
 
@@ -187,59 +200,17 @@ impl ServedInstance {
         lent.break_off(call.connection);
     }
 
-    /// Bytes come on the connection at this place.
-    fn receive_at(
-        &mut self,
-        parent: &View,
-        pool: &mut Pool,
-        place: usize,
-        number: u32,
-        bytes: Vec<u8>,
-    ) -> Result<Begun, EventRefusal> {
-        let mut lent = Lent {
-            alloc: *self.connections.allocator(),
-            parent,
-            pool: &mut *pool,
-            instance: &mut self.instance,
-            connections: &mut self.connections,
-        };
-        match lent.receive_until(place, number, bytes) {
-            Err(_) => {
-                lent.break_off(number);
-                Err(EventRefusal::NoMemory)
-            }
-            Ok(halt) => self.come_to(parent, pool, number, halt),
-        }
-    }
-
-    /// An event on a connection came to where it stops, or all of its bytes were read: then the jobs
-    /// start for which there is a slot, and all is put that can be.
-    fn come_to(
-        &mut self,
-        parent: &View,
-        pool: &mut Pool,
-        number: u32,
-        halt: Option<Halt>,
-    ) -> Result<Begun, EventRefusal> {
-        if let Some(halt) = halt {
-            release_all(pool, &mut self.connections);
-            return Ok(Begun::Halts(halt));
-        }
-        let mut lent = Lent {
-            alloc: *self.connections.allocator(),
-            parent,
-            pool: &mut *pool,
-            instance: &mut self.instance,
-            connections: &mut self.connections,
-        };
-        match lent.start(number) {
-            Err(_) => {
-                lent.break_off(number);
-                Err(EventRefusal::NoMemory)
-            }
-            Ok(orders) => {
+    /// An event came to its end, and then all is put that can be; or it stopped, and what no range is
+    /// left of is released.
+    fn come_to(&mut self, pool: &mut Pool, reached: Reached) -> Begun {
+        match reached {
+            Reached::Ended(orders) => {
                 self.pump(pool);
-                Ok(Begun::Done(orders))
+                Begun::Done(orders)
+            }
+            Reached::Stopped(halt) => {
+                release_all(pool, &mut self.connections);
+                Begun::Halts(halt)
             }
         }
     }

@@ -36,8 +36,10 @@ use Rattle.server_events.specs.Events.{received, tick, ended}
 use Rattle.served_instance.specs.declared.open_connection.OpenConnection.{OpenConnection}
 use Rattle.served_instance.specs.Acts.{ActsIn, FindAlike, IsDone, LentStands, StandsBy}
 use Rattle.served_instance.specs.Connections.{LoneConnection, open_ones}
-use Rattle.served_instance.specs.Courses.{StartsJobs}
-use Rattle.served_instance.specs.Cuts.{IsCut, KeepsApart}
+use Rattle.served_instance.specs.Courses.{FinishCut, FinishesOrHalts, StartsJobs, left_behind}
+use Rattle.instance_core.specs.declared.event.CallId.{CallId}
+use Rattle.served_instance.specs.declared.courses.Reached.TheVariants.{Ended}
+use Rattle.served_instance.specs.Cuts.{CutsShort, IsCut, KeepsApart}
 use Rattle.served_instance.specs.Events.{bytes_events}
 use Rattle.served_instance.specs.Lent.{LentValue, GoesOn, IsKept, IsLent, lent_slots, lent_state}
 use Rattle.served_instance.specs.Lone.{LoneInstance, after_bytes_on, after_call_event}
@@ -283,6 +285,25 @@ whole_done c bytes a b d orders h starts = record {
       starts.stands bytes l first.jobs rest (h.acts l st);
   orders = λ l st. starts.are_those bytes l (h.acts l st);
 }
+
+-- what was left of an event was done, and the jobs started
+pub finish_done : (id : CallId) (a b d : LentValue) (orders : Vec Order Global) →
+    ActsIn a b (left_behind id.connection id).makes → StartsJobs id.connection b d orders → FinishesOrHalts id a d (Ended orders)
+finish_done id a b d orders acts starts = λ bytes l k jobs rest st left.
+    let m : LentStands b (after_bytes_on id.connection bytes l) = subst (λ (x : LoneInstance). LentStands b x) left.makes (acts k st) in
+    (starts.stands bytes l jobs rest m, starts.are_those bytes l m)
+
+pub finish_cut : (id : CallId) (a b : LentValue) → CutsShort a b (left_behind id.connection id).brings → FinishCut id a b
+finish_cut id a b cut = λ bytes l k st left. left.cuts (lent_state b) (cut k st)
+
+pub finish_unstarted : (id : CallId) (a b d : LentValue) → IsLent b → ActsIn a b (left_behind id.connection id).makes → GoesOn b d →
+    state_in d.pool d.instance ≡ state_in b.pool b.instance → FinishCut id a d
+finish_unstarted id a b d lent acts goes same = λ bytes l k st left.
+    let c = id.connection in
+    let m : LentStands b (after_bytes_on c bytes l) = subst (λ (x : LoneInstance). LentStands b x) left.makes (acts k st) in
+    let still : lent_state d ≡ (after_bytes_on c bytes l).state =
+    beside_at b d (state_in b.pool b.instance) goes.parent goes.moves lent same ∙ m.state in
+    subst (λ (s : InstanceState). IsCutShort (bytes_events c bytes l) l.state s) (sym still) (all_done c bytes l)
 
 pub starts_within : {T E : Type 0} (x : Result T E) (s t : InstanceState) (ss : List StepValue) → IsInstanceWithin s →
     ss ≡ steps_at s start_jobs → OnOk x (t ≡ state_after_change (Settles ss) s) → OnErr x (t ≡ s) → IsInstanceWithin t

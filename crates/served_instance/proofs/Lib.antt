@@ -32,6 +32,7 @@ mod Answered
 mod CutEvents
 mod BrokenOff
 mod Halts
+mod InCourse
 pub mod Losses
 mod RoomLeft
 pub mod JobChanges

@@ -82,7 +82,7 @@ made_short texts what rest s u os made = λ l st. inl (subst (λ (x : InstanceSt
 pub popped_comes : (texts : SourceTexts) (c : ℕ) (s : InstanceState) (os ns : List OpenConnection) (event : CallEvent) →
     BecomesAt c os ns (Pops (Some event)) → (present_at c os ≡ None → ⊥) →
     ComesBy texts s os texts s ns (due_left c) (first_left (call_event_on c event) (due_left c))
-popped_comes texts c s os ns event d there l st = elim (kept_or_not (present_at c os)) [
+popped_comes texts c s os ns event d there = λ l st. elim (kept_or_not (present_at c os)) [
   | inl none ↦ absurd (there none)
   | inr some ↦
       let t = changed_there c os ns (Pops (Some event)) some.0 some.1 d in
@@ -241,7 +241,7 @@ taken_comes texts c s os ns v w l p h e o alive (inr t) st =
 
 pub frame_comes : (texts : SourceTexts) (c : ℕ) (s : InstanceState) (os ns : List OpenConnection) → BecomesAt c os ns (ReadsFrame true) →
     (present_at c os ≡ None → ⊥) → ComesBy texts s os texts s ns (unread_left c) (then_unread c (due_left c))
-frame_comes texts c s os ns d there l st = elim (kept_or_not (present_at c os)) [
+frame_comes texts c s os ns d there = λ l st. elim (kept_or_not (present_at c os)) [
   | inl none ↦ absurd (there none)
   | inr some ↦
       let x = changed_there c os ns (ReadsFrame true) some.0 some.1 d in

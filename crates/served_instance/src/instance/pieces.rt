@@ -1,13 +1,16 @@
 //! An event that is carried out in pieces.
 
-ghost use Rattle.std.specs.Prelude.{◌≡◌, ◌≢◌, ◌++◌, IfErr, IfOk, IfSome, Err};
+ghost use Rattle.std.specs.Prelude.{◌≡◌, ◌≢◌, ◌++◌, ℕ, List, IfErr, IfOk, IfSome, Err};
 ghost use Rattle.blob_pool.specs.Moves.{Moves};
 ghost use Rattle.instance_core.specs.InstanceViewShown.{visible_in};
 ghost use Rattle.instance_core.specs.Readings.{IsRead};
 ghost use Rattle.instance_core.specs.Slots.{state_in};
 ghost use Rattle.instance_core.specs.Turns.{AreOrders};
 ghost use Rattle.server_events.specs.Events.{LoneEvent};
+ghost use Rattle.std.specs.Result.{result_err};
+ghost use Rattle.served_instance.specs.Acts.{slots_of};
 ghost use Rattle.served_instance.specs.Courses.{IsInCourse};
+ghost use Rattle.served_instance.specs.Present.{IsPlaceOf, refusal_by};
 ghost use Rattle.served_instance.specs.Lone.{LoneInstance};
 ghost use Rattle.served_instance.specs.Pieces.{ForDone, ForHalt, bytes_at};
 ghost use Rattle.served_instance.specs.Ranges.{AreTidy};
@@ -17,12 +20,14 @@ ghost use Rattle.served_instance.specs.Slots.{IsServedBeside, IsServedInPool, ho
 ghost use Rattle.served_instance.specs.StandsFor.{AreSettled, IsServedInstance};
 
 use super::{ServedInstance, place_if_open};
+use crate::broken::Broken;
 use crate::courses::{Halt, Reached};
 use crate::lent::Lent;
+use crate::open_connection::OpenConnection;
 use crate::refusal::EventRefusal;
 use crate::release::release_all;
 use blob_pool::Pool;
-use instance_core::{CallId, CallReading, Order};
+use instance_core::{CallId, CallReading, Instance, Order};
 use instance_view::View;
 
 /// What came of an event that was begun, or gone on with.
@@ -32,6 +37,24 @@ pub enum Begun {
     Done(Vec<Order>),
     /// It stopped before a request ends whose call reads much.
     Halts(Halt),
+}
+
+/// Where the connection stands on which bytes come at a moment, or why they are refused: as `accept`
+/// says it of such an event.
+fn accept_bytes(
+    instance: &Instance,
+    connections: &[OpenConnection],
+    moment: u64,
+    number: u32,
+) -> Result<usize, EventRefusal>
+    ensures refused { (bytes : List ℕ) → result_err result
+        ≡ refusal_by (bytes_at moment number bytes) (slots_of instance.now connections.now) }
+    ensures place { IfOk result (λ place. IsPlaceOf number place connections.now) }
+{
+    if moment < instance.moment() {
+        return Err(EventRefusal::TimeWentBack);
+    }
+    place_if_open(connections, number)
 }
 
 impl ServedInstance {
@@ -89,10 +112,7 @@ impl ServedInstance {
         ensures moves { Moves pool.old pool.new (holders_of self.old) (holders_of self.new) }
         ensures kept { IsServedInPool pool.new self.new }
     {
-        if moment < self.instance.moment() {
-            return Err(EventRefusal::TimeWentBack);
-        }
-        let place = match place_if_open(&self.connections, number) {
+        let place = match accept_bytes(&self.instance, &self.connections, moment, number) {
             Ok(place) => place,
             Err(refusal) => return Err(refusal),
         };
@@ -106,7 +126,7 @@ impl ServedInstance {
         };
         match lent.act_until(place, number, bytes) {
             Err(_) => {
-                lent.break_off(number);
+                lent.break_off_by(Broken::One(number));
                 Err(EventRefusal::NoMemory)
             }
             Ok(reached) => Ok(self.come_to(pool, reached)),
@@ -169,7 +189,7 @@ impl ServedInstance {
         };
         match lent.finish_until(call, read) {
             Err(_) => {
-                lent.break_off(number);
+                lent.break_off_by(Broken::One(number));
                 Err(EventRefusal::NoMemory)
             }
             Ok(reached) => Ok(self.come_to(pool, reached)),
@@ -197,7 +217,7 @@ impl ServedInstance {
             instance: &mut self.instance,
             connections: &mut self.connections,
         };
-        lent.break_off(call.connection);
+        lent.break_off_by(Broken::One(call.connection));
     }
 
     /// An event came to its end, and then all is put that can be; or it stopped, and what no range is

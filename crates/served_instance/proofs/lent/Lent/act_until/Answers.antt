@@ -13,9 +13,9 @@ start-orders-requires c = record {
   lent = still_lent (lent_value c.args.self.now) (lent_value c.receive_until.new.self) c.requires.lent c.receive_until.ensures.went.goes;
 }
 
-pub returns-in_err-receive_until-clause-cut : goal.returns-in_err-receive_until-clause-cut
-returns-in_err-receive_until-clause-cut c = on_err c.from_residual.result (record {
-  acts = c.in_err-receive_until.ensures.memory;
+pub returns-in_err-halt-clause-cut : goal.returns-in_err-halt-clause-cut
+returns-in_err-halt-clause-cut c = on_err c.from_residual.result (record {
+  acts = c.in_err-halt.ensures.memory;
   others = c.receive_until.ensures.went.apart.others;
   finds = c.receive_until.ensures.went.apart.finds;
 })
@@ -29,8 +29,8 @@ returns-in-Some c =
     let b = lent_value c.receive_until.new.self in
     let went = c.receive_until.ensures.went in
     let came = subst (λ (o : Option Halt). GoesOrHalts a b (bytes_left n bytes) (left_behind n) o) c.in-Some.is
-    c.in_ok-receive_until.ensures.came in
-    let halt = subst (λ (o : Option Halt). IfSome o (IsHalt n)) c.in-Some.is c.in_ok-receive_until.ensures.halt in
+    c.in_ok-halt.ensures.came in
+    let halt = subst (λ (o : Option Halt). IfSome o (IsHalt n)) c.in-Some.is c.in_ok-halt.ensures.halt in
     record {
       acts = (came, halt, went);
       cut = tt;
@@ -53,7 +53,7 @@ returns c =
       lent = c.requires.lent;
       goes = went.goes;
       acts = subst (λ (o : Option Halt). GoesOrHalts a b (bytes_left n bytes) (left_behind n) o) c.in_default.is
-          c.in_ok-receive_until.ensures.came;
+          c.in_ok-halt.ensures.came;
     } in
     let d = lent_value c.start-orders.new.self in
     let later = c.start-orders.ensures.went in
@@ -79,7 +79,7 @@ returns-in_err-orders-clause-cut c =
       lent = c.requires.lent;
       goes = went.goes;
       acts = subst (λ (o : Option Halt). GoesOrHalts a b (bytes_left n bytes) (left_behind n) o) c.in_default.is
-          c.in_ok-receive_until.ensures.came;
+          c.in_ok-halt.ensures.came;
     } in
     let d = lent_value c.start-orders.new.self in
     let later = c.start-orders.ensures.went in

@@ -13,14 +13,14 @@ start-orders-requires c = record {
   lent = still_lent (lent_value c.args.self.now) (lent_value c.go_on.new.self) c.requires.lent c.go_on.ensures.went.goes;
 }
 
-pub returns-in_err-go_on-clause-cut : goal.returns-in_err-go_on-clause-cut
-returns-in_err-go_on-clause-cut c =
+pub returns-in_err-halt-clause-cut : goal.returns-in_err-halt-clause-cut
+returns-in_err-halt-clause-cut c =
     let id = c.args.call in
     let n = id.connection in
     let a = lent_value c.args.self.now in
     let b = lent_value c.go_on.new.self in
     let went = c.go_on.ensures.went in
-    on_err c.from_residual.result (finish_cut id a b c.in_err-go_on.ensures.memory)
+    on_err c.from_residual.result (finish_cut id a b c.in_err-halt.ensures.memory)
 
 -- it stopped again
 pub returns-in-Some : goal.returns-in-Some
@@ -30,8 +30,8 @@ returns-in-Some c =
     let a = lent_value c.args.self.now in
     let b = lent_value c.go_on.new.self in
     let went = c.go_on.ensures.went in
-    let came = subst (λ (o : Option Halt). GoesOrHalts a b (left_behind n id) (left_behind n) o) c.in-Some.is c.in_ok-go_on.ensures.went_on in
-    let halt = subst (λ (o : Option Halt). IfSome o (IsHalt n)) c.in-Some.is c.in_ok-go_on.ensures.halt in
+    let came = subst (λ (o : Option Halt). GoesOrHalts a b (left_behind n id) (left_behind n) o) c.in-Some.is c.in_ok-halt.ensures.went_on in
+    let halt = subst (λ (o : Option Halt). IfSome o (IsHalt n)) c.in-Some.is c.in_ok-halt.ensures.halt in
     record {
       acts = (came, halt);
       cut = tt;
@@ -50,7 +50,7 @@ returns c =
     let a = lent_value c.args.self.now in
     let b = lent_value c.go_on.new.self in
     let went = c.go_on.ensures.went in
-    let acts = subst (λ (o : Option Halt). GoesOrHalts a b (left_behind n id) (left_behind n) o) c.in_default.is c.in_ok-go_on.ensures.went_on in
+    let acts = subst (λ (o : Option Halt). GoesOrHalts a b (left_behind n id) (left_behind n) o) c.in_default.is c.in_ok-halt.ensures.went_on in
     let d = lent_value c.start-orders.new.self in
     let later = c.start-orders.ensures.went in
     record {
@@ -71,7 +71,7 @@ returns-in_err-orders-clause-cut c =
     let a = lent_value c.args.self.now in
     let b = lent_value c.go_on.new.self in
     let went = c.go_on.ensures.went in
-    let acts = subst (λ (o : Option Halt). GoesOrHalts a b (left_behind n id) (left_behind n) o) c.in_default.is c.in_ok-go_on.ensures.went_on in
+    let acts = subst (λ (o : Option Halt). GoesOrHalts a b (left_behind n id) (left_behind n) o) c.in_default.is c.in_ok-halt.ensures.went_on in
     let d = lent_value c.start-orders.new.self in
     let later = c.start-orders.ensures.went in
     on_err c.from_residual-in_err-orders.result

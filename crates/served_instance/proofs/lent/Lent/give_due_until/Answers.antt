@@ -129,8 +129,8 @@ returns c =
     }
 
 -- it stopped
-pub returns-in_ok-halt_at-in-Some : goal.returns-in_ok-halt_at-in-Some
-returns-in_ok-halt_at-in-Some c =
+pub returns-in-Some-2-clause-due : goal.returns-in-Some-2-clause-due
+returns-in-Some-2-clause-due c =
     let n = c.args.number in
     let a = lent_value c.args.self.now in
     let d = lent_value c.events.self in
@@ -142,20 +142,36 @@ returns-in_ok-halt_at-in-Some c =
     let what = event_shown c.call_event_on-event.result in
     let next = next_comes (text_at a.pool) (text_at d.pool) n (lent_state a) (lent_state d) a.connections d.connections f.connections
     c.in-Some.event what c.events.invariant.comes popped.becomes popped.there c.call_event_on-event.ensures.event in
-    let s = c.events.invariant.same in
-    let h = c.in-Some-halt.halt in
-    let halts : HaltsAt what h = ? in
-    record {
-      due = due_halts (text_at a.pool) (text_at d.pool) n h.call (lent_state a) (lent_state d) a.connections f.connections what next halts.ends;
-      unread = popped_unread n d.connections f.connections (Some c.in-Some.event) popped.becomes ∙ c.events.invariant.unread;
-      halt = ?;
-      memory = tt;
-      went = popped.went;
-      same = record { pool = s.pool; instance = s.instance; connections = s.connections };
-    }
+    let h = c.in-Some-2.halt in
+    let halts : HaltsAt what h = subst (λ (o : Option Halt). IfSome o (HaltsAt what)) c.in-Some-2.is c.in_ok-halt.ensures in
+    due_halts (text_at a.pool) (text_at d.pool) n h.call (lent_state a) (lent_state d) a.connections f.connections what next halts.ends
 
-pub returns-in_err-halt_at-clause-memory : goal.returns-in_err-halt_at-clause-memory
-returns-in_err-halt_at-clause-memory c =
+pub returns-in-Some-2-clause-unread : goal.returns-in-Some-2-clause-unread
+returns-in-Some-2-clause-unread c =
+    let n = c.args.number in
+    let a = lent_value c.args.self.now in
+    let d = lent_value c.events.self in
+    let all = c.events.self.connections.now in
+    let f = with_connections d (written all.len all.items c.pop_event.new.connections) in
+    let popped = stepped_through n c.args.place all.len (Pops (Some c.in-Some.event)) a d c.deref_mut.result.now c.pop_event.new.connections
+    c.deref_mut.ensures.value (grind (arith, common_steps)) c.pop_event.auto.connections c.pop_event.ensures.steps
+    (c.in-Some.ensures.event n) c.events.invariant.went c.requires.there in
+    popped_unread n d.connections f.connections (Some c.in-Some.event) popped.becomes ∙ c.events.invariant.unread
+
+pub returns-in-Some-2-clause-went : goal.returns-in-Some-2-clause-went
+returns-in-Some-2-clause-went c =
+    let n = c.args.number in
+    let a = lent_value c.args.self.now in
+    let d = lent_value c.events.self in
+    let all = c.events.self.connections.now in
+    let f = with_connections d (written all.len all.items c.pop_event.new.connections) in
+    let popped = stepped_through n c.args.place all.len (Pops (Some c.in-Some.event)) a d c.deref_mut.result.now c.pop_event.new.connections
+    c.deref_mut.ensures.value (grind (arith, common_steps)) c.pop_event.auto.connections c.pop_event.ensures.steps
+    (c.in-Some.ensures.event n) c.events.invariant.went c.requires.there in
+    popped.went
+
+pub returns-in_err-halt-clause-memory : goal.returns-in_err-halt-clause-memory
+returns-in_err-halt-clause-memory c =
     let n = c.args.number in
     let a = lent_value c.args.self.now in
     let d = lent_value c.events.self in
@@ -167,13 +183,13 @@ returns-in_err-halt_at-clause-memory c =
     let what = event_shown c.call_event_on-event.result in
     let next = next_comes (text_at a.pool) (text_at d.pool) n (lent_state a) (lent_state d) a.connections d.connections f.connections
     c.in-Some.event what c.events.invariant.comes popped.becomes popped.there c.call_event_on-event.ensures.event in
-    on_err c.from_residual-in_err-halt_at.result
+    on_err c.from_residual.result
     (comes_short (text_at a.pool) (text_at d.pool) (lent_state a) (lent_state d) (lent_state d) a.connections f.connections (due_left n)
     (first_left what (due_left n)) next
     (nothing_cut (text_at d.pool) (lent_state d) f.connections (first_left what (due_left n)).brings))
 
-pub returns-in_err-halt_at-clause-went : goal.returns-in_err-halt_at-clause-went
-returns-in_err-halt_at-clause-went c =
+pub returns-in_err-halt-clause-went : goal.returns-in_err-halt-clause-went
+returns-in_err-halt-clause-went c =
     let n = c.args.number in
     let a = lent_value c.args.self.now in
     let d = lent_value c.events.self in

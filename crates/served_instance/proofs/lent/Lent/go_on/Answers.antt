@@ -72,8 +72,8 @@ give_due_until-requires c =
     subst (λ (xs : List OpenConnection). IsPlaceOf n c.in-Some.place xs) c.deref.ensures.value (sym c.find.ensures ∙ c.in-Some.is) in
     record { there = at; lent = still_lent a b c.requires.lent went.goes }
 
-pub returns-in_err-give_due_until-clause-memory : goal.returns-in_err-give_due_until-clause-memory
-returns-in_err-give_due_until-clause-memory c =
+pub returns-in_err-next-clause-memory : goal.returns-in_err-next-clause-memory
+returns-in_err-next-clause-memory c =
     let id = c.args.call in
     let n = id.connection in
     let a = lent_value c.args.self.now in
@@ -84,12 +84,12 @@ returns-in_err-give_due_until-clause-memory c =
     c.in_ok-happen.ensures.happened in
     let went = c.happen.ensures.went n refl in
     let u = lent_state (lent_value c.give_due_until.new.self) in
-    on_err c.from_residual-in_err-give_due_until.result
+    on_err c.from_residual-in_err-next.result
     (comes_short (text_at a.pool) (text_at b.pool) (lent_state a) (lent_state b) u a.connections b.connections (left_behind n id) rest first
-    (then_short (text_at b.pool) n (due_left n) (lent_state b) u b.connections c.in_err-give_due_until.ensures.memory))
+    (then_short (text_at b.pool) n (due_left n) (lent_state b) u b.connections c.in_err-next.ensures.memory))
 
-pub returns-in_err-give_due_until-clause-went : goal.returns-in_err-give_due_until-clause-went
-returns-in_err-give_due_until-clause-went c =
+pub returns-in_err-next-clause-went : goal.returns-in_err-next-clause-went
+returns-in_err-next-clause-went c =
     let id = c.args.call in
     let n = id.connection in
     let a = lent_value c.args.self.now in
@@ -102,8 +102,8 @@ returns-in_err-give_due_until-clause-went c =
     went_trans n a b (lent_value c.give_due_until.new.self) went c.give_due_until.ensures.went
 
 -- it stopped
-pub returns-in-Some-next : goal.returns-in-Some-next
-returns-in-Some-next c =
+pub returns-in-Some-2 : goal.returns-in-Some-2
+returns-in-Some-2 c =
     let id = c.args.call in
     let n = id.connection in
     let a = lent_value c.args.self.now in
@@ -114,9 +114,9 @@ returns-in-Some-next c =
     c.in_ok-happen.ensures.happened in
     let went = c.happen.ensures.went n refl in
     let d = lent_value c.give_due_until.new.self in
-    let due = subst (λ (o : Option Halt). GoesOrHalts b d (due_left n) (due_behind n) o) c.in-Some-next.is c.in_ok-give_due_until.ensures.due in
-    let halt = subst (λ (o : Option Halt). IfSome o (IsHalt n)) c.in-Some-next.is c.in_ok-give_due_until.ensures.halt in
-    let next = c.in-Some-next.next.call in
+    let due = subst (λ (o : Option Halt). GoesOrHalts b d (due_left n) (due_behind n) o) c.in-Some-2.is c.in_ok-next.ensures.due in
+    let halt = subst (λ (o : Option Halt). IfSome o (IsHalt n)) c.in-Some-2.is c.in_ok-next.ensures.halt in
+    let next = c.in-Some-2.next.call in
     record {
       went_on = comes_trans (text_at a.pool) (text_at b.pool) (text_at d.pool) (lent_state a) (lent_state b) (lent_state d) a.connections
           b.connections d.connections (left_behind n id) rest (left_behind n next) first
@@ -163,7 +163,7 @@ returns c =
     let went = c.happen.ensures.went n refl in
     let d = lent_value c.give_due_until.new.self in
     let g = lent_value c.read_until.new.self in
-    let due = subst (λ (o : Option Halt). GoesOrHalts b d (due_left n) (due_behind n) o) c.in_default.is c.in_ok-give_due_until.ensures.due in
+    let due = subst (λ (o : Option Halt). GoesOrHalts b d (due_left n) (due_behind n) o) c.in_default-2.is c.in_ok-next.ensures.due in
     let comes = comes_trans (text_at a.pool) (text_at b.pool) (text_at d.pool) (lent_state a) (lent_state b) (lent_state d) a.connections
     b.connections d.connections (left_behind n id) rest (unread_left n) first
     (done_comes (text_at b.pool) (text_at d.pool) n (lent_state b) (lent_state d) b.connections d.connections due) in

@@ -34,8 +34,8 @@ give_due_until-requires c =
     c.read_frame.auto.connections c.read_frame.ensures.steps c.requires.there c.requires.lent.kept in
     record { there = went.apart.places n ∙ c.requires.there; lent = still_lent a f c.requires.lent went.goes }
 
-pub returns-in_err-give_due_until-clause-memory : goal.returns-in_err-give_due_until-clause-memory
-returns-in_err-give_due_until-clause-memory c =
+pub returns-in_err-halt-clause-memory : goal.returns-in_err-halt-clause-memory
+returns-in_err-halt-clause-memory c =
     let n = c.args.number in
     let a = lent_value c.args.self.now in
     let all = c.args.self.now.connections.now in
@@ -47,14 +47,14 @@ returns-in_err-give_due_until-clause-memory c =
     (λ at. subst (λ (b : Bool). BecomesAt n xs ns (ReadsFrame b)) c.if-branch.true (c.in_ok-read_frame.ensures.read n at))
     (went_here n a c.requires.lent.kept) c.requires.there in
     let u = lent_state (lent_value c.give_due_until.new.self) in
-    on_err c.from_residual-in_err-give_due_until.result
+    on_err c.from_residual-in_err-halt.result
     (comes_short (text_at a.pool) (text_at a.pool) (lent_state a) (lent_state a) u a.connections f.connections
     (unread_left n) (then_unread n (due_left n))
     (frame_comes (text_at a.pool) n (lent_state a) a.connections f.connections read.becomes read.there)
-    (then_short (text_at a.pool) n (due_left n) (lent_state a) u f.connections c.in_err-give_due_until.ensures.memory))
+    (then_short (text_at a.pool) n (due_left n) (lent_state a) u f.connections c.in_err-halt.ensures.memory))
 
-pub returns-in_err-give_due_until-clause-went : goal.returns-in_err-give_due_until-clause-went
-returns-in_err-give_due_until-clause-went c =
+pub returns-in_err-halt-clause-went : goal.returns-in_err-halt-clause-went
+returns-in_err-halt-clause-went c =
     let n = c.args.number in
     let a = lent_value c.args.self.now in
     let all = c.args.self.now.connections.now in
@@ -88,7 +88,7 @@ returns-in-None c =
     (λ at. subst (λ (b : Bool). BecomesAt n xs ns (ReadsFrame b)) c.if-branch.true (c.in_ok-read_frame.ensures.read n at))
     (went_here n a c.requires.lent.kept) c.requires.there in
     let g = lent_value c.give_due_until.new.self in
-    let due = subst (λ (o : Option Halt). GoesOrHalts f g (due_left n) (due_behind n) o) c.in-None.is c.in_ok-give_due_until.ensures.due in
+    let due = subst (λ (o : Option Halt). GoesOrHalts f g (due_left n) (due_behind n) o) c.in-None.is c.in_ok-halt.ensures.due in
     let comes = comes_trans (text_at a.pool) (text_at a.pool) (text_at g.pool) (lent_state a) (lent_state a) (lent_state g) a.connections
     f.connections g.connections (unread_left n) (then_unread n (due_left n)) (unread_left n)
     (frame_comes (text_at a.pool) n (lent_state a) a.connections f.connections read.becomes read.there)
@@ -96,7 +96,7 @@ returns-in-None c =
     record {
       reads = (
         comes,
-        read_fewer n a.connections f.connections g.connections read.becomes read.there c.in_ok-give_due_until.ensures.unread,
+        read_fewer n a.connections f.connections g.connections read.becomes read.there c.in_ok-halt.ensures.unread,
       );
       memory = tt;
       went = went_trans n a f g read.went c.give_due_until.ensures.went;
@@ -120,8 +120,8 @@ returns-in-Some c =
     (λ at. subst (λ (b : Bool). BecomesAt n xs ns (ReadsFrame b)) c.if-branch.true (c.in_ok-read_frame.ensures.read n at))
     (went_here n a c.requires.lent.kept) c.requires.there in
     let g = lent_value c.give_due_until.new.self in
-    let due = subst (λ (o : Option Halt). GoesOrHalts f g (due_left n) (due_behind n) o) c.in-Some.is c.in_ok-give_due_until.ensures.due in
-    let halt = subst (λ (o : Option Halt). IfSome o (IsHalt n)) c.in-Some.is c.in_ok-give_due_until.ensures.halt in
+    let due = subst (λ (o : Option Halt). GoesOrHalts f g (due_left n) (due_behind n) o) c.in-Some.is c.in_ok-halt.ensures.due in
+    let halt = subst (λ (o : Option Halt). IfSome o (IsHalt n)) c.in-Some.is c.in_ok-halt.ensures.halt in
     let id = c.in-Some.halt.call in
     let comes = comes_trans (text_at a.pool) (text_at a.pool) (text_at g.pool) (lent_state a) (lent_state a) (lent_state g) a.connections
     f.connections g.connections (unread_left n) (then_unread n (due_left n)) (left_behind n id)

@@ -8,8 +8,8 @@ use Rattle.served_instance.proofs.Lends.{apart_trans, goes_trans, still_lent}
 use Rattle.served_instance.proofs.Turning.{HaveCome, starts_cut, whole_done}
 use Rattle.served_instance.proofs.lent.Lent.act_until.Goals as goal
 
-pub start-orders-requires : goal.start-orders-requires
-start-orders-requires c = record {
+pub start-requires : goal.start-requires
+start-requires c = record {
   lent = still_lent (lent_value c.args.self.now) (lent_value c.receive_until.new.self) c.requires.lent c.receive_until.ensures.went.goes;
 }
 
@@ -55,16 +55,16 @@ returns c =
       acts = subst (λ (o : Option Halt). GoesOrHalts a b (bytes_left n bytes) (left_behind n) o) c.in_default.is
           c.in_ok-halt.ensures.came;
     } in
-    let d = lent_value c.start-orders.new.self in
-    let later = c.start-orders.ensures.went in
+    let d = lent_value c.start.new.self in
+    let later = c.start.ensures.went in
     record {
       acts = whole_done n bytes a b d c.in_ok-orders.orders come c.in_ok-orders.ensures.started;
       cut = tt;
       goes = goes_trans a b d went.goes later.goes;
       same = record {
-        pool = c.start-orders.ensures.same.pool ∙ c.receive_until.ensures.same.pool;
-        instance = c.start-orders.ensures.same.instance ∙ c.receive_until.ensures.same.instance;
-        connections = c.start-orders.ensures.same.connections ∙ c.receive_until.ensures.same.connections;
+        pool = c.start.ensures.same.pool ∙ c.receive_until.ensures.same.pool;
+        instance = c.start.ensures.same.instance ∙ c.receive_until.ensures.same.instance;
+        connections = c.start.ensures.same.connections ∙ c.receive_until.ensures.same.connections;
       };
     }
 
@@ -81,8 +81,8 @@ returns-in_err-orders-clause-cut c =
       acts = subst (λ (o : Option Halt). GoesOrHalts a b (bytes_left n bytes) (left_behind n) o) c.in_default.is
           c.in_ok-halt.ensures.came;
     } in
-    let d = lent_value c.start-orders.new.self in
-    let later = c.start-orders.ensures.went in
+    let d = lent_value c.start.new.self in
+    let later = c.start.ensures.went in
     on_err c.from_residual-in_err-orders.result
     (starts_cut n bytes a b d come later.goes (apart_trans n a b d went.apart later.apart) c.in_err-orders.ensures.err)
 
@@ -93,4 +93,4 @@ returns-in_err-orders-clause-goes c =
     let a = lent_value c.args.self.now in
     let b = lent_value c.receive_until.new.self in
     let went = c.receive_until.ensures.went in
-    goes_trans a b (lent_value c.start-orders.new.self) went.goes c.start-orders.ensures.went.goes
+    goes_trans a b (lent_value c.start.new.self) went.goes c.start.ensures.went.goes

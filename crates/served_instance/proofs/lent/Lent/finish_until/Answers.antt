@@ -8,8 +8,8 @@ use Rattle.served_instance.proofs.Lends.{still_lent, went_trans}
 use Rattle.served_instance.proofs.Turning.{finish_cut, finish_done, finish_unstarted}
 use Rattle.served_instance.proofs.lent.Lent.finish_until.Goals as goal
 
-pub start-orders-requires : goal.start-orders-requires
-start-orders-requires c = record {
+pub start-requires : goal.start-requires
+start-requires c = record {
   lent = still_lent (lent_value c.args.self.now) (lent_value c.go_on.new.self) c.requires.lent c.go_on.ensures.went.goes;
 }
 
@@ -51,16 +51,16 @@ returns c =
     let b = lent_value c.go_on.new.self in
     let went = c.go_on.ensures.went in
     let acts = subst (λ (o : Option Halt). GoesOrHalts a b (left_behind n id) (left_behind n) o) c.in_default.is c.in_ok-halt.ensures.went_on in
-    let d = lent_value c.start-orders.new.self in
-    let later = c.start-orders.ensures.went in
+    let d = lent_value c.start.new.self in
+    let later = c.start.ensures.went in
     record {
       acts = finish_done id a b d c.in_ok-orders.orders acts c.in_ok-orders.ensures.started;
       cut = tt;
       went = went_trans n a b d went later;
       same = record {
-        pool = c.start-orders.ensures.same.pool ∙ c.go_on.ensures.same.pool;
-        instance = c.start-orders.ensures.same.instance ∙ c.go_on.ensures.same.instance;
-        connections = c.start-orders.ensures.same.connections ∙ c.go_on.ensures.same.connections;
+        pool = c.start.ensures.same.pool ∙ c.go_on.ensures.same.pool;
+        instance = c.start.ensures.same.instance ∙ c.go_on.ensures.same.instance;
+        connections = c.start.ensures.same.connections ∙ c.go_on.ensures.same.connections;
       };
     }
 
@@ -72,8 +72,8 @@ returns-in_err-orders-clause-cut c =
     let b = lent_value c.go_on.new.self in
     let went = c.go_on.ensures.went in
     let acts = subst (λ (o : Option Halt). GoesOrHalts a b (left_behind n id) (left_behind n) o) c.in_default.is c.in_ok-halt.ensures.went_on in
-    let d = lent_value c.start-orders.new.self in
-    let later = c.start-orders.ensures.went in
+    let d = lent_value c.start.new.self in
+    let later = c.start.ensures.went in
     on_err c.from_residual-in_err-orders.result
     (finish_unstarted id a b d (still_lent a b c.requires.lent went.goes) acts later.goes c.in_err-orders.ensures.err)
 
@@ -84,4 +84,4 @@ returns-in_err-orders-clause-went c =
     let a = lent_value c.args.self.now in
     let b = lent_value c.go_on.new.self in
     let went = c.go_on.ensures.went in
-    went_trans n a b (lent_value c.start-orders.new.self) went c.start-orders.ensures.went
+    went_trans n a b (lent_value c.start.new.self) went c.start.ensures.went

@@ -143,7 +143,7 @@ returns-in-Some-2-clause-due c =
     let next = next_comes (text_at a.pool) (text_at d.pool) n (lent_state a) (lent_state d) a.connections d.connections f.connections
     c.in-Some.event what c.events.invariant.comes popped.becomes popped.there c.call_event_on-event.ensures.event in
     let h = c.in-Some-2.halt in
-    let halts : HaltsAt what h = subst (λ (o : Option Halt). IfSome o (HaltsAt what)) c.in-Some-2.is c.in_ok-halt.ensures in
+    let halts : HaltsAt what h = subst (λ (o : Option Halt). IfSome o (HaltsAt what)) c.in-Some-2.is c.in_ok-halt.ensures.halts in
     due_halts (text_at a.pool) (text_at d.pool) n h.call (lent_state a) (lent_state d) a.connections f.connections what next halts.ends
 
 pub returns-in-Some-2-clause-unread : goal.returns-in-Some-2-clause-unread

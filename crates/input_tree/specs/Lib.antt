@@ -12,3 +12,4 @@ pub use Rattle.numerals.specs.Number
 pub mod Taking
 pub mod Work
 pub mod Listings
+pub mod TreeReadings

@@ -13,6 +13,7 @@ mod pages;
 mod taken;
 mod taking;
 mod tree;
+mod tree_reading;
 mod uses;
 
 pub use directory::{MOST_DIRECTORY_BYTES, check, text_or_none};
@@ -24,4 +25,5 @@ pub use nodes::{Node, digest_written, is_name};
 pub use pages::{MOST_PAGE_BYTES, MOST_PAGE_DIRECTORIES};
 pub use taken::{ChildTaken, DirectoryTaken, FileTaken, LinkTaken};
 pub use tree::{PageAsked, get_tree};
+pub use tree_reading::TreeReading;
 pub use uses::use_all;

@@ -120,6 +120,13 @@ impl Listing {
         }
     }
 
+    /// The root of the tree.
+    pub fn root(&self) -> Digest
+        ensures { result ≡ self.now.root }
+    {
+        self.root
+    }
+
     /// Whether the list has all directories of the tree.
     pub fn is_over(&self) -> bool
         ensures { result ≡ is_over self.now }

@@ -13,6 +13,7 @@ pub mod Writes
 pub mod Answer
 pub mod Shown
 pub mod Carries
+pub mod Readings
 pub mod ReplyHolders
 pub mod Turns
 pub mod Named

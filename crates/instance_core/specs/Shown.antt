@@ -37,7 +37,7 @@ abbrev pub event_shown : CallEvent → CallEventValue
 event_shown (Code.Head id method) = head id method
 event_shown (Code.Message id bytes) = message id bytes.items
 event_shown (Code.Fault id refusal) = fault id refusal
-event_shown (Code.End id) = end id
+event_shown (Code.End id read) = end id
 event_shown (Code.Cancel id) = cancel id
 event_shown Code.Tick = tick
 

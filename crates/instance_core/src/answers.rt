@@ -1,6 +1,6 @@
 //! What an instance answers to each event of a call.
 
-ghost use Rattle.std.specs.Prelude.{◌<◌, ◌≤◌, ◌≡◌, ◌+◌, ◌^◌, ℕ, Some, OnErr};
+ghost use Rattle.std.specs.Prelude.{◌<◌, ◌≤◌, ◌≡◌, ◌+◌, ◌^◌, ◌++◌, ℕ, Some, IfSome, OnErr};
 ghost use Rattle.blob_pool.specs.Slots.{Slots, count_at};
 ghost use Rattle.blob_pool.specs.Moves.{Moves};
 ghost use Rattle.instance_view.specs.Shown.{holders, visible_in};
@@ -11,9 +11,11 @@ ghost use Rattle.job_queue.specs.Jobs.{Jobs};
 ghost use Rattle.execution.specs.Job.{JobValue};
 ghost use Rattle.instance_core.specs.Carries.{contents_beside, contents_holders, number_watched, settled};
 ghost use Rattle.instance_core.specs.Shown.{Gives, ChangesCalls, Makes, contents_state};
+ghost use Rattle.instance_core.specs.Readings.{IsRead};
 ghost use Rattle.instance_core.specs.ReplyHolders.{result_holders};
 
 use crate::answer::Answer;
+use crate::call_reading::CallReading;
 use crate::calls::{Call, Calls, Progress, let_go};
 use crate::contents::{Contents, Settings};
 use crate::event::{CallId, Reply};
@@ -189,21 +191,23 @@ fn settle(calls: &mut Calls, id: CallId, method: Method, watched: Option<u64>, r
     watch_or_end(calls, id, watched);
 }
 
-/// A request is at its end.
+/// A request is at its end. What was read for it before is not read again.
 pub fn on_end(
-    alloc: Global,
     settings: &Settings,
     contents: &mut Contents,
     parent: &View,
     pool: &mut Pool,
     calls: &mut Calls,
     id: CallId,
+    read: Option<CallReading>,
 ) -> Result<Vec<Reply>, AllocError>
     requires kept { AreContentsInPool settings.now pool.old contents.old }
     requires beside { (k : ℕ) → contents_holders contents.old k + holders parent.now k
         ≤ count_at pool.old k }
     requires room { (k : ℕ) → count_at pool.old k + 2 ^ 64 < 2 ^ 127 }
     requires slots { contents.old.executions.slots ≡ settings.now.slots }
+    requires reads { IfSome read (IsRead
+        (visible_in pool.old contents.old.view ++ visible_in pool.old parent.now)) }
     ensures replies { let seen = visible_in pool.old parent.now in
         let old = contents_beside settings.now seen pool.old contents.old calls.old in
         Gives pool.new result (request_end_answer old id (call_at id calls.old)).replies }
@@ -217,6 +221,7 @@ pub fn on_end(
     ensures slots { contents.new.executions.slots ≡ contents.old.executions.slots }
     ensures calls { AreInCourse calls.new }
 {
+    let alloc = settings.alloc;
     let Some(call) = calls.find(id) else {
         return Ok(Vec::new(alloc));
     };
@@ -224,7 +229,7 @@ pub fn on_end(
         Progress::Waits => finish(alloc, calls, id, Err(Refusal::NoMessage)),
         Progress::Has(message) => {
             let method = call.method();
-            let outcome = carry_out(alloc, settings, contents, parent, pool, method, message);
+            let outcome = carry_out(settings, contents, parent, pool, method, message, read);
             let watched = watched_in(&outcome);
             let replies = reply_to_request(alloc, pool, id, outcome)?;
             settle(calls, id, method, watched, &replies);

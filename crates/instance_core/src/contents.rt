@@ -4,6 +4,7 @@ use action_cache::{DroppedResults, Results};
 use execution::Executions;
 use instance_limits::Limits;
 use instance_view::{Dropped, View};
+use std::alloc::Global;
 use uploads::Uploads;
 
 /// What an instance is configured as, and the moment of what happens to it.
@@ -15,6 +16,7 @@ pub struct Settings {
     pub limits: Limits,
     /// In milliseconds.
     pub moment: u64,
+    pub alloc: Global,
 }
 
 /// The texts of an instance, its unfinished uploads, its results of actions, and its executions.

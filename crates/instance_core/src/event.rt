@@ -1,5 +1,6 @@
 //! What happens to calls, and what is answered.
 
+use crate::call_reading::CallReading;
 use blob_pool::Kept;
 use digest::Digest;
 use rpc::{Method, Refusal};
@@ -21,8 +22,8 @@ pub enum CallEvent {
     Message(CallId, Vec<u8>),
     /// The data of the request are no sequence of messages.
     Fault(CallId, Refusal),
-    /// The request is at its end, after whole messages.
-    End(CallId),
+    /// The request is at its end, after whole messages; and what was read for it before.
+    End(CallId, Option<CallReading>),
     /// Nobody waits for the call any more.
     Cancel(CallId),
     /// Time passes.

@@ -1,12 +1,13 @@
 //! One instance: its settings, what it keeps, and the calls in course.
 
-ghost use Rattle.std.specs.Prelude.{◌≡◌, ◌≤◌, ◌+◌, ◌^◌, ℕ, List, [], is_some, length, map, option_map, OnOk, OnErr, IfOk};
+ghost use Rattle.std.specs.Prelude.{◌≡◌, ◌≤◌, ◌+◌, ◌^◌, ℕ, List, [], is_some, length, map, option_map, OnOk, OnErr, IfOk, IfSome};
 ghost use Rattle.std.specs.List.{AllByRecursion};
 ghost use Rattle.blob_pool.specs.Slots.{Slots, count_at};
 ghost use Rattle.blob_pool.specs.Moves.{Moves};
 ghost use Rattle.instance_core.specs.Calls.{IsShortEvent, cancel, tick, start_jobs, end_late_jobs, end_job};
 ghost use Rattle.instance_core.specs.Apart.{calls_apart, replies_on, AreRepliesTo};
-ghost use Rattle.instance_core.specs.State.{InstanceState, IsInstanceWithin, new_instance, at_moment, seeing};
+ghost use Rattle.instance_core.specs.State.{InstanceState, IsInstanceWithin, new_instance, at_moment, seeing, seen};
+ghost use Rattle.instance_core.specs.Readings.{BringsRead, IsRead};
 ghost use Rattle.instance_limits.specs.Shown.{limits_value};
 ghost use Rattle.instance_view.specs.Shown.{sizes as total_of};
 ghost use Rattle.instance_view.specs.Visible.{Blob};
@@ -27,6 +28,7 @@ ghost use Rattle.instance_core.specs.Watching.{watched_numbers};
 ghost use Rattle.quota_evict.specs.Within.{most_stored_bytes};
 
 use crate::answers::{on_end, on_fault, on_head, on_message};
+use crate::call_reading::{CallReading, begin_reading};
 use crate::calls::Calls;
 use crate::contents::{Contents, InstanceSizes, Settings};
 use crate::counts::CallCounts;
@@ -121,6 +123,7 @@ impl Instance {
                 slots,
                 limits,
                 moment: 0,
+                alloc,
             },
             contents: Contents {
                 view,
@@ -229,6 +232,8 @@ impl Instance {
         requires short { IsShortEvent (event_shown event) }
         requires kept { IsInstanceInPool pool.old self.old }
         requires beside { IsBeside pool.old parent.now self.old }
+        requires read { BringsRead (seen (state_beside pool.old parent.now self.old))
+            event }
         ensures replies { let old = state_beside pool.old parent.now self.old in
             Gives pool.new result (answer old (event_shown event)).replies }
         ensures changed { let old = state_beside pool.old parent.now self.old in
@@ -255,14 +260,14 @@ impl Instance {
                 message,
             ),
             CallEvent::Fault(id, refusal) => on_fault(alloc, &mut self.calls, id, refusal),
-            CallEvent::End(id) => on_end(
-                alloc,
+            CallEvent::End(id, read) => on_end(
                 &self.settings,
                 &mut self.contents,
                 parent,
                 pool,
                 &mut self.calls,
                 id,
+                read,
             ),
             CallEvent::Cancel(id) => {
                 self.cancel(id);
@@ -272,6 +277,22 @@ impl Instance {
                 self.tick();
                 Ok(Vec::new(alloc))
             }
+        }
+    }
+
+    /// Begins to read what a call needs whose request is at its end, where its method may read
+    /// much. This reads no text.
+    pub fn begin_reading(
+        &self,
+        alloc: Global,
+        pool: &Pool,
+        id: CallId,
+    ) -> Result<Option<CallReading>, AllocError>
+        ensures { (visible : List Blob) → IfOk result (λ begun. IfSome begun (IsRead visible)) }
+    {
+        match self.calls.find(id) {
+            Some(call) => begin_reading(alloc, &self.settings, pool, call),
+            None => Ok(None),
         }
     }
 

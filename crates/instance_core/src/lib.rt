@@ -7,6 +7,7 @@
 
 mod answer;
 mod answers;
+mod call_reading;
 mod calls;
 mod capabilities;
 mod contents;
@@ -25,6 +26,7 @@ mod trees;
 mod turns;
 mod writing;
 
+pub use call_reading::CallReading;
 pub use contents::InstanceSizes;
 pub use counts::{CallCounts, MethodCounts, STATUSES};
 pub use event::{CallEvent, CallId, GivenRange, Reply, ReplyItem};

@@ -1,6 +1,6 @@
 //! What each method but `Write` answers to the one message of its request.
 
-ghost use Rattle.std.specs.Prelude.{◌≡◌, ◌≢◌, ◌+◌, ◌<◌, ◌≤◌, ◌^◌, ℕ};
+ghost use Rattle.std.specs.Prelude.{◌≡◌, ◌≢◌, ◌+◌, ◌<◌, ◌≤◌, ◌^◌, ◌++◌, ℕ, IfSome};
 ghost use Rattle.blob_pool.specs.Slots.{Slots, count_at};
 ghost use Rattle.rpc.specs.declared.method.Method.TheVariants.{FindMissingBlobs, BatchUpdateBlobs, BatchReadBlobs, GetCapabilities, QueryWriteStatus, Write};
 ghost use Rattle.instance_view.specs.Visible.{Blob};
@@ -8,8 +8,10 @@ ghost use Rattle.instance_view.specs.Shown.{visible_in, holders};
 ghost use Rattle.std.specs.Prelude.{List};
 ghost use Rattle.instance_core.specs.Contents.{AreContentsInPool};
 ghost use Rattle.instance_core.specs.Carries.{Carries, CarriesTexts, contents_holders};
+ghost use Rattle.instance_core.specs.Readings.{IsRead};
 
 use crate::answer::{Answer, one_message};
+use crate::call_reading::{CallReading, tree_of};
 use crate::capabilities::get_capabilities;
 use crate::contents::{Contents, Settings};
 use crate::executions::{start_execution, watch_execution};
@@ -128,15 +130,15 @@ fn tell_status(
 
 /// Carries out the one message of a request of the method, beside the texts of the instance's
 /// parent. The messages of a `Write` are carried out as they come, by functions of their own. The
-/// text of a range that is answered is held.
+/// text of a range that is answered is held. What was read before is not read again.
 pub fn carry_out(
-    alloc: Global,
     settings: &Settings,
     contents: &mut Contents,
     parent: &View,
     pool: &mut Pool,
     method: Method,
     message: &[u8],
+    read: Option<CallReading>,
 ) -> Result<Answer, CallError>
     requires kept { AreContentsInPool settings.now pool.old contents.old }
     requires beside { (k : ℕ) → contents_holders contents.old k + holders parent.now k
@@ -144,14 +146,19 @@ pub fn carry_out(
     requires room { (k : ℕ) → count_at pool.old k + 2 ^ 64 < 2 ^ 127 }
     requires slots { contents.old.executions.slots ≡ settings.now.slots }
     requires other { method ≢ Write }
+    requires reads { IfSome read (IsRead
+        (visible_in pool.old contents.old.view ++ visible_in pool.old parent.now)) }
     ensures carried { Carries method settings.now (visible_in pool.old parent.now) message.now
         pool.old contents.old result pool.new contents.new }
 {
+    let alloc = settings.alloc;
     match method {
         Method::FindMissingBlobs => find_blobs(alloc, settings, contents, parent, message),
         Method::BatchUpdateBlobs => update_blobs(alloc, settings, contents, pool, message),
         Method::BatchReadBlobs => read_blobs(alloc, settings, contents, parent, pool, message),
-        Method::GetTree => get_pages(alloc, settings, contents, parent, pool, message),
+        Method::GetTree => {
+            get_pages(alloc, settings, contents, parent, pool, message, tree_of(read))
+        }
         Method::GetActionResult => get_result(alloc, settings, contents, parent, pool, message),
         Method::UpdateActionResult => update_result(alloc, settings, contents, message),
         Method::GetCapabilities => tell_capabilities(alloc, settings, contents, message),

@@ -61,7 +61,7 @@ cut_of xs ys s u e h = subst (λ (es : List CallEventValue). IsCutShort es s u) 
 pub cut_at : (xs : List CallEventValue) (s t u : InstanceState) → s ≡ t → IsCutShort xs t u → IsCutShort xs s u
 cut_at xs s t u e h = subst (λ (x : InstanceState). IsCutShort xs x u) (sym e) h
 
-happened_state : (what : CallEventValue) (l : LoneInstance) → (after_call_event what l).state ≡ state_after l.state what
+pub happened_state : (what : CallEventValue) (l : LoneInstance) → (after_call_event what l).state ≡ state_after l.state what
 happened_state what l = ap (λ (k : LoneInstance). k.state) (happened_is what l)
 
 events_state : (c : ℕ) (es : List CallEvent) (l : LoneInstance) →
@@ -71,7 +71,7 @@ events_state c (e ∷ es) l =
     events_state c es (after_call_event (call_event_on c e) l)
     ∙ ap (after_events (map (call_event_on c) es)) (happened_state (call_event_on c e) l)
 
-due_state : (c : ℕ) (l : LoneInstance) → (after_due_on c l).state ≡ after_events (due_events c l) l.state
+pub due_state : (c : ℕ) (l : LoneInstance) → (after_due_on c l).state ≡ after_events (due_events c l) l.state
 due_state c l = events_state c (due_at c l) (record l { connections = at_open c without_due l.connections })
 
 -- ---- what is due
@@ -82,7 +82,7 @@ pub record IsNextOf (c : ℕ) (event : CallEvent) (l k : LoneInstance) : Type 0 
   pub answered : (u : InstanceState) → IsCutShort (due_events c (after_call_event (call_event_on c event) k))
       (after_call_event (call_event_on c event) k).state u → IsCutShort (due_events c l) l.state u
 
-next_of : (c : ℕ) (event : CallEvent) (rest : List CallEvent) (l : LoneInstance) (p : Past) → open_at c l.connections ≡ Some p →
+pub next_of : (c : ℕ) (event : CallEvent) (rest : List CallEvent) (l : LoneInstance) (p : Past) → open_at c l.connections ≡ Some p →
     p.due ≡ event ∷ rest → IsNextOf c event l (record l { connections = at_open c (with_due rest) l.connections })
 next_of c event rest l p h d =
     let what = call_event_on c event in
@@ -192,7 +192,7 @@ frame_first c f fs end l h =
     (cond-false (is_over c l) l (after_frames_on c fs k) h)
     ∙ append_assoc (frame_events c f l) (events_of_frames c fs k) (end_events c end (after_frames_on c fs k))
 
-frame_cut : (c : ℕ) (f : RawFrame) (later : List RawFrame) (l : LoneInstance) (p : Past) → open_at c l.connections ≡ Some p →
+pub frame_cut : (c : ℕ) (f : RawFrame) (later : List RawFrame) (l : LoneInstance) (p : Past) → open_at c l.connections ≡ Some p →
     has_failed p.history ≡ false → (split CLIENT_PREFACE.now p.text).items ≡ received_raw_frames p.history ++ f ∷ later →
     rest_events c l ≡ frame_events c f l ++ rest_events c (after_frame_on c f l)
 frame_cut c f later l p h alive e =
@@ -235,7 +235,7 @@ over_cut c l p h f =
     ∙ ap (end_events c whole.end) (over_same c fs l over)
     ∙ over_end_none c whole.end l over
 
-fault_cut : (c : ℕ) (e : FrameError) (code : ErrorCode) (l : LoneInstance) (p : Past) → open_at c l.connections ≡ Some p →
+pub fault_cut : (c : ℕ) (e : FrameError) (code : ErrorCode) (l : LoneInstance) (p : Past) → open_at c l.connections ≡ Some p →
     has_failed p.history ≡ false → IsNextFault p e code → rest_events c l ≡ due_events c (fault_met c e code l)
 fault_cut c e code l p h alive next =
     let rr = received_raw_frames p.history in
@@ -245,7 +245,7 @@ fault_cut c e code l p h alive next =
     ∙ cond-false (is_over c l) [] (fault_events c e l (reading_fault e)) (over_is c l p h ∙ alive)
     ∙ ap (fault_events c e l) next.fault
 
-fault_done : (c : ℕ) (e : FrameError) (code : ErrorCode) (l : LoneInstance) (p : Past) → open_at c l.connections ≡ Some p →
+pub fault_done : (c : ℕ) (e : FrameError) (code : ErrorCode) (l : LoneInstance) (p : Past) → open_at c l.connections ≡ Some p →
     has_failed p.history ≡ false → rest_events c (after_due_on c (fault_met c e code l)) ≡ []
 fault_done c e code l p h alive =
     let k = after_due_on c (fault_met c e code l) in

@@ -31,6 +31,8 @@ mod Cut
 mod Answered
 mod CutEvents
 mod BrokenOff
+mod Halts
+mod InCourse
 pub mod Losses
 mod RoomLeft
 pub mod JobChanges

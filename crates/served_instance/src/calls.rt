@@ -5,7 +5,8 @@ ghost use Rattle.instance_core.specs.Calls.{IsShortEvent};
 ghost use Rattle.instance_core.specs.Apart.{calls_apart, IsCallOn};
 ghost use Rattle.instance_core.specs.Shown.{event_shown};
 ghost use Rattle.instance_core.specs.Visible.{Blob};
-ghost use Rattle.instance_core.specs.State.{seeing};
+ghost use Rattle.instance_core.specs.Readings.{BringsRead};
+ghost use Rattle.instance_core.specs.State.{seeing, seen};
 ghost use Rattle.instance_core.specs.Slots.{state_in, holders_of_instance, IsInstanceInPool};
 ghost use Rattle.blob_pool.specs.Slots.{Slots, count_at};
 ghost use Rattle.served_instance.specs.declared.open_connection.OpenConnection.{OpenConnection};
@@ -31,9 +32,10 @@ use std::alloc::AllocError;
 
 impl<'a> Lent<'a> {
     /// Something happens to a call: the instance answers.
-    fn happen(&mut self, event: CallEvent) -> Result<(), AllocError>
+    pub(crate) fn happen(&mut self, event: CallEvent) -> Result<(), AllocError>
         requires short { IsShortEvent (event_shown event) }
         requires lent { IsLent (lent_value self.old) }
+        requires read { BringsRead (seen (lent_state (lent_value self.old))) event }
         ensures happened { OnOk result (ActsIn (lent_value self.old) (lent_value self.new)
             (after_call_event (event_shown event))) }
         ensures rest { OnOk result (Keeps self.old.connections.now.items

@@ -4,6 +4,7 @@
 
 mod broken;
 mod calls;
+mod courses;
 mod held;
 mod instance;
 mod jobs;

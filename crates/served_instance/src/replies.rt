@@ -6,7 +6,10 @@ ghost use Rattle.conn_core.specs.Past.{Past, with_item};
 ghost use Rattle.grpc_sending.specs.StoredSending.{SourceTexts};
 ghost use Rattle.blob_pool.specs.Slots.{count_at};
 ghost use Rattle.blob_pool.specs.Moves.{Moves, no_holders, one_at};
+ghost use Rattle.std.specs.Prelude.{List};
 ghost use Rattle.instance_core.specs.Calls.{IsShortEvent};
+ghost use Rattle.instance_core.specs.Readings.{BringsRead};
+ghost use Rattle.instance_core.specs.Visible.{Blob};
 ghost use Rattle.instance_core.specs.ReplyHolders.{item_holders, items_holders, replies_holders};
 ghost use Rattle.instance_core.specs.Shown.{event_shown};
 ghost use Rattle.conn_core.specs.StandsFor.{OwesRange};
@@ -33,6 +36,7 @@ use std::collections::VecDeque;
 pub(crate) fn call_event_on(connection: u32, event: Seen) -> CallEvent
     ensures event { event_shown result ≡ call_event_on connection event }
     ensures short { IsShortEvent (event_shown result) }
+    ensures unread { (visible : List Blob) → BringsRead visible result }
 {
     match event {
         Seen::Head { stream, method } => CallEvent::Head(CallId { connection, stream }, method),
@@ -40,7 +44,7 @@ pub(crate) fn call_event_on(connection: u32, event: Seen) -> CallEvent
             CallEvent::Message(CallId { connection, stream }, message.into_bytes())
         }
         Seen::Fault { stream, refusal } => CallEvent::Fault(CallId { connection, stream }, refusal),
-        Seen::End { stream } => CallEvent::End(CallId { connection, stream }),
+        Seen::End { stream } => CallEvent::End(CallId { connection, stream }, None),
         Seen::Cancel { stream } => CallEvent::Cancel(CallId { connection, stream }),
     }
 }

@@ -9,3 +9,4 @@ pub use Rattle.input_tree.specs.declared.directory.TheConstants as DirectoryCons
 pub use Rattle.input_tree.specs.declared.listing.TheConstants as ListingConstants
 pub use Rattle.input_tree.specs.declared.pages.TheConstants as PagesConstants
 pub use Rattle.input_tree.specs.Listing
+pub use Rattle.input_tree.specs.TreeReadings

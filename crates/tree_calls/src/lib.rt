@@ -12,9 +12,10 @@ mod laws;
 mod results;
 mod trees;
 
+pub use input_tree::TreeReading;
 pub use laws::{
     complete_results_are_given, pages_given_are_named, pages_joined_are_the_list,
     replies_are_short, results_given_are_complete, results_stay_within, tree_lists_are_whole,
 };
 pub use results::{get_action_result, update_action_result};
-pub use trees::get_tree;
+pub use trees::{begin_tree, get_tree};

@@ -1,9 +1,12 @@
 use Rattle.std.proofs.Common.{◌+◌, sym, subst}
+use Rattle.std.specs.Prelude.{IfSome}
 use Rattle.blob_pool.specs.Moves.{Holders}
 use Rattle.instance_view.specs.Shown.{visible_in, holders}
 use Rattle.execution.specs.InPool.{jobs_in}
 use Rattle.instance_core.specs.Calls.{head, message, fault, end}
-use Rattle.instance_core.specs.Slots.{InstanceSlots, IsBeside, IsInstanceInPool, holders_of_instance, state_in}
+use Rattle.instance_core.specs.Readings.{IsRead}
+use Rattle.instance_core.specs.State.{seen}
+use Rattle.instance_core.specs.Slots.{InstanceSlots, IsBeside, IsInstanceInPool, holders_of_instance, state_beside, state_in}
 use Rattle.instance_core.specs.Shown.{slots_of}
 use Rattle.instance_core.specs.ReplyHolders.{result_holders}
 use Rattle.instance_core.proofs.Events.{event_short, event_within}
@@ -34,6 +37,13 @@ on_end-requires-clause-room c =
     let p = c.args.pool.now in
     let kept = subst (λ (x : InstanceSlots). IsInstanceInPool p x) (sym c.self-in-End.view_is) c.requires.kept in
     room_left p i.settings i.contents i.calls c.self-in-End.invariant.1 (in_order p i.contents.executions.queue kept.within.jobs) kept
+
+pub on_end-requires-clause-reads : goal.on_end-requires-clause-reads
+on_end-requires-clause-reads c =
+    let p = c.args.pool.now in
+    let read = rw c.in-End.is at c.requires.read in
+    subst (λ (x : InstanceSlots). IfSome c.in-End.read (IsRead (seen (state_beside p c.args.parent.now x))))
+    (sym c.self-in-End.view_is) read
 
 pub returns-in-Head-clause-short : goal.returns-in-Head-clause-short
 returns-in-Head-clause-short c =

@@ -6,6 +6,7 @@ use Rattle.blob_pool.specs.Slots.{text_at}
 use Rattle.instance_core.specs.Apart.{IsCallOn}
 use Rattle.instance_core.specs.Calls.{CallEventValue}
 use Rattle.instance_core.specs.Shown.{event_shown}
+use Rattle.instance_core.specs.State.{seen}
 use Rattle.served_instance.specs.declared.open_connection.OpenConnection.{OpenConnection}
 use Rattle.served_instance.specs.Acts.{BecomesAt, Pops, due_count}
 use Rattle.served_instance.specs.Events.{due_events}
@@ -50,7 +51,11 @@ happen-requires c =
     let popped = stepped_through n c.args.place all.len (Pops (Some c.in-Some.event)) a d c.deref_mut.result.now c.pop_event.new.connections
     c.deref_mut.ensures.value (grind (arith, common_steps)) c.pop_event.auto.connections c.pop_event.ensures.steps
     (c.in-Some.ensures.event n) c.events.invariant.went c.requires.there in
-    record { short = c.call_event_on-event.ensures.short; lent = still_lent a f c.requires.lent popped.went.goes }
+    record {
+      short = c.call_event_on-event.ensures.short;
+      lent = still_lent a f c.requires.lent popped.went.goes;
+      read = c.call_event_on-event.ensures.unread (seen (lent_state f));
+    }
 
 pub events-smaller : goal.events-smaller
 events-smaller c =

@@ -13,7 +13,7 @@ pub struct CallId {
 }
 
 /// What happens to a call, or to all of them.
-#[derive(Drop)]
+#[derive(Drop, Debug)]
 pub enum CallEvent {
     /// The call begins.
     Head(CallId, Method),
@@ -40,7 +40,7 @@ pub struct GivenRange {
 }
 
 /// What is sent in answer to a call, one item after another.
-#[derive(Drop)]
+#[derive(Drop, Debug)]
 pub enum ReplyItem {
     /// The reply begins.
     Begins,
@@ -57,7 +57,7 @@ pub enum ReplyItem {
 }
 
 /// What is sent now in answer to a call.
-#[derive(Drop)]
+#[derive(Drop, Debug)]
 pub struct Reply {
     pub call: CallId,
     pub items: Vec<ReplyItem>,

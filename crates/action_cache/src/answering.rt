@@ -20,7 +20,7 @@ use instance_view::{Sight, View, Work};
 use std::alloc::{AllocError, Global};
 
 /// A result that is stored and complete.
-#[derive(Drop)]
+#[derive(Drop, Debug)]
 pub struct FoundResult {
     /// A copy of its bytes, as they were stored.
     pub text: Vec<u8>,

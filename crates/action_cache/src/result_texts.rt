@@ -17,7 +17,7 @@ use reapi_messages as messages;
 use tree_messages::{OutputDirectory, OutputFile};
 
 /// What a result names.
-#[derive(Drop)]
+#[derive(Drop, Debug)]
 pub struct Parts<'a> {
     /// The digests of its files, each of which is there.
     pub files: Vec<Digest>,

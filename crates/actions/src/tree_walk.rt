@@ -24,7 +24,7 @@ use std::alloc::{AllocError, Global};
 const MOST_MET: usize = 1_000;
 
 /// A directory whose nodes come next.
-#[derive(Drop)]
+#[derive(Drop, Debug)]
 pub(crate) struct Ahead {
     pub(crate) digest: Digest,
     /// The level of its nodes.

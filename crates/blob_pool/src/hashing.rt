@@ -11,7 +11,7 @@ use std::mem;
 
 /// The hashes of a text in course: by SHA-256, under which it will stand in a pool, and by SHA-512
 /// where it is meant to be named so.
-#[derive(Drop)]
+#[derive(Drop, Debug)]
 pub struct Hashing {
     pub sha256: Hasher,
     pub sha512: Option<Hasher>,

@@ -5,6 +5,7 @@ ghost use Rattle.std.specs.Prelude.{◌≡◌, ◌-◌, ◌^◌};
 use std::marker::Model;
 
 /// The right to a text of a pool. It is released or kept, and never just dropped.
+#[derive(Debug)]
 pub struct Hold {
     slot: usize,
 }

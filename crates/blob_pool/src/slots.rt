@@ -22,7 +22,7 @@ use slab::Slab;
 const READS: u32 = 2;
 
 /// How many texts a pool has, and how many bytes they have together.
-#[derive(Clone, Copy)]
+#[derive(Clone, Copy, Debug)]
 pub struct Totals {
     pub texts: u64,
     pub bytes: u128,

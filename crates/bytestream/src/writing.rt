@@ -26,7 +26,7 @@ use std::alloc::{AllocError, Global};
 use uploads::{Piece, UploadKey, Uploads};
 
 /// A `Write` in course.
-#[derive(Drop)]
+#[derive(Drop, Debug)]
 pub struct OpenWrite {
     /// The resource name that its first message had.
     pub name: String,
@@ -35,7 +35,7 @@ pub struct OpenWrite {
 }
 
 /// What a message of a `Write` is answered.
-#[derive(Drop)]
+#[derive(Drop, Debug)]
 pub enum Written {
     /// Nothing yet: the call goes on.
     Goes(OpenWrite),

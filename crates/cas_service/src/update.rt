@@ -42,7 +42,7 @@ pub struct Accepted<'a> {
 
 /// What is answered to the blobs so far: the reply's text, the status of the last of them, and the
 /// blobs that are stored.
-#[derive(Drop)]
+#[derive(Drop, Debug)]
 pub struct Answered<'a> {
     pub reply: Writer,
     pub status: StatusField,

@@ -28,7 +28,7 @@ const BAD_RESULT_BYTES: &str =
 const BAD_WINDOW: &str = "--window is not a number of bytes from 65535 to 2147483647, as 64K or 4M";
 
 /// What is told of a value, of the command to which it was given, and the value, where it is one.
-#[derive(Clone, Copy)]
+#[derive(Clone, Copy, Debug)]
 pub(crate) struct BadValue<'a> {
     pub(crate) command: &'static str,
     pub(crate) text: &'static str,

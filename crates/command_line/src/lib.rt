@@ -36,7 +36,7 @@ const ENDLESS: &str = "endless";
 const MOST: u64 = 9_223_372_036_854_775_807;
 
 /// What is served, where, and for how long.
-#[derive(Drop)]
+#[derive(Drop, Debug)]
 pub struct Service<'a> {
     /// The folder for the work of actions.
     pub work: &'a str,
@@ -74,7 +74,7 @@ pub struct Question<'a> {
 }
 
 /// What the program is asked for.
-#[derive(Drop)]
+#[derive(Drop, Debug)]
 pub enum Invocation<'a> {
     /// Carries out a script of calls, a file's or that of standard input, by instances with these
     /// numbers.

@@ -6,7 +6,7 @@ use rpc::Refusal;
 
 /// An event of a call, which the number of its stream names. Messages, faults and ends still come
 /// for a call that was answered: whoever answers drops them.
-#[derive(Drop)]
+#[derive(Drop, Debug)]
 pub enum CallEvent {
     /// The call begins.
     Head { stream: u32, method: Method },

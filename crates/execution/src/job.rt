@@ -8,7 +8,7 @@ use job_queue::Queue;
 
 /// What is handed to whoever runs a job. Its texts lie in the pool: they may be read as long as the
 /// job runs. Its command and its input tree are read off them ([`crate::read_task`]).
-#[derive(Drop)]
+#[derive(Drop, Debug)]
 pub struct Task {
     /// The digest of its action.
     pub action: Digest,

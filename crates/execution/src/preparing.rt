@@ -28,7 +28,7 @@ pub struct Prepared {
 }
 
 /// Why an action cannot be run.
-#[derive(Drop)]
+#[derive(Drop, Debug)]
 pub enum Unprepared {
     /// It has this fault, and blobs of these digests are missing, in the order met.
     Faulty(Fault, Vec<Digest>),

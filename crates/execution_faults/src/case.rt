@@ -37,7 +37,7 @@ static CLIENTS: [(u32, usize, bool); 5] = [
 pub static BYSTANDERS: [usize; 2] = [1, 4];
 
 /// The fakes.
-#[derive(Clone, Copy)]
+#[derive(Clone, Copy, Debug)]
 pub enum Fake {
     Folder,
     Programs,

@@ -24,7 +24,7 @@ pub enum Deed {
 }
 
 /// How a call goes wrong.
-#[derive(Clone, Copy)]
+#[derive(Clone, Copy, Debug)]
 pub enum CallFault {
     /// It fails so.
     Fails(ErrorKind),
@@ -33,7 +33,7 @@ pub enum CallFault {
 }
 
 /// Which call goes wrong, counted from 1, and how.
-#[derive(Clone, Copy)]
+#[derive(Clone, Copy, Debug)]
 pub struct Failing {
     pub at: u64,
     pub fault: CallFault,

@@ -8,7 +8,7 @@ use std::alloc::Global;
 use std::io::{self, ErrorKind};
 
 /// What a client does.
-#[derive(Clone, Copy)]
+#[derive(Clone, Copy, Debug)]
 pub struct Habits {
     pub instance: u32,
     /// How many bytes it sends or takes at once.
@@ -18,7 +18,7 @@ pub struct Habits {
 }
 
 /// A client.
-#[derive(Drop)]
+#[derive(Drop, Debug)]
 pub struct Client<'a> {
     pub habits: Habits,
     /// What it has still to send.

@@ -16,7 +16,7 @@ pub const START: &str = "start";
 const LAST_WORDS: &str = "it is \\\"lost\\\"\\n\\xff";
 
 /// What a client is sent where this run fails, or none.
-#[derive(Drop)]
+#[derive(Drop, Debug)]
 struct Sent {
     failed: Option<RunKey>,
     client: usize,
@@ -24,7 +24,7 @@ struct Sent {
 }
 
 /// What clients are sent, as it was seen first.
-#[derive(Drop)]
+#[derive(Drop, Debug)]
 pub struct Judge {
     sent: Vec<Sent>,
 }

@@ -6,7 +6,7 @@ use std::io;
 use std::time::Instant;
 
 /// What is counted of the folders of an instance's runs.
-#[derive(Clone, Copy)]
+#[derive(Clone, Copy, Debug)]
 pub struct FolderFigures {
     /// How many folders are to be removed.
     pub left: u64,
@@ -50,7 +50,7 @@ pub trait HostCounts {
 }
 
 /// What the system tells of the process, where it does.
-#[derive(Clone, Copy)]
+#[derive(Clone, Copy, Debug)]
 pub struct ProcessFigures {
     /// The bytes of memory that it has.
     pub resident: Option<u64>,

@@ -4,7 +4,7 @@ use serve::Sight;
 use std::alloc::{AllocError, Global};
 
 /// How long the jobs of an instance have waited and run together, in milliseconds.
-#[derive(Clone, Copy)]
+#[derive(Clone, Copy, Debug)]
 pub(crate) struct JobTime {
     pub(crate) waited: u64,
     pub(crate) ran: u64,
@@ -20,7 +20,7 @@ const NO_TIME: JobTime = JobTime {
 
 /// How long the jobs of each instance have waited and run. At each moment as many wait and run as
 /// the instance says then.
-#[derive(Drop)]
+#[derive(Drop, Debug)]
 pub(crate) struct JobTimes {
     /// When was looked last.
     moment: u64,

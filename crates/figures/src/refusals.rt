@@ -12,7 +12,7 @@ pub const CAUSES: usize = 5;
 
 /// A cause: the method of the calls, why they are refused, and how a line says it; nothing where
 /// that is not the same at each instance.
-#[derive(Clone, Copy)]
+#[derive(Clone, Copy, Debug)]
 pub struct Cause {
     pub(crate) method: &'static str,
     pub(crate) refusal: Refusal,
@@ -63,7 +63,7 @@ pub const REFUSALS: [Cause; CAUSES] = [
 const FEWEST_QUEUED: usize = MOST_WAITING - MOST_RUNNING;
 
 /// What was refused at an instance, and what was counted there when it was looked last.
-#[derive(Clone, Copy)]
+#[derive(Clone, Copy, Debug)]
 pub(crate) struct Refusals {
     pub(crate) causes: [u64; CAUSES],
     /// How many of those that the quota refused are known to be larger than the whole of it.

@@ -81,7 +81,7 @@ fn server_metrics(
 }
 
 /// What is counted of a server for its figures, turn by turn.
-#[derive(Drop)]
+#[derive(Drop, Debug)]
 pub struct Figures {
     times: JobTimes,
     turns: Turns,

@@ -33,7 +33,7 @@ const BOUNDS: [(u64, &str); PLACES] = [
 ];
 
 /// How many calls of a method ended in turns of which lengths.
-#[derive(Clone, Copy)]
+#[derive(Clone, Copy, Debug)]
 struct Lengths {
     /// At each place those of that length, and of none before.
     counts: [u64; PLACES],
@@ -77,7 +77,7 @@ fn all_ended(counts: &CallCounts) -> [u64; METHOD_COUNT] {
 }
 
 /// What was counted at an instance when it was looked last.
-#[derive(Clone, Copy)]
+#[derive(Clone, Copy, Debug)]
 struct Seen {
     /// Of each method, how many calls had ended.
     ended: [u64; METHOD_COUNT],
@@ -87,7 +87,7 @@ struct Seen {
 }
 
 /// The turns of a server.
-#[derive(Drop)]
+#[derive(Drop, Debug)]
 pub struct Turns {
     /// The Unix time of the start in seconds, where it is known.
     start: Option<u64>,

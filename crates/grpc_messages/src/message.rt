@@ -6,7 +6,7 @@ use crate::reader::MESSAGE_LIMIT;
 use std::marker::Model;
 
 /// The bytes of a message, as the application encoded them: at most [`MESSAGE_LIMIT`].
-#[derive(Drop)]
+#[derive(Drop, Debug)]
 pub struct Message {
     bytes: Vec<u8>,
 }

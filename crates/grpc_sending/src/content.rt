@@ -6,7 +6,7 @@ ghost use Rattle.grpc_sending.specs.Contents.{content_bytes};
 use std::rc::Rc;
 
 /// The bytes of a message, which may be owed to other streams, too.
-#[derive(Drop)]
+#[derive(Drop, Debug)]
 pub(crate) enum Content {
     Own(Vec<u8>),
     Shared(Rc<Vec<u8>>),

@@ -76,7 +76,7 @@ fn text_of(alloc: Global, block: ResponseBlock) -> Result<CowSlice<'static, u8>,
 }
 
 /// An encoded header block that is held elsewhere.
-#[derive(Drop)]
+#[derive(Drop, Debug)]
 pub(crate) struct BlockText<'a> {
     block: ResponseBlock,
     text: &'a [u8],
@@ -112,7 +112,7 @@ impl<'a> BlockText<'a> {
 }
 
 /// The bytes of a framed message that are still to be put: those of its prefix, and the message.
-#[derive(Drop)]
+#[derive(Drop, Debug)]
 pub(crate) struct FramedMessage {
     prefix: [u8; PREFIX_LENGTH],
     message: Content,

@@ -16,7 +16,7 @@ const DATA_TAG: u8 = 82;
 
 /// What stands before the bytes of the text in a framed ReadResponse: the message's prefix, the
 /// field's tag and its length.
-#[derive(Drop)]
+#[derive(Drop, Debug)]
 pub(crate) struct ReadHead {
     bytes: [u8; 9],
     size: usize,
@@ -92,7 +92,7 @@ fn length_text(count: u32) -> [u8; 3]
 }
 
 /// What is left of a range of the text of a source.
-#[derive(Drop)]
+#[derive(Drop, Debug)]
 pub(crate) struct Cursor {
     pub(crate) source: usize,
     /// The place of the first byte of the first message.

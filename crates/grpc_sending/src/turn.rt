@@ -15,7 +15,7 @@ use http2_streams::{Stream, Streams};
 const MAX_PART: i64 = MAX_FRAME_SIZE as i64;
 
 /// What is put next.
-#[derive(Drop)]
+#[derive(Drop, Debug)]
 pub(crate) enum Due<'a> {
     /// A header block on a stream, and whether the client has ended the stream.
     Opens {

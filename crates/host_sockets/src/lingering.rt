@@ -17,7 +17,7 @@ pub const LINGERING_LIMIT: usize = 64;
 pub(crate) type Room = [u8; 16_384];
 
 /// A closed connection, and when it was closed.
-#[derive(Drop)]
+#[derive(Drop, Debug)]
 pub(crate) struct Lingering<W> {
     pub(crate) wire: W,
     since: u64,

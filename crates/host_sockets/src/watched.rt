@@ -10,7 +10,7 @@ use wires::{News, Wire};
 
 /// An open connection. The system is asked only where something was told since it had nothing: a
 /// connection at rest costs no call of it.
-#[derive(Drop)]
+#[derive(Drop, Debug)]
 pub(crate) struct Watched<W> {
     pub(crate) wire: W,
     /// Whether something may have come: it was told so since a read answered `WouldBlock`.

@@ -16,7 +16,7 @@ pub struct TurnClock {
 }
 
 /// The doors on whose wires it was read in a turn.
-#[derive(Clone, Copy)]
+#[derive(Clone, Copy, Debug)]
 pub struct DoorsRead {
     read: [u64; WORDS],
 }

@@ -15,6 +15,7 @@ use std::marker::Model;
 
 /// Reads the header blocks of a connection, one after another. Contracts see the dynamic table at
 /// which it stands, or `None` once it has refused a block.
+#[derive(Debug)]
 pub struct Decoder {
     table: Option<DynamicTable>,
 }

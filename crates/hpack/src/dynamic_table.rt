@@ -66,7 +66,7 @@ fn entry_at(entries: &VecDeque<Entry>, index: u32) -> Option<(&[u8], &[u8])>
 }
 
 /// Fields that came before, the newest first, within a maximum size.
-#[derive(Drop)]
+#[derive(Drop, Debug)]
 pub(crate) struct DynamicTable {
     entries: VecDeque<Entry>,
     size: usize,

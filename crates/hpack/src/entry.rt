@@ -8,7 +8,7 @@ use std::alloc::{AllocError, Global};
 use std::marker::Model;
 
 /// A field of its own: its name, and behind it its value.
-#[derive(Drop)]
+#[derive(Drop, Debug)]
 pub(crate) struct Entry {
     text: Vec<u8>,
     name_length: usize,

@@ -7,7 +7,7 @@ ghost use Rattle.hpack.specs.Header.{size_of};
 use std::marker::Model;
 
 /// A header field: a name and a value, each any sequence of octets.
-#[derive(Drop)]
+#[derive(Drop, Debug)]
 pub struct HeaderField<'a> {
     name: &'a [u8],
     value: &'a [u8],

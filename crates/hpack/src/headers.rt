@@ -10,7 +10,7 @@ use crate::header::HeaderField;
 use std::marker::Model;
 
 /// How many octets a field's name and its value have.
-#[derive(Clone, Copy)]
+#[derive(Clone, Copy, Debug)]
 pub(crate) struct FieldLengths {
     pub(crate) name: usize,
     pub(crate) value: usize,
@@ -31,7 +31,7 @@ impl FieldLengths {
 
 /// The fields of a list, from the first to the last. Contracts see it as the list of those that it
 /// has yet to give.
-#[derive(Drop)]
+#[derive(Drop, Debug)]
 pub struct HeaderIter<'a> {
     lengths: &'a [FieldLengths],
     text: &'a [u8],
@@ -68,7 +68,7 @@ impl<'a> Iterator for HeaderIter<'a> {
 }
 
 /// The header fields of a block, in its order.
-#[derive(Drop)]
+#[derive(Drop, Debug)]
 pub struct Headers {
     /// All names and values, one after another.
     text: Vec<u8>,

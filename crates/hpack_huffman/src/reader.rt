@@ -10,7 +10,7 @@ use crate::HuffmanError;
 use crate::code::{EOS, LONGEST, symbol_of};
 
 /// Octets that are read as bits, each from its highest.
-#[derive(Drop)]
+#[derive(Drop, Debug)]
 pub(crate) struct BitReader<'a> {
     octets: &'a [u8],
     /// Its lowest `held` bits come before those of `octets`.

@@ -25,7 +25,7 @@ pub enum FlowError {
 
 /// A window: the initial size in force, and what was granted less what was spent since it began.
 /// Both are kept, since a new initial size takes the place of the old one in the sum.
-#[derive(Drop)]
+#[derive(Drop, Debug)]
 pub struct Window {
     initial: u32,
     change: i64,

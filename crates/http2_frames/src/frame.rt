@@ -5,7 +5,7 @@ use crate::settings::SettingsList;
 
 /// A frame as it stands on the wire (RFC 9113, section 4.1), without its length, which is that of
 /// the payload, and without the reserved bit. The payload stays where it was received.
-#[derive(Drop)]
+#[derive(Drop, Debug)]
 pub struct RawFrame<'a> {
     pub kind: u8,
     pub flags: u8,
@@ -15,7 +15,7 @@ pub struct RawFrame<'a> {
 }
 
 /// What a frame says (RFC 9113, section 6), without its padding and its priority fields.
-#[derive(Drop)]
+#[derive(Drop, Debug)]
 pub enum Frame<'a> {
     /// Section 6.1.
     Data {

@@ -6,7 +6,7 @@ use crate::reader::MAX_FRAME_SIZE;
 use std::marker::Model;
 
 /// A payload or a part of one, or bytes that are to become one: at most as many as one frame has.
-#[derive(Drop)]
+#[derive(Drop, Debug)]
 pub struct Octets<'a> {
     bytes: &'a [u8],
 }

@@ -29,6 +29,7 @@ pub const MAX_FRAME_SIZE: usize = 16_384;
 pub const HEADER_LENGTH: usize = 9;
 
 /// Reads the frames of one direction of a connection, in whatever pieces its bytes come.
+#[derive(Debug)]
 pub struct FrameReader {
     /// The preface, until it has come.
     preface: &'static [u8],

@@ -6,7 +6,7 @@ use std::alloc::{AllocError, Global};
 use std::marker::Model;
 
 /// A piece that was received, of which some may have been read: seen as the bytes that were not.
-#[derive(Drop)]
+#[derive(Drop, Debug)]
 pub(crate) struct Received {
     bytes: Vec<u8>,
     /// How many of them were read.

@@ -31,7 +31,7 @@ impl Setting {
 }
 
 /// Settings in order and with repeats, in the bytes of a payload.
-#[derive(Drop)]
+#[derive(Drop, Debug)]
 pub struct SettingsList<'a> {
     bytes: &'a [u8],
 }

@@ -20,7 +20,7 @@ pub const MAX_BLOCK: usize = 65536;
 pub const MAX_CONTINUATIONS: u32 = 32;
 
 /// The fields of a whole header block.
-#[derive(Drop)]
+#[derive(Drop, Debug)]
 pub struct HeaderList {
     pub stream: u32,
     /// The block's HEADERS frame had END_STREAM.
@@ -28,7 +28,7 @@ pub struct HeaderList {
     pub fields: Headers,
 }
 
-#[derive(Drop)]
+#[derive(Drop, Debug)]
 struct Fragments {
     stream: u32,
     end_stream: bool,
@@ -37,6 +37,7 @@ struct Fragments {
 }
 
 /// Reads the header blocks of a connection. After a refusal it refuses all others.
+#[derive(Debug)]
 pub struct HeaderBlocks {
     unfinished: Option<Fragments>,
     /// None after a refusal: each call takes it out, and puts it back once the frame is taken.

@@ -34,7 +34,7 @@ pub(crate) fn spend(window: &mut Window, count: u32)
 }
 
 /// A stream that is open or half-closed (RFC 9113 section 5.1).
-#[derive(Drop)]
+#[derive(Drop, Debug)]
 pub struct Stream {
     pub number: u32,
     /// Half-closed (remote).

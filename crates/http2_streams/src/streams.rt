@@ -41,6 +41,7 @@ pub const MAX_STREAMS: usize = 100;
 pub const MAX_REMEMBERED: usize = 128;
 
 /// The streams of one connection, as the server sees them.
+#[derive(Debug)]
 pub struct Streams {
     /// A connection error was met.
     failed: bool,

@@ -12,7 +12,7 @@ use std::alloc::{AllocError, Global};
 
 /// The text of a directory, as far as it is read. It holds no reference, so that other work may come
 /// between its steps.
-#[derive(Drop)]
+#[derive(Drop, Debug)]
 pub struct DirectoryReading {
     pub(crate) text: Vec<u8>,
     /// Where the next record begins.

@@ -36,7 +36,7 @@ pub(crate) struct Known {
 }
 
 /// A directory that is being read.
-#[derive(Drop)]
+#[derive(Drop, Debug)]
 pub(crate) struct ChildReading {
     digest: Digest,
     directory: DirectoryReading,

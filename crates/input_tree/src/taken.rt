@@ -16,7 +16,7 @@ use std::rc::RcStr;
 use tree_messages::{DirectoryNode, FileNode, SymlinkNode};
 
 /// A file of a directory that is taken.
-#[derive(Drop)]
+#[derive(Drop, Debug)]
 pub struct FileTaken {
     pub name: RcStr,
     pub digest: Digest,
@@ -24,21 +24,21 @@ pub struct FileTaken {
 }
 
 /// A directory in a directory that is taken.
-#[derive(Drop)]
+#[derive(Drop, Debug)]
 pub struct ChildTaken {
     pub name: RcStr,
     pub digest: Digest,
 }
 
 /// A symbolic link of a directory that is taken.
-#[derive(Drop)]
+#[derive(Drop, Debug)]
 pub struct LinkTaken {
     pub name: RcStr,
     pub target: RcStr,
 }
 
 /// A directory that is taken, without its text.
-#[derive(Drop)]
+#[derive(Drop, Debug)]
 pub struct DirectoryTaken {
     pub files: Vec<FileTaken>,
     pub directories: Vec<ChildTaken>,

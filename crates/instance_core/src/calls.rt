@@ -29,7 +29,7 @@ const OWN_BLOCK: usize = 131_072;
 const CANCELLED: usize = 1;
 
 /// How much of a call's request has come.
-#[derive(Drop)]
+#[derive(Drop, Debug)]
 pub enum Progress {
     /// Nothing.
     Waits,
@@ -43,7 +43,7 @@ pub enum Progress {
 }
 
 /// A call in course.
-#[derive(Drop)]
+#[derive(Drop, Debug)]
 pub struct Call {
     method: Method,
     progress: Progress,

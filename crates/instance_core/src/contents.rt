@@ -8,7 +8,7 @@ use std::alloc::Global;
 use uploads::Uploads;
 
 /// What an instance is configured as, and the moment of what happens to it.
-#[derive(Drop)]
+#[derive(Drop, Debug)]
 pub struct Settings {
     pub name: String,
     pub quota: u64,

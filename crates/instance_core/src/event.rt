@@ -14,7 +14,7 @@ pub struct CallId {
 }
 
 /// What happens to a call, or to all of them.
-#[derive(Drop)]
+#[derive(Drop, Debug)]
 pub enum CallEvent {
     /// The call begins.
     Head(CallId, Method),
@@ -41,7 +41,7 @@ pub struct GivenRange {
 }
 
 /// What is sent in answer to a call, one item after another.
-#[derive(Drop)]
+#[derive(Drop, Debug)]
 pub enum ReplyItem {
     /// The reply begins.
     Begins,
@@ -58,7 +58,7 @@ pub enum ReplyItem {
 }
 
 /// What is sent now in answer to a call.
-#[derive(Drop)]
+#[derive(Drop, Debug)]
 pub struct Reply {
     pub call: CallId,
     pub items: Vec<ReplyItem>,

@@ -8,7 +8,7 @@ use std::marker::Model;
 /// How often a digest was looked for, and how many bytes of texts were read or copied. Whoever has
 /// `Texts` adds to it by each look and by each copy. A count that reaches the end of its 64 bits
 /// stays there.
-#[derive(Drop)]
+#[derive(Drop, Debug)]
 pub struct Work {
     looks: u64,
     bytes: u64,

@@ -29,7 +29,7 @@ pub const MOST_RUNNING: usize = 64;
 pub const MOST_ENDED: usize = 256;
 
 /// A job that runs.
-#[derive(Drop)]
+#[derive(Drop, Debug)]
 pub struct Running<J> {
     /// The moment, in milliseconds, from which on it has run for too long: wider than moments are,
     /// so that a start and a timeout always have their sum.
@@ -38,6 +38,7 @@ pub struct Running<J> {
 }
 
 /// The stage of a job.
+#[derive(Debug)]
 pub enum Stage<'a, J> {
     Waits(&'a J),
     Runs(&'a Running<J>),
@@ -146,6 +147,7 @@ fn keep_ended(ended: &mut VecDeque<(u64, Rc<Vec<u8>>)>, number: u64, operation: 
 
 /// Jobs that wait, run and have ended, with room for all that may run and that are known once they
 /// have ended.
+#[derive(Debug)]
 pub struct Queue<J> {
     next: u64,
     waiting: VecDeque<(u64, J)>,

@@ -25,7 +25,7 @@ const COMMAND_BYTES: usize = 65_536;
 const CODE: &str = " (os error ";
 
 /// What was met where a run failed.
-#[derive(Clone, Copy)]
+#[derive(Clone, Copy, Debug)]
 pub(crate) struct Met<'a> {
     /// What its launcher said, or why that cannot be started any more.
     pub(crate) said: &'a [u8],

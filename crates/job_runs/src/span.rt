@@ -8,7 +8,7 @@ use run_calls::RunKey;
 
 /// The runs of some instances in a row and of some jobs in a row, but for those that were given
 /// already: those of an instance are given one after another, and then those of the next.
-#[derive(Clone, Copy)]
+#[derive(Clone, Copy, Debug)]
 pub(crate) struct Span {
     /// The lowest instance, and the lowest job.
     pub(crate) least: RunKey,

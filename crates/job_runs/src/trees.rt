@@ -33,7 +33,7 @@ const MOST_COMPARED: usize = 4_194_304;
 const COMPARED_AT_LEAST: usize = 4_096;
 
 /// Directories of a task's tree that may be made.
-#[derive(Drop)]
+#[derive(Drop, Debug)]
 pub(crate) struct FoundTrees {
     /// Their places in the plan.
     pub(crate) places: Vec<usize>,

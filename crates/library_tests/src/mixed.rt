@@ -16,7 +16,7 @@ use std::alloc::{AllocError, Global};
 use tree_messages::{Directory, DirectoryNode, FileNode, SymlinkNode};
 
 /// What is stored of the tree.
-#[derive(Clone, Copy)]
+#[derive(Clone, Copy, Debug)]
 pub struct Stored {
     /// The text of both files.
     pub files: bool,

@@ -12,6 +12,7 @@ use quota_evict::{AdmitError, admit};
 use std::alloc::{AllocError, Global};
 
 /// A text that one of two instances uploads, and what the pool then holds.
+#[derive(Debug)]
 pub struct Upload {
     pub name: &'static str,
     pub is_first: bool,

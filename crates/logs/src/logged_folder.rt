@@ -29,7 +29,7 @@ pub enum FolderAsked {
 }
 
 /// What folders answer.
-#[derive(Drop)]
+#[derive(Drop, Debug)]
 pub enum FolderAnswered {
     Done,
     Found(Found),

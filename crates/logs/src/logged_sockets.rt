@@ -10,7 +10,7 @@ use std::io;
 use wires::is_not_ready;
 
 /// What happened at sockets.
-#[derive(Drop)]
+#[derive(Drop, Debug)]
 pub enum SocketRecord {
     Clock(u64),
     Accepted(Socket),

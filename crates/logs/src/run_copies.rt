@@ -20,14 +20,14 @@ use std::alloc::{AllocError, Global};
 use std::collections::VecDeque;
 
 /// A text under its digest.
-#[derive(Drop)]
+#[derive(Drop, Debug)]
 pub struct TextCopy {
     pub digest: Digest,
     pub bytes: Vec<u8>,
 }
 
 /// A task that was lent, with its texts.
-#[derive(Drop)]
+#[derive(Drop, Debug)]
 pub struct TaskCopy {
     pub action: Digest,
     pub texts: Vec<TextCopy>,

@@ -11,7 +11,7 @@ use run_calls::RunKey;
 use std::marker::Model;
 
 /// A tree that a run claimed.
-#[derive(Drop)]
+#[derive(Drop, Debug)]
 pub struct RunTree {
     /// From the root of the run on, with `/` between names.
     pub(crate) path: String,
@@ -43,7 +43,7 @@ impl RunTree {
 }
 
 /// The trees of a run.
-#[derive(Drop)]
+#[derive(Drop, Debug)]
 pub(crate) struct OfRun {
     pub(crate) run: RunKey,
     pub(crate) trees: Vec<RunTree>,

@@ -13,7 +13,7 @@ use run_folders::names_behind;
 use std::rc::RcStr;
 
 /// Where a node is made.
-#[derive(Clone, Copy)]
+#[derive(Clone, Copy, Debug)]
 pub enum Site<'b> {
     /// In the folder of its run.
     Own,

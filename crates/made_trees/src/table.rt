@@ -90,7 +90,7 @@ pub(crate) fn bytes_of(trees: &Table, instance: u32) -> u64
 }
 
 /// Those of an instance that are not to be removed.
-#[derive(Clone, Copy)]
+#[derive(Clone, Copy, Debug)]
 pub(crate) struct Kept {
     pub(crate) trees: usize,
     pub(crate) bytes: u64,

@@ -1,7 +1,7 @@
 //! What is done again and again.
 
 /// Says when something is due that is done once in so many milliseconds.
-#[derive(Clone, Copy)]
+#[derive(Clone, Copy, Debug)]
 pub struct Due {
     every: u64,
     /// When it was done last, if it was.

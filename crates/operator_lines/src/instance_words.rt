@@ -16,7 +16,7 @@ use std::alloc::{AllocError, Global};
 use thiserror::Error;
 
 /// The instances that are served, and the port of each.
-#[derive(Drop)]
+#[derive(Drop, Debug)]
 pub struct Instances {
     pub configs: Configs,
     pub ports: Vec<u16>,

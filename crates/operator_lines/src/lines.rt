@@ -28,7 +28,7 @@ pub(crate) fn tell_line<E: Write>(lines: &mut ErrorLines<E>, line: Result<String
 }
 
 /// An address as it is told: the port alone where the host is this one.
-#[derive(Clone, Copy)]
+#[derive(Clone, Copy, Debug)]
 pub(crate) struct ToldAddress(pub(crate) SocketAddr);
 
 impl fmt::Display for ToldAddress {

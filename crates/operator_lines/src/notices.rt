@@ -15,7 +15,7 @@ use std::alloc::{AllocError, Global};
 use std::io::{self, Write};
 
 /// What was counted at an instance when it was looked last.
-#[derive(Clone, Copy)]
+#[derive(Clone, Copy, Debug)]
 struct Seen {
     counts: InstanceCounts,
     /// By cause.
@@ -36,7 +36,7 @@ struct Seen {
 }
 
 /// The last run that left links in its output directories.
-#[derive(Clone, Copy)]
+#[derive(Clone, Copy, Debug)]
 struct LastWithLinks {
     /// How many there were when it was met.
     links: u64,
@@ -45,7 +45,7 @@ struct LastWithLinks {
 }
 
 /// Lines about each instance, and about the ports of all.
-#[derive(Drop)]
+#[derive(Drop, Debug)]
 pub struct Notices {
     seen: Vec<Seen>,
     /// How many runs had left links, of all instances.

@@ -8,7 +8,7 @@ use std::str;
 const MOST_AGE: u64 = 60;
 
 /// When a file was written, by the clock of this host.
-#[derive(Clone, Copy)]
+#[derive(Clone, Copy, Debug)]
 pub enum Age {
     /// Nothing is known of that.
     Unknown,

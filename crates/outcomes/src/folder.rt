@@ -13,7 +13,7 @@ use std::collections::VecDeque;
 use tree_messages::{Directory, DirectoryNode, FileNode};
 
 /// A file of a directory.
-#[derive(Drop)]
+#[derive(Drop, Debug)]
 pub(crate) struct NamedFile<'a> {
     pub name: &'a str,
     pub digest: WrittenDigest,
@@ -21,13 +21,14 @@ pub(crate) struct NamedFile<'a> {
 }
 
 /// A directory in a directory, by the digest of its text.
-#[derive(Drop)]
+#[derive(Drop, Debug)]
 pub(crate) struct NamedDirectory<'a> {
     pub name: &'a str,
     pub digest: WrittenDigest,
 }
 
 /// A directory, to whose front more may be added.
+#[derive(Debug)]
 pub(crate) struct OpenFolder<'a> {
     pub files: VecDeque<NamedFile<'a>>,
     pub directories: VecDeque<NamedDirectory<'a>>,
@@ -57,6 +58,7 @@ impl<'a> OpenFolder<'a> {
 }
 
 /// A directory of which all is there.
+#[derive(Debug)]
 pub(crate) struct Folder<'a> {
     pub files: Vec<NamedFile<'a>>,
     pub directories: Vec<NamedDirectory<'a>>,

@@ -20,6 +20,7 @@ use std::alloc::{AllocError, Global};
 use std::collections::VecDeque;
 
 /// What was gathered of nodes.
+#[derive(Debug)]
 pub(crate) struct Gathering<'a> {
     /// The directories in which the nodes go on, the deepest first.
     pub going: VecDeque<OpenFolder<'a>>,

@@ -3,7 +3,7 @@
 use tool_programs::Status;
 
 /// How the program ends, which its exit status tells.
-#[derive(Clone, Copy, PartialEq, Eq)]
+#[derive(Clone, Copy, Debug, PartialEq, Eq)]
 pub enum Exit {
     /// As what was asked for ended: done, or why not.
     With(Status),

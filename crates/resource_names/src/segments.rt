@@ -27,7 +27,7 @@ impl Divider {
 }
 
 /// A text around the segment that it is divided at.
-#[derive(Clone, Copy)]
+#[derive(Clone, Copy, Debug)]
 pub(crate) struct Division<'a> {
     /// What stands before the slash before that segment, and `None` where it is the first.
     pub before: Option<&'a str>,

@@ -10,7 +10,7 @@ use std::io;
 use std::rc::RcStr;
 
 /// A run, the directory in its folder in which its program runs, and how what it leaves is hashed.
-#[derive(Drop)]
+#[derive(Drop, Debug)]
 pub struct Place {
     pub run: RunKey,
     /// From the root on, with `/` between names; empty for the root itself.
@@ -37,14 +37,14 @@ pub enum Found {
 }
 
 /// A file or a directory in a directory.
-#[derive(Drop)]
+#[derive(Drop, Debug)]
 pub struct Entry {
     pub name: String,
     pub is_directory: bool,
 }
 
 /// A directory of a run's tree that may be made once for many runs.
-#[derive(Drop)]
+#[derive(Drop, Debug)]
 pub struct InputTree {
     /// From the root on, with `/` between names.
     pub path: String,

@@ -8,7 +8,7 @@ use std::alloc::AllocError;
 use std::rc::RcStr;
 
 /// What a node of a task's tree is.
-#[derive(Drop)]
+#[derive(Drop, Debug)]
 pub enum TaskNodeKind {
     /// A file, by the number of its text among those that are lent (`Texts`).
     File { text: usize, is_executable: bool },
@@ -22,7 +22,7 @@ pub enum TaskNodeKind {
 }
 
 /// A node of a task's tree.
-#[derive(Drop)]
+#[derive(Drop, Debug)]
 pub struct TaskNode {
     /// Its name in the directory that it stands in.
     pub name: RcStr,

@@ -13,14 +13,14 @@ pub struct RunKey {
 }
 
 /// A variable of the environment.
-#[derive(Drop)]
+#[derive(Drop, Debug)]
 pub struct Variable {
     pub name: String,
     pub value: String,
 }
 
 /// A program, and what it is given.
-#[derive(Drop)]
+#[derive(Drop, Debug)]
 pub struct Command {
     /// The program is the first.
     pub arguments: Vec<String>,
@@ -28,7 +28,7 @@ pub struct Command {
 }
 
 /// A command, and the tree in which it is to be run.
-#[derive(Drop)]
+#[derive(Drop, Debug)]
 pub struct Task {
     /// In walk order: a directory stands before what is in it. One that was made before has none
     /// behind it that stand in it.

@@ -7,7 +7,7 @@ use std::alloc::AllocError;
 use std::rc::RcStr;
 
 /// What a node is, where its text is named by a `T`.
-#[derive(Drop)]
+#[derive(Drop, Debug)]
 pub enum NodeKind<T> {
     /// A file, by its text.
     File { text: T, is_executable: bool },
@@ -18,7 +18,7 @@ pub enum NodeKind<T> {
 }
 
 /// A node of a tree.
-#[derive(Drop)]
+#[derive(Drop, Debug)]
 pub struct Node<T> {
     /// Its name in the directory that it stands in. The places at which a directory stands share the
     /// names in it, from the second one on.

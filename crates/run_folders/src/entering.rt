@@ -24,7 +24,7 @@ const TOO_DEEP: &str = "a path has more than 191 directories";
 
 /// A directory that was gone down to from that of a start, and by which path; by an empty one to
 /// that itself.
-#[derive(Drop)]
+#[derive(Drop, Debug)]
 pub struct Entered<D: Directory> {
     path: String,
     pub directory: D,

@@ -229,7 +229,7 @@ pub fn read_part<F: OpenFile>(alloc: Global, file: &F, from: u64, most: u32) -> 
 }
 
 /// A file that was opened, and is kept for the next call.
-#[derive(Drop)]
+#[derive(Drop, Debug)]
 pub struct Kept<F: OpenFile> {
     path: String,
     file: F,

@@ -27,7 +27,7 @@ const TOO_LARGE: &str = "a directory takes more than 16 MiB, as where very many 
 const NO_TEXT: &str = "a name is not UTF-8";
 
 /// What is in a directory.
-#[derive(Drop)]
+#[derive(Drop, Debug)]
 pub struct Listed {
     /// The files and directories, in the order of their names, of which each stands once.
     pub entries: Vec<Entry>,

@@ -30,7 +30,7 @@ pub fn entry_name(name: &str) -> io::Result<&[u8]>
 }
 
 /// The names in a directory that were not taken yet. They need be no text.
-#[derive(Drop)]
+#[derive(Drop, Debug)]
 pub struct Names {
     alloc: Global,
     room: Vec<u8>,

@@ -17,7 +17,7 @@ const DIRECTORY: &str = "/";
 /// A program that starts the programs of actions. It is told, word by word, the instance, the
 /// folder of the run, the working directory from there on (`.` for the folder itself), each
 /// variable as `NAME=VALUE`, and then the command. Its own environment is empty.
-#[derive(Drop)]
+#[derive(Drop, Debug)]
 pub struct Launcher {
     program: String,
     instances: Vec<String>,

@@ -21,7 +21,7 @@ pub(crate) const LOOKS: usize = MOST_FOUND + MOST_IN_CIRCLE + LATEST;
 
 /// What is known of the programs that run, and of those that are looked for. To look at one that
 /// runs takes a call of the system.
-#[derive(Drop)]
+#[derive(Drop, Debug)]
 pub(crate) struct Looks {
     /// Those that were found to have ended, until they are asked.
     found: Vec<RunKey>,

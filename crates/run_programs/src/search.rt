@@ -17,7 +17,7 @@ const MOST_TIME: u64 = 200;
 const MOST_PATH: usize = 4_095;
 
 /// Where the path is along which a program is looked for.
-#[derive(Clone, Copy)]
+#[derive(Clone, Copy, Debug)]
 enum SearchPath {
     /// It was not looked for among the variables yet, of which there may be a hundred thousand.
     Unknown,
@@ -28,7 +28,7 @@ enum SearchPath {
 }
 
 /// Where the search for a program goes on, and what it has met.
-#[derive(Clone, Copy)]
+#[derive(Clone, Copy, Debug)]
 pub(crate) struct Progress {
     path: SearchPath,
     /// From which byte of the search path on it was not looked yet.
@@ -80,7 +80,7 @@ impl Progress {
 }
 
 /// How far the search for a program has come.
-#[derive(Clone, Copy)]
+#[derive(Clone, Copy, Debug)]
 pub(crate) enum Search {
     Found,
     Missing,

@@ -47,7 +47,7 @@ const CODE_OF_SIGNALS: i32 = 128;
 const GRACE_SECONDS: u64 = 10;
 
 /// Whether an action's program was started as it is, or a launcher that starts it.
-#[derive(Clone, Copy, PartialEq, Eq)]
+#[derive(Clone, Copy, Debug, PartialEq, Eq)]
 pub(crate) enum StartedAs {
     Itself,
     Launcher,
@@ -56,7 +56,7 @@ pub(crate) enum StartedAs {
 /// A program that was started. What it writes goes into two files, so that nothing waits for
 /// whoever else writes there. They are removed with the run's folder, by what removes that: to
 /// close the last of a file of very many pieces takes as long as to remove it.
-#[derive(Drop)]
+#[derive(Drop, Debug)]
 pub(crate) struct Started<C: Child, F: OpenFile> {
     run: RunKey,
     started_as: StartedAs,
@@ -77,7 +77,7 @@ pub(crate) struct Started<C: Child, F: OpenFile> {
 }
 
 /// How many bytes a program wrote to each of its streams.
-#[derive(Clone, Copy)]
+#[derive(Clone, Copy, Debug)]
 struct Lengths {
     output: u64,
     error: u64,

@@ -9,7 +9,7 @@ use std::time::Instant;
 use system::{Child, Ending, Progress, Session, Sessions};
 
 /// A program that was started.
-#[derive(Drop)]
+#[derive(Drop, Debug)]
 pub(crate) struct Watched<C: Child> {
     child: C,
     /// Whether it was waited for, so that the system may give its number to another process.

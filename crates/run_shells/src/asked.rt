@@ -12,7 +12,7 @@ use system::{Shell, ToldShell};
 const MOST_ANSWERS: usize = 512;
 
 /// A shell that answers each line that it is told.
-#[derive(Drop)]
+#[derive(Drop, Debug)]
 pub(crate) struct Asked<P: Shell> {
     pub(crate) shell: P,
     pub(crate) questions: Questions,

@@ -30,7 +30,7 @@ const MOST_WAITING: u64 = 20;
 const MOST_RUNNING: u64 = 100;
 
 /// What the shell answers.
-#[derive(Clone, Copy, PartialEq, Eq)]
+#[derive(Clone, Copy, Debug, PartialEq, Eq)]
 pub enum Answer {
     /// It has the file open.
     Opened,

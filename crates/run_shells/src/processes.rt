@@ -11,14 +11,14 @@ use system::Shells;
 
 /// A process, and the session in which it was found. It can leave that for none but one of its own,
 /// whose number and whose group's number is its own.
-#[derive(Clone, Copy)]
+#[derive(Clone, Copy, Debug)]
 struct Known {
     process: u32,
     session: u32,
 }
 
 /// The processes that were found last, and the session of each.
-#[derive(Drop)]
+#[derive(Drop, Debug)]
 pub(crate) struct Processes {
     /// In the order in which the system lists them.
     known: Vec<Known>,

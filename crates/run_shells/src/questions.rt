@@ -16,7 +16,7 @@ pub(crate) fn would_wait(error: &io::Error) -> bool {
 
 /// How many questions a shell was asked, and how many of them it has answered: it answers one after
 /// the other.
-#[derive(Clone, Copy)]
+#[derive(Clone, Copy, Debug)]
 pub(crate) struct Questions {
     asked: u64,
     answered: u64,

@@ -68,7 +68,7 @@ const LOOKED_AGAIN: u64 = 1;
 const MOST_LOST: usize = 4;
 
 /// How far the removal of a folder is.
-#[derive(Clone, Copy, PartialEq, Eq)]
+#[derive(Clone, Copy, Debug, PartialEq, Eq)]
 pub enum Removing {
     /// It is to be asked for again later.
     Waits,

@@ -24,7 +24,7 @@ const NO_PROCESS: i32 = 3;
 const NO_SESSION: u32 = 0;
 
 /// What the system shows of a process.
-#[derive(Clone, Copy)]
+#[derive(Clone, Copy, Debug)]
 pub(crate) struct Status {
     pub(crate) session: u32,
     pub(crate) is_alive: bool,
@@ -32,7 +32,7 @@ pub(crate) struct Status {
 }
 
 /// What a process does.
-#[derive(Clone, Copy, PartialEq, Eq)]
+#[derive(Clone, Copy, Debug, PartialEq, Eq)]
 pub(crate) enum Doing {
     /// It runs, or would if it had a processor, or waits for a disk.
     Runs,

@@ -11,7 +11,7 @@ use system::ToldShell;
 const MOST_NAMES: usize = 64;
 
 /// A folder that is to be removed.
-#[derive(Drop)]
+#[derive(Drop, Debug)]
 pub(crate) struct Waiting {
     pub(crate) number: u64,
     pub(crate) name: String,

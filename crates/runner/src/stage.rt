@@ -289,7 +289,7 @@ pub(crate) enum Stage {
 }
 
 /// What is still to be done for a run that is over.
-#[derive(Clone, Copy)]
+#[derive(Clone, Copy, Debug)]
 pub(crate) enum Ending {
     /// Its program is to be ended.
     Killing,
@@ -311,7 +311,7 @@ impl Stage {
 }
 
 /// Why a run stopped, and what is to be done for it.
-#[derive(Drop)]
+#[derive(Drop, Debug)]
 pub(crate) struct Stopped {
     pub(crate) fault: RunFault,
     pub(crate) ending: Option<Ending>,

@@ -152,7 +152,7 @@ impl TreeNodes {
 }
 
 /// A directory that is to be listed.
-#[derive(Drop)]
+#[derive(Drop, Debug)]
 pub(crate) struct Inner {
     pub(crate) name: String,
     /// The number of directories from the output directory on in which it stands.

@@ -23,7 +23,7 @@ impl From<AllocError> for ScriptFault {
 }
 
 /// Why a line was not read.
-#[derive(Clone, Copy)]
+#[derive(Clone, Copy, Debug)]
 pub(crate) enum LineFault {
     Bad,
     NoMemory,

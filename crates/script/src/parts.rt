@@ -8,7 +8,7 @@ use std::marker::Model;
 /// The parts of a text between the bytes equal to a separator, first to last.
 ///
 /// Contracts see it as the list of the parts that it has yet to give.
-#[derive(Drop)]
+#[derive(Drop, Debug)]
 pub struct Parts<'a> {
     rest: Option<&'a [u8]>,
     separator: u8,

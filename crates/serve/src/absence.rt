@@ -10,7 +10,7 @@ const AWAY: u64 = 2_000;
 const CATCHING_UP: u64 = 10_000;
 
 /// When a server was away last.
-#[derive(Clone, Copy)]
+#[derive(Clone, Copy, Debug)]
 pub(crate) struct Absence {
     /// The moment of its end, in milliseconds; the server's first one, where there was none.
     ended: u64,

@@ -10,7 +10,7 @@ use crate::sockets::Sockets;
 use std::alloc::{AllocError, Global};
 
 /// Whether an instance is calm.
-#[derive(Clone, Copy)]
+#[derive(Clone, Copy, Debug)]
 enum Calm {
     /// It is not known to be.
     Unknown,
@@ -21,7 +21,7 @@ enum Calm {
 }
 
 /// Which instances are calm, by their numbers.
-#[derive(Drop)]
+#[derive(Drop, Debug)]
 pub(crate) struct Calms {
     calms: Vec<Calm>,
 }

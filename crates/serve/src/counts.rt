@@ -132,7 +132,7 @@ impl InstanceCounts {
 }
 
 /// How often each thing happened at each instance.
-#[derive(Drop)]
+#[derive(Drop, Debug)]
 pub struct ServeCounts {
     instances: Vec<InstanceCounts>,
 }

@@ -93,7 +93,7 @@ fn run_lines(
 const LINE_LIMIT: u32 = 10;
 
 /// What is still to be written to an output that is not waited for.
-#[derive(Drop)]
+#[derive(Drop, Debug)]
 pub(crate) struct Backlog {
     /// What is left of a line that the output took in part.
     pub(crate) rest: Vec<u8>,
@@ -104,7 +104,7 @@ pub(crate) struct Backlog {
 }
 
 /// How many lines an instance had in a second.
-#[derive(Clone, Copy)]
+#[derive(Clone, Copy, Debug)]
 pub(crate) struct LineCount {
     pub(crate) second: u64,
     pub(crate) lines: u32,
@@ -201,7 +201,7 @@ fn may_tell(counts: &mut [LineCount], instance: u32, second: u64) -> bool
 ///
 /// Of the runs of an instance ten at most are told in a second of the server's clock, each by one
 /// line or by two that are written or dropped together.
-#[derive(Drop)]
+#[derive(Drop, Debug)]
 pub struct ErrorLines<E> {
     alloc: Global,
     pub output: E,

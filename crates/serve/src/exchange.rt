@@ -27,7 +27,7 @@ const MOST_PIECES: usize = 32;
 const MOST_READ: u64 = 65_536;
 
 /// What a try to move bytes came to.
-#[derive(Clone, Copy, PartialEq, Eq)]
+#[derive(Clone, Copy, Debug, PartialEq, Eq)]
 pub(crate) enum Tried {
     Moved,
     NotReady,
@@ -65,7 +65,7 @@ fn piece_of(alloc: Global, room: &mut Vec<u8>, count: usize, more: usize) -> Vec
 
 /// Where bytes are read to, and how: two rooms, as one would be made longer and shorter with each
 /// frame.
-#[derive(Drop)]
+#[derive(Drop, Debug)]
 pub(crate) struct Rooms {
     /// For a piece that begins with a frame.
     front: Vec<u8>,

@@ -21,7 +21,7 @@ const HEAD_BYTES: u8 = 9;
 
 /// Where in a frame what came ends. Only how much is read goes by it. What the bytes mean is the
 /// server's to say.
-#[derive(Clone, Copy)]
+#[derive(Clone, Copy, Debug)]
 pub(crate) struct FrameCourse {
     /// How many bytes of a payload, or of the preface, are still to come.
     left: u32,

@@ -29,7 +29,7 @@ const PREFACE_LIMIT: u64 = 10_000;
 const PREFACE_LENGTH: u64 = 24;
 
 /// An open connection, and what is known of its traffic. Moments are in milliseconds.
-#[derive(Clone, Copy)]
+#[derive(Clone, Copy, Debug)]
 pub(crate) struct OpenSocket {
     pub(crate) socket: Socket,
     /// When something moved on it last, or it was opened.

@@ -52,7 +52,7 @@ const MOST_WAITING: usize = 64;
 const MOST_IN_VAIN: u64 = 16;
 
 /// Lets no instance have all the time.
-#[derive(Drop)]
+#[derive(Drop, Debug)]
 pub(crate) struct Pace {
     /// By the instances' numbers.
     shares: Vec<Share>,

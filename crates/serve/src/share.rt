@@ -24,7 +24,7 @@ const LEAST_PATIENCE: u64 = 3_000;
 const MOST_AHEAD: u64 = 1_000_000;
 
 /// What is done for an instance.
-#[derive(Clone, Copy, PartialEq, Eq)]
+#[derive(Clone, Copy, Debug, PartialEq, Eq)]
 pub(crate) enum Work {
     /// Bytes are moved, and calls carried out. That never waits.
     Exchange,
@@ -49,7 +49,7 @@ pub(crate) fn charged_of(work: Work, took: u64, before: ProcessorTime, now: Proc
 }
 
 /// What an instance had of the turns. Moments and times are in microseconds.
-#[derive(Clone, Copy)]
+#[derive(Clone, Copy, Debug)]
 pub(crate) struct Share {
     /// When something moved for it last.
     pub(crate) active: Option<u64>,

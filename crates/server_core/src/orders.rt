@@ -18,7 +18,7 @@ use served_instance::{Order, ServedInstance, Task};
 use std::alloc::{AllocError, Global};
 
 /// A text of a task, under its digest.
-#[derive(Drop)]
+#[derive(Drop, Debug)]
 pub struct TaskText {
     pub digest: Digest,
     pub text: Vec<u8>,

@@ -4,7 +4,7 @@ use crate::orders::OrderedAt;
 use served_instance::EventRefusal;
 
 /// All bytes that were put on one connection.
-#[derive(Drop)]
+#[derive(Drop, Debug)]
 pub struct SentBytes {
     /// The connection's number.
     pub connection: u32,
@@ -12,7 +12,7 @@ pub struct SentBytes {
 }
 
 /// An event that was refused.
-#[derive(Drop)]
+#[derive(Drop, Debug)]
 pub struct RefusedEvent {
     /// Among the instance's own events, counted from 1.
     pub place: u64,

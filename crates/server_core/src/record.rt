@@ -53,7 +53,7 @@ impl ConnectionChange {
 }
 
 /// An open connection: its place in `sent`, and how many of the bytes there were not taken.
-#[derive(Clone, Copy)]
+#[derive(Clone, Copy, Debug)]
 pub(crate) struct OpenRecord {
     pub(crate) number: u32,
     pub(crate) place: usize,

@@ -14,6 +14,7 @@ use std::marker::Model;
 pub const INSTANCE_LIMIT: usize = 256;
 
 /// How an instance is configured.
+#[derive(Debug)]
 pub struct InstanceConfig {
     pub name: String,
     /// The most bytes that it stores.
@@ -48,7 +49,7 @@ impl Drop for InstanceConfig {
 /// builds on another of the list, which builds on none.
 ///
 /// Contracts see it as the list of them, which has no fault.
-#[derive(Drop)]
+#[derive(Drop, Debug)]
 pub struct Configs {
     instances: Vec<InstanceConfig>,
 }

@@ -7,7 +7,7 @@ use std::io;
 use std::time::Instant;
 
 /// A session that is to be ended, but for its number, which is that of its first process.
-#[derive(Clone, Copy)]
+#[derive(Clone, Copy, Debug)]
 pub struct Session {
     /// Whether that process was waited for. The system may give the number to another one then, but
     /// not while anything is left of the session.
@@ -17,7 +17,7 @@ pub struct Session {
 }
 
 /// A question to what ends sessions.
-#[derive(Clone, Copy)]
+#[derive(Clone, Copy, Debug)]
 pub struct Question {
     /// The number of whom it was asked.
     pub asked: u64,

@@ -5,6 +5,7 @@ use crate::scene::{Target, Way};
 use std::io::ErrorKind;
 
 /// What is done, and what it comes to where nothing goes wrong.
+#[derive(Debug)]
 pub struct Case {
     pub name: &'static str,
     pub deed: Deed,

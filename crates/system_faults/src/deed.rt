@@ -20,7 +20,7 @@ const MOST_ASKED: u32 = 50;
 const DEEP: &str = "1-3/deep";
 
 /// What is done.
-#[derive(Clone, Copy, PartialEq, Eq)]
+#[derive(Clone, Copy, Debug, PartialEq, Eq)]
 pub enum Deed {
     Enter,
     MakeAll,

@@ -33,7 +33,7 @@ static NAMES: [&str; 10] = [
 ];
 
 /// What was done that nobody may do, or that is only done where a program changed something.
-#[derive(Clone, Copy)]
+#[derive(Clone, Copy, Debug)]
 pub struct Notes {
     /// How often a directory of another run was opened or listed, or a name there looked at.
     pub entered: u64,

@@ -24,14 +24,14 @@ pub enum Wrong {
 }
 
 /// What came of a deed.
-#[derive(Drop)]
+#[derive(Drop, Debug)]
 pub enum Outcome {
     Answered(String),
     Failed(ErrorKind),
 }
 
 /// What came of a run of a case.
-#[derive(Drop)]
+#[derive(Drop, Debug)]
 pub struct Came {
     pub outcome: Outcome,
     /// How many calls there were.

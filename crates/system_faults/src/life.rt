@@ -36,7 +36,7 @@ const ASKS_FIRST: RunKey = RunKey {
 type Folders<'a> = WorkFolder<'a, FakeDirectory<'a>, FakeHost<'a>>;
 
 /// What of the directory of inputs is made once for both runs.
-#[derive(Clone, Copy, PartialEq, Eq)]
+#[derive(Clone, Copy, Debug, PartialEq, Eq)]
 pub enum Shared {
     /// Nothing: they are runs of two instances.
     Nothing,
@@ -47,7 +47,7 @@ pub enum Shared {
 }
 
 /// Where lives are lived.
-#[derive(Clone, Copy)]
+#[derive(Clone, Copy, Debug)]
 pub struct Setting {
     pub name: &'static str,
     pub has_shells: bool,

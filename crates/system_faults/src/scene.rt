@@ -12,7 +12,7 @@ pub const ROOT: &str = "1-3";
 pub const ASIDE: &str = "1-3.aside";
 
 /// The nodes that others are put in the place of, and those that links lead to.
-#[derive(Clone, Copy)]
+#[derive(Clone, Copy, Debug)]
 pub struct Scene {
     root: NodeId,
     deep: NodeId,

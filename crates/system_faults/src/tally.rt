@@ -4,7 +4,7 @@ use crate::disk::Notes;
 use std::alloc::{AllocError, Global};
 
 /// How many runs of a case there were.
-#[derive(Clone, Copy)]
+#[derive(Clone, Copy, Debug)]
 pub struct Tally {
     runs: u64,
     /// In how many runs something was not right.

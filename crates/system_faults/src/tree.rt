@@ -16,7 +16,7 @@ pub const START: NodeId = NodeId(0);
 const TREE_FOLDERS: &[u8] = b"0-18446744073709551";
 
 /// What a node is.
-#[derive(Clone, Copy, PartialEq, Eq)]
+#[derive(Clone, Copy, Debug, PartialEq, Eq)]
 pub enum What {
     Directory,
     File,

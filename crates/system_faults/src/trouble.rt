@@ -4,7 +4,7 @@ use crate::tree::NodeId;
 use std::io::ErrorKind;
 
 /// What is asked of a system.
-#[derive(Clone, Copy, PartialEq, Eq)]
+#[derive(Clone, Copy, Debug, PartialEq, Eq)]
 pub enum Call {
     OpenIn,
     Again,

@@ -6,7 +6,7 @@ use std::alloc::{AllocError, Global};
 use std::io::{self, ErrorKind};
 
 /// What came of the question.
-#[derive(Drop)]
+#[derive(Drop, Debug)]
 pub enum Answer {
     /// It was answered, with the status 0.
     Given,
@@ -21,7 +21,7 @@ pub enum Answer {
 }
 
 /// What is known of the header blocks that a server sends.
-#[derive(Drop)]
+#[derive(Drop, Debug)]
 struct Blocks {
     decoder: Decoder,
     /// The block that is not at its end, as far as it came.
@@ -113,7 +113,7 @@ impl Blocks {
 }
 
 /// Reads what a server sends, piece by piece.
-#[derive(Drop)]
+#[derive(Drop, Debug)]
 pub struct AnswerReader {
     alloc: Global,
     frames: FrameReader,

@@ -12,7 +12,7 @@ use std::io::Write;
 
 /// What was printed, and what went wrong first, with that or with what is to be printed. So no
 /// call that prints has an answer: the program asks once, when it writes the text.
-#[derive(Drop)]
+#[derive(Drop, Debug)]
 pub struct Output {
     /// Where the text lies, and what is made for it.
     pub alloc: Global,

@@ -18,7 +18,7 @@ use std::time::Duration;
 const READ_LIMIT: usize = 16384;
 
 /// What is sent to a server, how many bytes are waited for, and for how many turns at most.
-#[derive(Clone, Copy)]
+#[derive(Clone, Copy, Debug)]
 pub struct Request<'a> {
     pub bytes: &'a [u8],
     pub want: u64,

@@ -20,7 +20,7 @@ pub struct TreeAsked<'a> {
 }
 
 /// A result that a request sends, under the digest of its action.
-#[derive(Drop)]
+#[derive(Drop, Debug)]
 pub struct ResultSent {
     pub action: Digest,
     /// The bytes of the `ActionResult` as they were sent.

@@ -78,7 +78,7 @@ pub trait Door: Drop {
 pub const NEWS_LIMIT: usize = 256;
 
 /// What came at a door, or on a wire that it let in.
-#[derive(Clone, Copy)]
+#[derive(Clone, Copy, Debug)]
 pub struct News {
     /// The place of the door.
     pub place: usize,
@@ -92,7 +92,7 @@ pub struct News {
 
 /// What a server had of its host's processors since its start, in microseconds. It rises by no more
 /// than the time that passes.
-#[derive(Clone, Copy)]
+#[derive(Clone, Copy, Debug)]
 pub struct ProcessorTime {
     /// For how long it ran.
     pub had: u64,

@@ -12,7 +12,7 @@ use system::Directory;
 
 /// The folder of a start, and the directories below it. The one that was used last is kept open,
 /// since what is done next is mostly done there.
-#[derive(Drop)]
+#[derive(Drop, Debug)]
 pub(crate) struct Entrance<D: Directory> {
     start: D,
     last: Option<Entered<D>>,

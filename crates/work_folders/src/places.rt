@@ -14,14 +14,14 @@ pub(crate) fn identity_of<D: Directory>(directory: &D) -> io::Result<Identity>
 }
 
 /// Where a tree of a run is bound.
-#[derive(Clone, Copy)]
+#[derive(Clone, Copy, Debug)]
 struct TreePlace {
     run: RunKey,
     identity: Identity,
 }
 
 /// The places of all runs.
-#[derive(Drop)]
+#[derive(Drop, Debug)]
 pub(crate) struct Places {
     all: Vec<TreePlace>,
 }

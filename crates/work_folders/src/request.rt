@@ -26,7 +26,7 @@ const LINKED: &[u8] = b"linked";
 const LINKED_TEXT: &str = "linked";
 
 /// A file that a run left, and where it stands.
-#[derive(Drop)]
+#[derive(Drop, Debug)]
 pub(crate) struct Target<'t, D: Directory> {
     pub(crate) run: RunKey,
     /// From the folder of the start on.
@@ -39,7 +39,7 @@ pub(crate) struct Target<'t, D: Directory> {
 }
 
 /// A file that is being opened.
-#[derive(Drop)]
+#[derive(Drop, Debug)]
 pub(crate) struct Request<D: Directory> {
     run: RunKey,
     path: String,

@@ -21,7 +21,7 @@ const FAR_AHEAD: u64 = 315_576_000_000;
 const MOST_TRIED: u64 = 1_000;
 
 /// The name of the folder of a start.
-#[derive(Drop)]
+#[derive(Drop, Debug)]
 pub(crate) struct StartName {
     text: String,
 }

@@ -17,7 +17,7 @@ const MOST_ENTRIES: usize = 50_000;
 const TOO_MANY_ENTRIES: &str = "the output directories have more than 50000 files and directories";
 
 /// What was made room for and listed of a run.
-#[derive(Clone, Copy)]
+#[derive(Clone, Copy, Debug)]
 struct Tally {
     run: RunKey,
     outputs: u32,
@@ -81,7 +81,7 @@ impl Tally {
 }
 
 /// What was made room for and listed of the runs that have folders.
-#[derive(Drop)]
+#[derive(Drop, Debug)]
 pub(crate) struct Tallies {
     runs: Vec<Tally>,
 }

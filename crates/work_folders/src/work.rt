@@ -24,7 +24,7 @@ const FORMER_FROM_START: &str = "../former";
 const CLEARING_SECONDS: u64 = 1;
 
 /// Two paths to the folder of a start.
-#[derive(Clone, Copy)]
+#[derive(Clone, Copy, Debug)]
 pub(crate) struct Paths<'a> {
     /// As long as it is open.
     pub(crate) shown: &'a str,

@@ -26,7 +26,7 @@ fn shown(answer: &Answer, output: &mut Output) -> Vec<u8> {
 }
 
 /// Prints answers, and of equal ones how many there are behind each other.
-#[derive(Drop)]
+#[derive(Drop, Debug)]
 pub struct Answers {
     last: Vec<u8>,
     count: u64,

@@ -7,7 +7,7 @@ use tool_programs::Output;
 use tree_messages::{Directory, DirectoryNode, SymlinkNode};
 
 /// A blob, and its digest as messages write it.
-#[derive(Drop)]
+#[derive(Drop, Debug)]
 pub struct Blob {
     pub text: Vec<u8>,
     hash: String,

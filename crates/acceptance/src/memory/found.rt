@@ -12,7 +12,7 @@ const FIND_MISSING: &str =
     "/build.bazel.remote.execution.v2.ContentAddressableStorage/FindMissingBlobs";
 
 /// Different texts.
-#[derive(Clone, Copy, Default)]
+#[derive(Clone, Copy, Debug, Default)]
 pub struct Texts {
     pub count: u64,
     /// How many bytes they have together.

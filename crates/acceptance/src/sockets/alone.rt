@@ -11,7 +11,7 @@ use std::mem::replace;
 use tool_programs::{Fault, Output};
 
 /// What came of a case.
-#[derive(Clone, Copy, Default)]
+#[derive(Clone, Copy, Debug, Default)]
 pub struct Outcome {
     /// How many clients were sent what their instance does not put on their connection alone, or
     /// what the log does not say.

@@ -8,7 +8,7 @@ use std::alloc::Global;
 use std::io::{self, ErrorKind};
 
 /// How clients behave.
-#[derive(Clone, Copy)]
+#[derive(Clone, Copy, Debug)]
 pub struct Habits {
     pub seed: u64,
     /// No client goes, and no call fails.
@@ -19,7 +19,7 @@ pub struct Habits {
 }
 
 /// A client.
-#[derive(Drop)]
+#[derive(Drop, Debug)]
 pub struct Client<'a> {
     pub instance: u32,
     /// What it has still to send.

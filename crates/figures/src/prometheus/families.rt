@@ -6,7 +6,7 @@ use crate::prometheus::page::{Label, Page};
 use std::alloc::{AllocError, Global};
 
 /// What is told of an instance.
-#[derive(Drop)]
+#[derive(Drop, Debug)]
 pub struct InstanceMetrics<'a> {
     pub name: &'a str,
     pub metrics: Metrics<'a>,

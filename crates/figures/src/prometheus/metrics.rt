@@ -4,7 +4,7 @@ use crate::prometheus::page::{Family, Kind, Label, Value};
 use std::alloc::{AllocError, Global};
 
 /// A number, under a name that is the family's or begins with it.
-#[derive(Drop)]
+#[derive(Drop, Debug)]
 pub(crate) struct Sample<'a> {
     pub(crate) name: &'a str,
     pub(crate) labels: Vec<Label<'a>>,
@@ -12,14 +12,14 @@ pub(crate) struct Sample<'a> {
 }
 
 /// A family with its samples.
-#[derive(Drop)]
+#[derive(Drop, Debug)]
 pub(crate) struct Metric<'a> {
     pub(crate) family: Family<'a>,
     pub(crate) samples: Vec<Sample<'a>>,
 }
 
 /// Families, one after another. Each is written down once, where its number comes from.
-#[derive(Drop)]
+#[derive(Drop, Debug)]
 pub struct Metrics<'a> {
     alloc: Global,
     pub(crate) list: Vec<Metric<'a>>,

@@ -138,7 +138,7 @@ fn add_value(alloc: Global, text: &mut Vec<u8>, value: Value) -> Result<(), Allo
 
 /// A text that grows by whole lines. Where a request for memory is refused for one, a front of it
 /// may stand.
-#[derive(Drop)]
+#[derive(Drop, Debug)]
 pub(crate) struct Page<'a> {
     alloc: Global,
     text: Vec<u8>,

@@ -5,6 +5,7 @@ ghost use Rattle.std.specs.Prelude.{[], ◌∷◌};
 use grpc_sending::Parts;
 
 /// Sources of one byte each.
+#[derive(Debug)]
 pub struct OneByte;
 
 impl Parts for OneByte {

@@ -6,7 +6,7 @@ use uploads::MOST_UPLOADS;
 const STILL: u64 = 60_000;
 
 /// Whether as many uploads as there may be are unfinished, and none goes on.
-#[derive(Clone, Copy)]
+#[derive(Clone, Copy, Debug)]
 pub(super) struct StillUploads {
     /// How many bytes of uploads had come when they went on last.
     received: u64,

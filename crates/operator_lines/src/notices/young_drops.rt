@@ -10,7 +10,7 @@ const YOUNG: u64 = 60_000;
 const DROPPING: u64 = 60_000;
 
 /// Blobs of an instance that should not have been dropped.
-#[derive(Clone, Copy)]
+#[derive(Clone, Copy, Debug)]
 pub(super) struct YoungDrops {
     /// How many blobs of any age were dropped when it was looked last.
     seen: u64,

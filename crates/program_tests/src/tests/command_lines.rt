@@ -17,6 +17,7 @@ fn add_words(alloc: Global, words: &mut Vec<String>, line: &str) -> Result<(), A
 }
 
 /// What comes of a command line.
+#[derive(Debug)]
 pub enum Wanted {
     Asks(Task),
     /// The status with which it ends, where it asks for nothing, and all that it says.
@@ -24,6 +25,7 @@ pub enum Wanted {
 }
 
 /// The invocation that a command line asks for.
+#[derive(Debug)]
 pub struct Task {
     pub kind: &'static str,
     /// Its file or folder.
@@ -91,6 +93,7 @@ impl Task {
 
 /// The numbers that a command line chooses for instances: blobs, results, bytes of these, and the
 /// window.
+#[derive(Debug)]
 pub struct Numbers(pub u64, pub u64, pub u64, pub u32);
 
 impl Numbers {

@@ -8,6 +8,7 @@ use std::test::*;
 use tool_programs::*;
 
 /// How a run ended, and the number with which the program ends.
+#[derive(Debug)]
 struct Ends(Status, u8);
 
 impl Case for Ends {

@@ -13,7 +13,7 @@ use server_events::Limits;
 use std::alloc::{AllocError, Global};
 
 /// The instance that a line configures, whether or not a server may have it.
-#[derive(Clone, Copy)]
+#[derive(Clone, Copy, Debug)]
 pub(crate) struct InstanceForm<'a> {
     pub(crate) name: &'a [u8],
     pub(crate) quota: u64,

@@ -20,7 +20,7 @@ use std::str;
 
 /// The instances that a script configures, and what happens to them, in order. The events are read
 /// from the text once more, one at a time.
-#[derive(Drop)]
+#[derive(Drop, Debug)]
 pub struct ReplayScript<'a> {
     pub configs: Vec<InstanceConfig>,
     pub events: EventReader<'a>,
@@ -57,7 +57,7 @@ pub fn parse(alloc: Global, limits: Limits, text: &[u8]) -> Result<ReplayScript<
 
 // What was chosen for the instances, those of all lines, those of the lines so far, and whether
 // there was an event among the latter.
-#[derive(Drop)]
+#[derive(Drop, Debug)]
 pub(crate) struct ReplayHead<'a> {
     pub(crate) limits: Limits,
     pub(crate) forms: Vec<InstanceForm<'a>>,

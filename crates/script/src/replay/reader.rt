@@ -15,7 +15,7 @@ use std::marker::Model;
 /// over.
 ///
 /// Contracts see it as the list of these events. It keeps none of them, and takes no memory.
-#[derive(Drop)]
+#[derive(Drop, Debug)]
 pub struct EventReader<'a> {
     rest: Option<&'a [u8]>,
 }

@@ -3,7 +3,7 @@
 use crate::unary::method::Method;
 
 /// An instance that a script configures.
-#[derive(Drop)]
+#[derive(Drop, Debug)]
 pub struct Instance {
     pub name: String,
     /// The bytes that it is given.

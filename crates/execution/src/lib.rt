@@ -19,7 +19,8 @@ mod taking;
 mod waiting;
 
 pub use answer::{ExecuteAnswer, WaitAnswer};
-pub use asked::Asked;
+pub use actions::WalkReading;
+pub use asked::{Asked, ExecuteCall};
 pub use asking::{execute_asked, name_asked};
 pub use executing::execute;
 pub use job::{Executions, Job, Task};

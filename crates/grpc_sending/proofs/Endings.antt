@@ -1,5 +1,5 @@
 -- What a turn ends is closed, and nothing is kept for it.
-use Rattle.std.proofs.Common.{◌≡◌, ℕ, ◌<◌, List, [], ◌∷◌, ◌++◌, length, refl, ap, ◌∙◌, sym, subst, inl, inr, append_assoc}
+use Rattle.std.proofs.Common.{◌≡◌, ℕ, List, [], ◌∷◌, ◌++◌, refl, ap, ◌∙◌, sym, subst, inl, inr, append_assoc}
 use Rattle.std.specs.Prelude.{Bool, true, false, not, ◌&&◌, ◌||◌, ◌==◌, map, Some}
 use Rattle.std.specs.List.{list_any}
 use Rattle.std.proofs.lemmas.Bool.{cases_Bool, eqb-true}
@@ -20,13 +20,12 @@ use Rattle.grpc_sending.specs.Owed.{OwedItem}
 use Rattle.grpc_sending.specs.Pump.{block_frame, reset_after, next_frames, history_after_pump}
 use Rattle.grpc_sending.specs.StandsFor.{IsSending, pieces_on}
 use Rattle.grpc_sending.specs.Step.{Rests}
-use Rattle.grpc_sending.specs.StoredSending.{SourceTexts, StoredSending, QueuesEndWithin, IsStoredSending, ForgetsEnded, stored_on, queue_in, sending_in}
-use Rattle.grpc_sending.specs.SendingSteps.{EndsBy, PutsBy, next_due}
+use Rattle.grpc_sending.specs.StoredSending.{SourceTexts, StoredSending, IsStoredSending, ForgetsEnded, stored_on, queue_in, sending_in}
+use Rattle.grpc_sending.specs.SendingSteps.{EndsBy, PutsBy}
 use Rattle.grpc_sending.proofs.Histories.{sent_more}
 use Rattle.grpc_sending.proofs.Turns.{frames_of, next_some}
 use Rattle.grpc_sending.proofs.Rounds.{in_history, head_turn, closes, reset_closes}
-use Rattle.grpc_sending.proofs.Dues.{given}
-use Rattle.grpc_sending.proofs.Stored.{turn_head}
+use Rattle.grpc_sending.proofs.Dues.{IsTurn, given, head_due}
 use Rattle.grpc_sending.proofs.Nothing.{AddsNone}
 use Rattle.grpc_sending.proofs.Pumps.{pumped_some, pumped_none}
 
@@ -66,38 +65,35 @@ same_some x y h = cc
 
 -- ---- a turn with bytes
 
-pub given_ends : (texts : SourceTexts) (v : Standing) (w old : StoredSending) (s n : ℕ) (rs : List StoredQueue) → w ≡ old →
-    v.failed ≡ false → length w.pending < 65536 → QueuesEndWithin texts w.queues →
-    next_due w.queues (window_left v.connection_window) v.live ≡ Some (Gives s n) → AddsNone old.queues rs →
-    (d : List Entry) (os : List OwedItem) → AreStreams v d → IsStoredSending texts old d os → ForgetsEnded old.queues d →
+pub given_ends : (texts : SourceTexts) (v : Standing) (w old : StoredSending) (s n : ℕ) (rs : List StoredQueue) →
+    IsTurn texts v w old (Some (Gives s n)) → AddsNone old.queues rs → (d : List Entry) (os : List OwedItem) → AreStreams v d → IsStoredSending texts old d os → ForgetsEnded old.queues d →
     (fs : List Frame) → next_frames d os ≡ Some fs → ForgetsEnded rs (d ++ map Out fs)
-given_ends texts v w old s n rs is alive room fit turn none d os at st h fs next =
-    let i = given texts w.queues (window_left v.connection_window) v.live s n fit turn in
-    let st' : IsSending (sending_in texts w) d os = subst (λ (x : StoredSending). IsSending (sending_in texts x) d os) (sym is) st in
+given_ends texts v w old s n rs t none d os at st h fs next =
+    let i = given texts v w old s n t in
+    let st' : IsSending (sending_in texts w) d os = subst (λ (x : StoredSending). IsSending (sending_in texts x) d os) (sym t.is) st in
     let e : frames_of d (Content s i.part) ≡ fs =
     same_some (frames_of d (Content s i.part)) fs
-    (sym (next_some v (sending_in texts w) d os (Content s i.part) at st' alive room i.turn) ∙ next) in
+    (sym (next_some v (sending_in texts w) d os (Content s i.part) at st' t.alive t.room i.turn) ∙ next) in
     subst (λ (gs : List Frame). ForgetsEnded rs (d ++ map Out gs)) e
-    (λ t. before d (frames_of d (Content s i.part)) old.queues rs t refl none h)
+    (λ k. before d (frames_of d (Content s i.part)) old.queues rs k refl none h)
 
 -- ---- a turn with a block
 
 pub opens_ends : (texts : SourceTexts) (v : Standing) (w old : StoredSending) (s : ℕ) (block : ResponseBlock) (ended last : Bool)
-    (rs : List StoredQueue) → w ≡ old → v.failed ≡ false → length w.pending < 65536 → QueuesEndWithin texts w.queues →
-    next_due w.queues (window_left v.connection_window) v.live ≡ Some (Opens s block ended) → last ≡ is_last block → last ≡ false →
+    (rs : List StoredQueue) → IsTurn texts v w old (Some (Opens s block ended)) → last ≡ is_last block → last ≡ false →
     AddsNone old.queues rs →
     (d : List Entry) (os : List OwedItem) → AreStreams v d → IsStoredSending texts old d os → ForgetsEnded old.queues d →
     (fs : List Frame) → next_frames d os ≡ Some fs → ForgetsEnded rs (d ++ map Out fs)
-opens_ends texts v w old s block ended last rs is alive room fit turn ends_is goes_on none d os at st h fs next =
-    let t1 = turn_head texts w.queues (window_left v.connection_window) v.live s block ended fit turn in
-    let st' : IsSending (sending_in texts w) d os = subst (λ (x : StoredSending). IsSending (sending_in texts x) d os) (sym is) st in
+opens_ends texts v w old s block ended last rs t ends_is goes_on none d os at st h fs next =
+    let t1 = head_due texts v w old s block ended t in
+    let st' : IsSending (sending_in texts w) d os = subst (λ (x : StoredSending). IsSending (sending_in texts x) d os) (sym t.is) st in
     let e : frames_of d (Head s block ended) ≡ fs =
     same_some (frames_of d (Head s block ended)) fs
-    (sym (next_some v (sending_in texts w) d os (Head s block ended) at st' alive room t1) ∙ next) in
+    (sym (next_some v (sending_in texts w) d os (Head s block ended) at st' t.alive t.room t1) ∙ next) in
     let not_last : is_last block ≡ false = sym ends_is ∙ goes_on in
     subst (λ (gs : List Frame). ForgetsEnded rs (d ++ map Out gs)) e
-    (λ t. before d (frames_of d (Head s block ended)) old.queues rs t
-    (block_quiet d s t block (is_last block && not ended) (ap (λ b. b && s == t) not_last)) none h)
+    (λ k. before d (frames_of d (Head s block ended)) old.queues rs k
+    (block_quiet d s k block (is_last block && not ended) (ap (λ b. b && s == k) not_last)) none h)
 
 last_closed : (d : List Entry) (s : ℕ) (block : ResponseBlock) (ended : Bool) → is_last block ≡ true → is_ended_by_client d s ≡ ended →
     is_not_closed (d ++ map Out (block_frame d s block ∷ reset_after s (is_last block && not ended))) s ≡ false
@@ -109,30 +105,29 @@ last_closed d s block false last by_client =
     ∙ reset_closes (d ++ Out (block_frame d s block) ∷ []) s 0
 
 pub last_ends : (texts : SourceTexts) (v : Standing) (w old : StoredSending) (s : ℕ) (block : ResponseBlock) (ended last : Bool)
-    (rs : List StoredQueue) → w ≡ old → v.failed ≡ false → length w.pending < 65536 → QueuesEndWithin texts w.queues →
-    next_due w.queues (window_left v.connection_window) v.live ≡ Some (Opens s block ended) → last ≡ is_last block → last ≡ true →
+    (rs : List StoredQueue) → IsTurn texts v w old (Some (Opens s block ended)) → last ≡ is_last block → last ≡ true →
     stored_on s rs ≡ [] → AddsNone old.queues rs →
     (d : List Entry) (os : List OwedItem) → AreStreams v d → IsStoredSending texts old d os → ForgetsEnded old.queues d →
     (fs : List Frame) → next_frames d os ≡ Some fs → ForgetsEnded rs (d ++ map Out fs)
-last_ends texts v w old s block ended last rs is alive room fit turn ends_is ends_it dropped none d os at st h fs next =
-    let t1 = turn_head texts w.queues (window_left v.connection_window) v.live s block ended fit turn in
-    let st' : IsSending (sending_in texts w) d os = subst (λ (x : StoredSending). IsSending (sending_in texts x) d os) (sym is) st in
+last_ends texts v w old s block ended last rs t ends_is ends_it dropped none d os at st h fs next =
+    let t1 = head_due texts v w old s block ended t in
+    let st' : IsSending (sending_in texts w) d os = subst (λ (x : StoredSending). IsSending (sending_in texts x) d os) (sym t.is) st in
     let e : frames_of d (Head s block ended) ≡ fs =
     same_some (frames_of d (Head s block ended)) fs
-    (sym (next_some v (sending_in texts w) d os (Head s block ended) at st' alive room t1) ∙ next) in
-    let i = in_history v (sending_in texts w) d (Head s block ended) at alive t1 in
+    (sym (next_some v (sending_in texts w) d os (Head s block ended) at st' t.alive t.room t1) ∙ next) in
+    let i = in_history v (sending_in texts w) d (Head s block ended) at t.alive t1 in
     let k = head_turn (window_left (connection_window d)) (stream_at d i.at)
     (pieces_on i.at (map (queue_in texts) w.queues)) s block ended i.turn in
     let by_client : is_ended_by_client d s ≡ ended = ap (is_ended_by_client d) (sym k.number) ∙ k.ended_by_client in
     let closed = last_closed d s block ended (sym ends_is ∙ ends_it) by_client in
-    subst (λ (gs : List Frame). ForgetsEnded rs (d ++ map Out gs)) e (λ t ended'. elim (cases_Bool (s == t)) [
-      | inl same ↦ let n : s ≡ t = eqb-true s t same in (
+    subst (λ (gs : List Frame). ForgetsEnded rs (d ++ map Out gs)) e (λ m ended'. elim (cases_Bool (s == m)) [
+      | inl same ↦ let n : s ≡ m = eqb-true s m same in (
         ap (is_not_closed (d ++ map Out (frames_of d (Head s block ended)))) (sym n) ∙ closed,
-        ap (λ m. stored_on m rs) (sym n)
+        ap (λ j. stored_on j rs) (sym n)
             ∙ dropped,
       )
-      | inr other ↦ before d (frames_of d (Head s block ended)) old.queues rs t
-          (block_quiet d s t block (is_last block && not ended) (ap (λ b. is_last block && b) other ∙ and_none (is_last block))) none h
+      | inr other ↦ before d (frames_of d (Head s block ended)) old.queues rs m
+          (block_quiet d s m block (is_last block && not ended) (ap (λ b. is_last block && b) other ∙ and_none (is_last block))) none h
           ended'
     ])
 
@@ -142,9 +137,6 @@ abbrev pub Ending : SourceTexts → Standing → StoredSending → Standing → 
 Ending texts v w v' w' = (d : List Entry) (os : List OwedItem) → AreStreams v d → IsStoredSending texts w d os → ForgetsEnded w.queues d →
     (e : List Entry) × AreStreams v' e × IsStoredSending texts w' e os × (history_after_pump e os ≡ history_after_pump d os)
     × ForgetsEnded w'.queues e
-
-pub ending_none : (texts : SourceTexts) (v : Standing) (w : StoredSending) → Ending texts v w v w
-ending_none texts v w = λ d os at st h. (d, at, st, refl, h)
 
 pub ending_more : (texts : SourceTexts) (v v1 v2 : Standing) (w w1 w2 : StoredSending) → Ending texts v w v1 w1 → PutsBy texts v1 w1 v2 w2 →
     EndsBy texts v1 w1 w2 → Ending texts v w v2 w2

@@ -5,7 +5,7 @@ use Rattle.std.specs.Prelude.{◌==◌, cond, Result, Ok, Err, OnOk, OnErr}
 use Rattle.grpc_sending.specs.declared.piece.StoredPiece.{StoredPiece}
 use Rattle.grpc_sending.specs.declared.queue.StoredQueue.{StoredQueue}
 use Rattle.grpc_sending.specs.Sources.{count_of, AreSame, sources_held, BacklogValue, sources_waiting}
-use Rattle.grpc_sending.specs.StoredSending.{SourceTexts, StoredSending, EndsWithinText, QueuesEndWithin, KeepsSources, sources_of}
+use Rattle.grpc_sending.specs.StoredSending.{SourceTexts, StoredSending, EndsWithinText, QueuesEndWithin, sources_of}
 use Rattle.grpc_sending.proofs.Pushes.{Pushed}
 use Rattle.grpc_sending.proofs.Sources.{sum_append}
 use Rattle.grpc_sending.proofs.Stored.{fit_pushed}
@@ -17,9 +17,6 @@ waiting w = record { queues = w.queues; spent = w.spent }
 pub keeps_by : (w v : StoredSending) (b : BacklogValue) → w ≡ v → AreSame (sources_of w) (sources_waiting b) → (k : ℕ) →
     count_of k (sources_waiting b) ≡ count_of k (sources_of v)
 keeps_by w v b is same k = same (λ n. cond (k == n) 1 0) ∙ ap (λ (x : StoredSending). count_of k (sources_of x)) is
-
-pub keeps_more : (v w x : StoredSending) → KeepsSources v w → KeepsSources w x → KeepsSources v x
-keeps_more v w x a b k = b k ∙ a k
 
 pub keeps_push : {T E : Type 0} (r : Result T E) (w v : StoredSending) (b : BacklogValue) → w ≡ v →
     OnOk r (AreSame (sources_of w) (sources_waiting b)) → OnErr r (b ≡ waiting w) → (k : ℕ) →

@@ -19,6 +19,7 @@ pub mod Sources
 pub mod Heads
 pub mod Sorted
 pub mod Holding
+mod Inside
 pub mod Keeping
 pub mod Nothing
 pub mod Endings

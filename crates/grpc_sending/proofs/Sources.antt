@@ -84,9 +84,6 @@ room_of os ns first old room room' same fits more =
     let b : length (ns ++ old) ≡ length ns + length old = length-append ns old in
     omega (arith, n, a, b, fits, more)
 
-pub same_more : (a b c : List ℕ) → AreSame a b → AreSame b c → AreSame a c
-same_more a b c g h f = h f ∙ g f
-
 -- ---- all of them
 
 pub same_last : (os qs rs : List StoredQueue) (q : StoredQueue) (first old new : List ℕ) → qs ≡ rs ++ q ∷ [] →

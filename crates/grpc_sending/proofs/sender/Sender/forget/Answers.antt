@@ -5,17 +5,12 @@ use Rattle.grpc_sending.proofs.Stored.{none_stored, fit_forgotten}
 use Rattle.grpc_sending.proofs.Takes.{forget_by}
 use Rattle.grpc_sending.proofs.Keeping.{keeps_by}
 use Rattle.grpc_sending.proofs.Nothing.{none_by, none_forgotten}
+use Rattle.grpc_sending.proofs.Inside.{kept_in}
 use Rattle.grpc_sending.proofs.sender.Sender.forget.Goals as goal
 
 pub returns-clause-stands : goal.returns-clause-stands
 returns-clause-stands c = λ texts. forget_by texts
-    (record {
-      pending = c.self.inside.buffer;
-      position = c.self.inside.position;
-      queues = c.self.inside.backlog.queues;
-      spent =
-          c.self.inside.backlog.spent;
-    }) c.args.self.now c.args.stream c.forget.new.self.queues c.self.view_is c.forget.ensures.queues
+    (kept_in c.self.inside) c.args.self.now c.args.stream c.forget.new.self.queues c.self.view_is c.forget.ensures.queues
 
 pub returns-clause-dropped : goal.returns-clause-dropped
 returns-clause-dropped c = ap (λ (qs : List StoredQueue). stored_on c.args.stream qs) c.forget.ensures.queues
@@ -26,21 +21,9 @@ returns-clause-fit c = λ texts h. fit_forgotten texts c.args.stream c.self.insi
     c.forget.ensures.queues (subst (λ (x : StoredSending). QueuesEndWithin texts x.queues) (sym c.self.view_is) h)
 
 pub returns-clause-sources : goal.returns-clause-sources
-returns-clause-sources c = keeps_by (record {
-  pending = c.self.inside.buffer;
-  position = c.self.inside.position;
-  queues =
-      c.self.inside.backlog.queues;
-  spent = c.self.inside.backlog.spent;
-}) c.args.self.now c.forget.new.self c.self.view_is
+returns-clause-sources c = keeps_by (kept_in c.self.inside) c.args.self.now c.forget.new.self c.self.view_is
     c.forget.ensures.sources
 
 pub returns-clause-none : goal.returns-clause-none
-returns-clause-none c = none_by (record {
-  pending = c.self.inside.buffer;
-  position = c.self.inside.position;
-  queues =
-      c.self.inside.backlog.queues;
-  spent = c.self.inside.backlog.spent;
-}) c.args.self.now c.forget.new.self.queues c.self.view_is
+returns-clause-none c = none_by (kept_in c.self.inside) c.args.self.now c.forget.new.self.queues c.self.view_is
     (none_forgotten c.args.stream c.self.inside.backlog.queues c.forget.new.self.queues c.forget.ensures.queues)

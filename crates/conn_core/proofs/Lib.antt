@@ -20,6 +20,7 @@ pub mod Frames
 pub mod Closed
 pub mod CallsInCourse
 pub mod Forgets
+mod Inside
 mod Looks
 mod Readers
 pub use Rattle.http2_frames.proofs.WireItemsDivisions as Divisions

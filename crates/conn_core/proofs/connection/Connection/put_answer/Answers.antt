@@ -4,6 +4,7 @@ use Rattle.grpc_sending.specs.StoredSending.{StoredSending}
 use Rattle.conn_core.proofs.Putting.{puts_one}
 use Rattle.conn_core.proofs.Looks.{fit_rest}
 use Rattle.conn_core.proofs.StreamsLaws.{is_control}
+use Rattle.conn_core.proofs.Inside.{kept_in}
 use Rattle.conn_core.proofs.connection.Connection.put_answer.Goals as goal
 
 pub has_room-requires : goal.has_room-requires
@@ -16,28 +17,10 @@ pub put_control-requires-clause-short : goal.put_control-requires-clause-short
 put_control-requires-clause-short c = omega (arith, answer_is_short c.args.frame.now c.requires)
 
 pub returns-clause-puts : goal.returns-clause-puts
-returns-clause-puts c = puts_one (record {
-  reader = c.self.inside.reader;
-  streams = c.self.inside.streams;
-  sending = c.self.inside.sender;
-  calls = c.self.inside.calls.items;
-  due = c.self.inside.due.items;
-  ended = c.self.inside.ended;
-  reset_count =
-      c.self.inside.reset_count;
-}) c.args.self.now c.put_control.new.self c.args.frame.now c.has_room.result c.self.view_is
+returns-clause-puts c = puts_one (kept_in c.self.inside) c.args.self.now c.put_control.new.self c.args.frame.now c.has_room.result c.self.view_is
     c.if-not-has_room.false c.has_room.ensures c.put_control.ensures.stands c.put_control.ensures.size
     (ap (λ (w : StoredSending). w.queues) c.put_control.ensures.rest)
 
 pub returns-clause-fit : goal.returns-clause-fit
-returns-clause-fit c = fit_rest (record {
-  reader = c.self.inside.reader;
-  streams = c.self.inside.streams;
-  sending = c.self.inside.sender;
-  calls = c.self.inside.calls.items;
-  due = c.self.inside.due.items;
-  ended = c.self.inside.ended;
-  reset_count =
-      c.self.inside.reset_count;
-}) c.args.self.now c.put_control.new.self c.put_control.new.self.pending c.self.view_is
+returns-clause-fit c = fit_rest (kept_in c.self.inside) c.args.self.now c.put_control.new.self c.put_control.new.self.pending c.self.view_is
     c.put_control.ensures.rest

@@ -1,6 +1,7 @@
 use Rattle.std.proofs.Common.{ap, sym, subst, length, arith}
 use Rattle.grpc_sending.specs.StoredSending.{StoredSending, IsAtRest}
 use Rattle.conn_core.proofs.Keeps.{spent_by}
+use Rattle.conn_core.proofs.Inside.{kept_in}
 use Rattle.conn_core.proofs.connection.Connection.spent.Goals as goal
 
 pub invariant_of-self : goal.invariant_of-self
@@ -13,14 +14,5 @@ invariant_of-self c = (
 
 pub returns-clause-stands : goal.returns-clause-stands
 returns-clause-stands c = λ texts. spent_by texts
-    (record {
-      reader = c.self.inside.reader;
-      streams = c.self.inside.streams;
-      sending = c.self.inside.sender;
-      calls =
-          c.self.inside.calls.items;
-      due = c.self.inside.due.items;
-      ended = c.self.inside.ended;
-      reset_count = c.self.inside.reset_count;
-    })
+    (kept_in c.self.inside)
     c.args.self.now c.spent.new.self c.spent.new.self.spent c.self.view_is c.spent.ensures.rest

@@ -3,32 +3,15 @@ use Rattle.conn_core.proofs.Bring.{trailers_by}
 use Rattle.conn_core.specs.Step.{with_reader}
 use Rattle.conn_core.proofs.Readers.{for_all}
 use Rattle.conn_core.proofs.Looks.{fit_same}
+use Rattle.conn_core.proofs.Inside.{kept_in}
 use Rattle.conn_core.proofs.connection.Connection.take_trailers.Goals as goal
 
 pub returns-clause-stands : goal.returns-clause-stands
 returns-clause-stands c = for_all _ c.take_more.result
     (λ reader texts. trailers_by texts c.take_more.result
-    (record {
-      reader = reader;
-      streams = c.self.inside.streams;
-      sending = c.self.inside.sender;
-      calls = c.self.inside.calls.items;
-      due =
-          c.self.inside.due.items;
-      ended = c.self.inside.ended;
-      reset_count = c.self.inside.reset_count;
-    })
+    (record (kept_in c.self.inside) { reader = reader })
     (with_reader reader c.args.self.now) c.take_more.new.calls.items c.take_more.new.due.items c.args.stream
     (ap (with_reader reader) c.self.view_is) c.take_more.ensures)
 
 pub returns-clause-fit : goal.returns-clause-fit
-returns-clause-fit c = fit_same (record {
-  reader = c.self.inside.reader;
-  streams = c.self.inside.streams;
-  sending = c.self.inside.sender;
-  calls = c.self.inside.calls.items;
-  due = c.self.inside.due.items;
-  ended = c.self.inside.ended;
-  reset_count =
-      c.self.inside.reset_count;
-}) c.args.self.now c.self.view_is
+returns-clause-fit c = fit_same (kept_in c.self.inside) c.args.self.now c.self.view_is

@@ -2,6 +2,7 @@ use Rattle.std.proofs.Common.{arith, length, ap, length-drop, sym}
 use Rattle.grpc_sending.specs.StoredSending.{StoredSending}
 use Rattle.std.proofs.lemmas.Bool.{true≢false}
 use Rattle.conn_core.proofs.Keeps.{took_by}
+use Rattle.conn_core.proofs.Inside.{kept_in}
 use Rattle.conn_core.proofs.connection.Connection.took.Goals as goal
 
 pub invariant_of-self : goal.invariant_of-self
@@ -20,15 +21,6 @@ invariant_of-self c = (
 
 pub returns-clause-stands : goal.returns-clause-stands
 returns-clause-stands c = λ texts. took_by texts
-    (record {
-      reader = c.self.inside.reader;
-      streams = c.self.inside.streams;
-      sending = c.self.inside.sender;
-      calls =
-          c.self.inside.calls.items;
-      due = c.self.inside.due.items;
-      ended = c.self.inside.ended;
-      reset_count = c.self.inside.reset_count;
-    })
+    (kept_in c.self.inside)
     c.args.self.now c.took.new.self c.after_taking-resets.result c.args.count c.self.view_is c.after_taking-resets.ensures.count
     (ap (λ (w : StoredSending). w.queues) c.took.ensures.rest) (c.took.ensures.stands texts)

@@ -26,9 +26,6 @@ message_replies q parent s id bytes r h = subst (λ (a : Answer). Gives q r a.re
 abbrev pub Apart : Slots → InstanceSlots → ViewValue → Type 0
 Apart p i parent = (k : ℕ) → holders_of_instance i k + holders parent k ≤ count_at p k
 
-pub apart_by : (p : Slots) (i j : InstanceSlots) (parent : ViewValue) → i ≡ j → Apart p j parent → Apart p i parent
-apart_by p i j parent is h = subst (λ (x : InstanceSlots). Apart p x parent) (sym is) h
-
 texts_apart : (p : Slots) (i : InstanceSlots) (parent : ViewValue) → Apart p i parent → (k : ℕ) →
     holders i.view k + holders parent k ≤ count_at p k
 texts_apart p i parent apart k = let a = apart k in omega (arith, a)

@@ -71,12 +71,6 @@ none_on : (only : Option ℕ) → replies_to only [] ≡ []
 none_on None = refl
 none_on (Some c) = refl
 
-pub none_told : (only : Option ℕ) (t : ToldValue) (id : CallId) (call : CallValue) (old : List ReplyValue) →
-    is_watching t.number call.progress ≡ false → old ≡ old ++ replies_to only (replies_told ((id, call) ∷ []) t)
-none_told only t id call old is_no =
-    let nobody : replies_told ((id, call) ∷ []) t ≡ [] = rw is_no refl in
-    sym (append-nil old) ∙ ap (λ (rs : List ReplyValue). old ++ rs) (sym (ap (replies_to only) nobody ∙ none_on only))
-
 heard : (only : Option ℕ) (t : ToldValue) (id : CallId) → hears only id ≡ true →
     replies_to only (told_reply t id ∷ []) ≡ told_reply t id ∷ []
 heard None t id is_so = refl

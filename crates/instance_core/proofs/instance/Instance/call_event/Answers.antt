@@ -1,4 +1,5 @@
-use Rattle.std.proofs.Common.{◌+◌, sym, subst}
+use Rattle.std.proofs.Common.{◌+◌, sym, subst, arith, rules}
+use Rattle.std.proofs.lemmas.Grind.{common_steps}
 use Rattle.blob_pool.specs.Moves.{Holders}
 use Rattle.instance_view.specs.Shown.{visible_in, holders}
 use Rattle.execution.specs.InPool.{jobs_in}
@@ -9,7 +10,7 @@ use Rattle.instance_core.specs.ReplyHolders.{result_holders}
 use Rattle.instance_core.proofs.Events.{event_short, event_within}
 use Rattle.instance_core.proofs.Readying.{in_order}
 use Rattle.instance_core.proofs.Taking.{contents_in_pool, room_left}
-use Rattle.instance_core.proofs.Beside.{apart_by, message_makes, message_replies, message_whole, message_front, end_whole, end_front}
+use Rattle.instance_core.proofs.Beside.{message_makes, message_replies, message_whole, message_front, end_whole, end_front}
 use Rattle.instance_core.proofs.instance.Instance.call_event.Goals as goal
 
 pub on_message-requires-clause-kept : goal.on_message-requires-clause-kept
@@ -20,20 +21,18 @@ on_message-requires-clause-kept c =
     contents_in_pool p i.settings i.contents i.calls c.self-in-Message.invariant.1
     (in_order p i.contents.executions.queue kept.within.jobs) kept
 
-pub on_end-requires-clause-kept : goal.on_end-requires-clause-kept
-on_end-requires-clause-kept c =
+pub on_end-requires : goal.on_end-requires
+on_end-requires c =
     let i = c.self-in-End.inside in
     let p = c.args.pool.now in
     let kept = subst (λ (x : InstanceSlots). IsInstanceInPool p x) (sym c.self-in-End.view_is) c.requires.kept in
-    contents_in_pool p i.settings i.contents i.calls c.self-in-End.invariant.1
-    (in_order p i.contents.executions.queue kept.within.jobs) kept
-
-pub on_end-requires-clause-room : goal.on_end-requires-clause-room
-on_end-requires-clause-room c =
-    let i = c.self-in-End.inside in
-    let p = c.args.pool.now in
-    let kept = subst (λ (x : InstanceSlots). IsInstanceInPool p x) (sym c.self-in-End.view_is) c.requires.kept in
-    room_left p i.settings i.contents i.calls c.self-in-End.invariant.1 (in_order p i.contents.executions.queue kept.within.jobs) kept
+    let order = in_order p i.contents.executions.queue kept.within.jobs in
+    record {
+      kept = contents_in_pool p i.settings i.contents i.calls c.self-in-End.invariant.1 order kept;
+      beside = first_of (search rules, grind (arith, common_steps));
+      room = room_left p i.settings i.contents i.calls c.self-in-End.invariant.1 order kept;
+      slots = first_of (search rules, grind (arith, common_steps));
+    }
 
 pub returns-in-Head-clause-short : goal.returns-in-Head-clause-short
 returns-in-Head-clause-short c =
@@ -49,69 +48,8 @@ returns-in-Fault-clause-short c =
     (fault c.in-Fault.id c.in-Fault.refusal) c.on_fault.result c.self-in-Fault.view_is c.requires.kept c.requires.beside
     (c.on_fault.ensures.replies c.args.pool.now) tt
 
-pub returns-in-End-clause-short : goal.returns-in-End-clause-short
-returns-in-End-clause-short c =
-    let i = c.self-in-End.inside in
-    event_short c.args.pool.now c.on_end.new.pool c.args.parent.now (slots_of i.settings i.contents i.calls) c.args.self.now
-    (end c.in-End.id) c.on_end.result c.self-in-End.view_is c.requires.kept c.requires.beside c.on_end.ensures.replies tt
-
-pub returns-in-End-clause-replies : goal.returns-in-End-clause-replies
-returns-in-End-clause-replies c =
-    let i = c.self-in-End.inside in
-    rw (c.in-End.is, ← c.self-in-End.view_is) c.on_end.ensures.replies
-
-pub returns-in-Message-clause-replies : goal.returns-in-Message-clause-replies
-returns-in-Message-clause-replies c =
-    let i = c.self-in-Message.inside in
-    let p = c.args.pool.now in
-    rw (c.in-Message.is, ← c.self-in-Message.view_is)
-    (message_replies c.on_message.new.pool (visible_in p c.args.parent.now)
-    (state_in p (slots_of i.settings i.contents i.calls)) c.in-Message.id c.in-Message.message.items c.on_message.result
-    (c.on_message.ensures.replies (jobs_in p i.contents.executions.queue) c.on_message.new.pool))
-
-pub returns-in-Message-clause-short : goal.returns-in-Message-clause-short
-returns-in-Message-clause-short c =
-    let i = c.self-in-Message.inside in
-    let p = c.args.pool.now in
-    let request = rw c.in-Message.is at c.requires.short in
-    event_short p c.on_message.new.pool c.args.parent.now (slots_of i.settings i.contents i.calls) c.args.self.now
-    (message c.in-Message.id c.in-Message.message.items) c.on_message.result c.self-in-Message.view_is c.requires.kept c.requires.beside
-    (message_replies c.on_message.new.pool (visible_in p c.args.parent.now)
-    (state_in p (slots_of i.settings i.contents i.calls)) c.in-Message.id c.in-Message.message.items c.on_message.result
-    (c.on_message.ensures.replies (jobs_in p i.contents.executions.queue) c.on_message.new.pool)) request
-
-pub returns-in-Message-clause-changed : goal.returns-in-Message-clause-changed
-returns-in-Message-clause-changed c =
-    let i = c.self-in-Message.inside in
-    let p = c.args.pool.now in
-    let q = c.on_message.new.pool in
-    let old = slots_of i.settings i.contents i.calls in
-    let new = slots_of i.settings c.on_message.new.contents c.on_message.new.calls in
-    let apart = apart_by p old c.args.self.now c.args.parent.now c.self-in-Message.view_is c.requires.beside.counted in
-    let makes = message_makes i.settings i.contents c.on_message.new.contents i.calls c.on_message.new.calls p q c.args.parent.now
-    c.in-Message.id c.in-Message.message.items c.on_message.result c.on_message.ensures.executions c.on_message.ensures.moves apart
-    (c.on_message.ensures.changed (jobs_in p i.contents.executions.queue)) in
-    rw (c.in-Message.is, ← c.self-in-Message.view_is)
-    (message_whole p q c.args.parent.now old new (holders c.on_message.new.contents.view) c.in-Message.id c.in-Message.message.items
-    c.on_message.result c.on_message.ensures.moves apart makes)
-
-pub returns-in-Message-clause-memory : goal.returns-in-Message-clause-memory
-returns-in-Message-clause-memory c =
-    let i = c.self-in-Message.inside in
-    let p = c.args.pool.now in
-    let q = c.on_message.new.pool in
-    let old = slots_of i.settings i.contents i.calls in
-    let new = slots_of i.settings c.on_message.new.contents c.on_message.new.calls in
-    let apart = apart_by p old c.args.self.now c.args.parent.now c.self-in-Message.view_is c.requires.beside.counted in
-    let makes = message_makes i.settings i.contents c.on_message.new.contents i.calls c.on_message.new.calls p q c.args.parent.now
-    c.in-Message.id c.in-Message.message.items c.on_message.result c.on_message.ensures.executions c.on_message.ensures.moves apart
-    (c.on_message.ensures.changed (jobs_in p i.contents.executions.queue)) in
-    rw (c.in-Message.is, ← c.self-in-Message.view_is)
-    (message_front p q c.args.parent.now old new (holders c.on_message.new.contents.view) c.in-Message.id c.in-Message.message.items
-    c.on_message.result c.on_message.ensures.moves apart makes)
-
-pub returns-in-Message-clause-within : goal.returns-in-Message-clause-within
-returns-in-Message-clause-within c =
+pub returns-in-Message : goal.returns-in-Message
+returns-in-Message c =
     let i = c.self-in-Message.inside in
     let p = c.args.pool.now in
     let q = c.on_message.new.pool in
@@ -125,39 +63,26 @@ returns-in-Message-clause-within c =
     let request = rw c.in-Message.is at c.requires.short in
     let kept = subst (λ (x : InstanceSlots). IsInstanceInPool p x) (sym c.self-in-Message.view_is) c.requires.kept in
     let beside = subst (λ (x : InstanceSlots). IsBeside p parent x) (sym c.self-in-Message.view_is) c.requires.beside in
+    let replies = message_replies q (visible_in p parent) (state_in p old) id bytes r
+    (c.on_message.ensures.replies (jobs_in p i.contents.executions.queue) q) in
     let makes = message_makes i.settings i.contents c.on_message.new.contents i.calls c.on_message.new.calls p q parent id bytes r
     c.on_message.ensures.executions c.on_message.ensures.moves beside.counted
     (c.on_message.ensures.changed (jobs_in p i.contents.executions.queue)) in
-    event_within p q parent old new (message id bytes) r kept beside request
-    (message_whole p q parent old new those id bytes r c.on_message.ensures.moves beside.counted makes)
-    (message_front p q parent old new those id bytes r c.on_message.ensures.moves beside.counted makes)
+    let whole = message_whole p q parent old new those id bytes r c.on_message.ensures.moves beside.counted makes in
+    let front = message_front p q parent old new those id bytes r c.on_message.ensures.moves beside.counted makes in
+    record {
+      replies = rw (c.in-Message.is, ← c.self-in-Message.view_is) replies;
+      changed = rw (c.in-Message.is, ← c.self-in-Message.view_is) whole;
+      memory = rw (c.in-Message.is, ← c.self-in-Message.view_is) front;
+      moves = first_of (search rules, grind (arith, common_steps));
+      within = event_within p q parent old new (message id bytes) r kept beside request whole front;
+      config = first_of (search rules, grind (arith, common_steps));
+      short = event_short p q parent old c.args.self.now (message id bytes) r c.self-in-Message.view_is c.requires.kept
+          c.requires.beside replies request;
+    }
 
-pub returns-in-End-clause-changed : goal.returns-in-End-clause-changed
-returns-in-End-clause-changed c =
-    let i = c.self-in-End.inside in
-    let p = c.args.pool.now in
-    let old = slots_of i.settings i.contents i.calls in
-    let new = slots_of i.settings c.on_end.new.contents c.on_end.new.calls in
-    let apart = apart_by p old c.args.self.now c.args.parent.now c.self-in-End.view_is c.requires.beside.counted in
-    rw (c.in-End.is, ← c.self-in-End.view_is)
-    (end_whole p c.on_end.new.pool c.args.parent.now old new
-    (λ k. holders_of_instance new k + result_holders c.on_end.result k) c.in-End.id c.on_end.result c.on_end.ensures.moves apart
-    c.on_end.ensures.changed)
-
-pub returns-in-End-clause-memory : goal.returns-in-End-clause-memory
-returns-in-End-clause-memory c =
-    let i = c.self-in-End.inside in
-    let p = c.args.pool.now in
-    let old = slots_of i.settings i.contents i.calls in
-    let new = slots_of i.settings c.on_end.new.contents c.on_end.new.calls in
-    let apart = apart_by p old c.args.self.now c.args.parent.now c.self-in-End.view_is c.requires.beside.counted in
-    rw (c.in-End.is, ← c.self-in-End.view_is)
-    (end_front p c.on_end.new.pool c.args.parent.now old new
-    (λ k. holders_of_instance new k + result_holders c.on_end.result k) c.in-End.id c.on_end.result c.on_end.ensures.moves apart
-    c.on_end.ensures.changed)
-
-pub returns-in-End-clause-within : goal.returns-in-End-clause-within
-returns-in-End-clause-within c =
+pub returns-in-End : goal.returns-in-End
+returns-in-End c =
     let i = c.self-in-End.inside in
     let p = c.args.pool.now in
     let q = c.on_end.new.pool in
@@ -168,9 +93,18 @@ returns-in-End-clause-within c =
     let those : Holders = λ k. holders_of_instance new k + result_holders r k in
     let kept = subst (λ (x : InstanceSlots). IsInstanceInPool p x) (sym c.self-in-End.view_is) c.requires.kept in
     let beside = subst (λ (x : InstanceSlots). IsBeside p parent x) (sym c.self-in-End.view_is) c.requires.beside in
-    event_within p q parent old new (end c.in-End.id) r kept beside tt
-    (end_whole p q parent old new those c.in-End.id r c.on_end.ensures.moves beside.counted c.on_end.ensures.changed)
-    (end_front p q parent old new those c.in-End.id r c.on_end.ensures.moves beside.counted c.on_end.ensures.changed)
+    let whole = end_whole p q parent old new those c.in-End.id r c.on_end.ensures.moves beside.counted c.on_end.ensures.changed in
+    let front = end_front p q parent old new those c.in-End.id r c.on_end.ensures.moves beside.counted c.on_end.ensures.changed in
+    record {
+      replies = rw (c.in-End.is, ← c.self-in-End.view_is) c.on_end.ensures.replies;
+      changed = rw (c.in-End.is, ← c.self-in-End.view_is) whole;
+      memory = rw (c.in-End.is, ← c.self-in-End.view_is) front;
+      moves = first_of (search rules, grind (arith, common_steps));
+      within = event_within p q parent old new (end c.in-End.id) r kept beside tt whole front;
+      config = first_of (search rules, grind (arith, common_steps));
+      short = event_short p q parent old c.args.self.now (end c.in-End.id) r c.self-in-End.view_is c.requires.kept c.requires.beside
+          c.on_end.ensures.replies tt;
+    }
 
 pub returns-in-Cancel-clause-changed : goal.returns-in-Cancel-clause-changed
 returns-in-Cancel-clause-changed c = rw c.in-Cancel.is

@@ -132,12 +132,6 @@ exit_few n r step e f g h p s t was is first next less =
 
 -- ---- a turn
 
-pub turn_few : (r : Result Step Stopped) (f g : Option (List FolderCall)) (p s : Option (List ProgramCall)) →
-    AddsAtMost (most_of_steps r) f g p s → AddsAtMost most_calls f g p s
-turn_few (Ok (steps.Goes x cost)) f g p s adds = adds
-turn_few (Ok (steps.Exits e)) f g p s adds = at_most 7 most_calls f g p s adds (omega arith)
-turn_few (Err stopped) f g p s adds = adds
-
 -- a program is let go of at the exit
 pub exited_few : (r : Result Step Stopped) (step : Step) (e : Exited) (run : RunKey) (f g : Option (List FolderCall))
     (p s t : Option (List ProgramCall))

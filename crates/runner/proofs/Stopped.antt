@@ -13,11 +13,11 @@ use Rattle.std.specs.declared.io.Error.{Error}
 use Rattle.std.specs.declared.io.ErrorKind.TheVariants.{OutOfMemory, ConnectionAborted}
 use Rattle.runner.specs.Faults.{FolderAnswered, ProgramsAnswered, folder_fault, programs_fault}
 use Rattle.std.specs.declared.io.ErrorKind.{ErrorKind}
-use Rattle.run_calls.specs.Calls.{FolderCall, FolderQuestion, FolderAnswer, call, ProgramCall, ProgramQuestion, ProgramAnswer, called, RunCall, of_folder, of_programs, Adds}
+use Rattle.run_calls.specs.Calls.{FolderCall, FolderQuestion, FolderAnswer, call, bytes_asked, ProgramCall, ProgramQuestion, ProgramAnswer, called, RunCall, of_folder, of_programs, Adds}
 use Rattle.runner.specs.Made.{MadeItem}
 use Rattle.runner.specs.Own.{folder_run, program_run}
 use Rattle.runner.specs.Sizes.{most_bytes, exited_length, nodes_length, held, folder_told, program_told}
-use Rattle.runner.specs.Stops.{IsMadeNext, AsksFolder, AsksPrograms, AsksNext, IsTrueOf, IsOwnFault, IsFolderFault, IsProgramsFault, StopsWith, Stops, FolderStops, FolderStopsWith}
+use Rattle.runner.specs.Stops.{IsMadeNext, IsPieceNext, AsksFolder, AsksPrograms, AsksNext, IsTrueOf, IsOwnFault, IsFolderFault, IsProgramsFault, StopsWith, Stops, FolderStops, FolderStopsWith}
 use Rattle.runner.specs.Listed.{Walk, walk_at}
 use Rattle.runner.proofs.Calls.{adds_none}
 
@@ -80,6 +80,20 @@ is_true Launcher n calls small = tt
 is_true TooLarge n calls small = absurd small
 is_true NoMemory n calls small = tt
 is_true Left n calls small = tt
+
+-- the next piece of a file is asked for, of these names
+pub names_asked : {A : Type 0} (f : A → List ℕ) (asked held : List A) (above : List (List ℕ)) (said name : List ℕ) → asked ≡ held →
+    map f held ≡ above ++ said ∷ [] → said ≡ name → map f asked ≡ above ++ name ∷ []
+names_asked f asked held above said name is held_are called = ap (map f) is ∙ held_are ∙ ap (λ s. above ++ s ∷ []) called
+
+pub piece_next : (place : PlaceValue) (path said : List ℕ) (names asked : List (List ℕ)) (content : List ℕ) (from most : ℕ) → 0 < most →
+    said ≡ path → asked ≡ names → from ≡ length content → IsPieceNext place path names content (bytes_asked place said asked from most)
+piece_next place path said names asked content from most some called named at = (
+  most,
+  some,
+  ap (λ s. bytes_asked place s asked from most) called ∙ ap (λ ns. bytes_asked place path ns from most) named
+      ∙ ap (λ n. bytes_asked place path names n most) at,
+)
 
 -- one thing was asked of folders
 pub folder_stops_with : (before : Walk) (text : ℕ → List ℕ) (place : PlaceValue) (from : Stage) (fault : RunFault)

@@ -63,18 +63,8 @@ taken_more b t m n k now tells is taken size grows =
     let same = taken.0 in
     (omega (arith, same, size, grows), omega (arith, most, grows))
 
-pub taken_as : (t n now : ℕ) → IsTaken t n → now ≡ n → IsTaken t now
-taken_as t n now taken is = let same = taken.0 in let most = taken.1 in (omega (arith, same, is), omega (arith, most, is))
-
--- a text that grew, behind others
-pub grown : (e : ℕ) (old new piece : List ℕ) → new ≡ old ++ piece → e + length new ≡ (e + length old) + length piece
-grown e old new piece is = let more = ap length is ∙ length-append old piece in omega (arith, more)
-
 pub grown_inside : (e t : ℕ) (old new piece : List ℕ) → new ≡ old ++ piece → e + (t + length new) ≡ (e + (t + length old)) + length piece
 grown_inside e t old new piece is = let more = ap length is ∙ length-append old piece in omega (arith, more)
-
-pub begins : (e : ℕ) (new : List ℕ) → new ≡ [] → e + length new ≡ e
-begins e new is = let none = ap length is in omega (arith, none)
 
 -- ---- of lists that grow
 

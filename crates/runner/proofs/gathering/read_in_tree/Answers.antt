@@ -13,7 +13,7 @@ use Rattle.runner.specs.Listed.{tree_to_meet}
 use Rattle.runner.proofs.Walks.{walk_of, piece_read, tree_kept, stack_kept}
 use Rattle.runner.proofs.Told.{taken_on, part_says, fits_told, more_than, at_most, taken_more, grown_inside}
 use Rattle.runner.proofs.Lists.{no_piece, some_piece}
-use Rattle.runner.proofs.Stopped.{folder_failed, folder_stops, folder_surpasses, memory_failed}
+use Rattle.runner.proofs.Stopped.{piece_next, names_asked, folder_failed, folder_stops, folder_surpasses, memory_failed}
 use Rattle.runner.proofs.gathering.read_in_tree.Goals as goal
 
 pub returns-then-is_empty-clause-goes : goal.returns-then-is_empty-clause-goes
@@ -23,9 +23,7 @@ returns-then-is_empty-clause-goes g c = λ text p.
     let asked = map string_bytes c.deref.result.now in
     let path = string_bytes c.args.tree.path in
     let names = c.args.tree.nodes.above ++ string_bytes c.args.file.name ∷ [] in
-    let names_are : map string_bytes c.deref.result.now ≡ c.args.tree.nodes.above ++ string_bytes c.args.file.name ∷ [] =
-    ap (map string_bytes) c.deref.ensures.value ∙ c.in_ok-names.ensures
-    ∙ ap (λ s. c.args.tree.nodes.above ++ s ∷ []) c.as_str.ensures.value in
+    let names_are = names_asked string_bytes _ _ _ _ _ c.deref.ensures.value c.in_ok-names.ensures c.as_str.ensures.value in
     let items = bytes_say (place_shown c.args.place.now) c.as_str-2.result.now asked c.length-from.result 65536 c.read.result
     c.in_ok-piece.piece [] is none
     ∙ ap (λ s. end_item (place_shown c.args.place.now) s asked c.length-from.result ∷ []) c.as_str-2.ensures.value
@@ -53,9 +51,7 @@ returns-clause-goes g c = λ text p.
     let is = was_ok _ _ _ c.of_folder.ensures c.in_ok-piece.was in
     let path = string_bytes c.args.tree.path in
     let names = c.args.tree.nodes.above ++ string_bytes c.args.file.name ∷ [] in
-    let names_are : map string_bytes c.deref.result.now ≡ c.args.tree.nodes.above ++ string_bytes c.args.file.name ∷ [] =
-    ap (map string_bytes) c.deref.ensures.value ∙ c.in_ok-names.ensures
-    ∙ ap (λ s. c.args.tree.nodes.above ++ s ∷ []) c.as_str.ensures.value in
+    let names_are = names_asked string_bytes _ _ _ _ _ c.deref.ensures.value c.in_ok-names.ensures c.as_str.ensures.value in
     let asked = map string_bytes c.deref.result.now in
     let items = bytes_say (place_shown c.args.place.now) c.as_str-2.result.now asked c.length-from.result 65536 c.read.result
     c.in_ok-piece.piece c.deref-2.result.now is (sym c.deref-2.ensures.value)
@@ -92,17 +88,9 @@ returns-then-is_too_large-clause-stops g c = λ text p.
     (ap folder_bytes_of is) c.read.ensures.adds
     (part_says (place_shown c.args.place.now) c.as_str-2.result.now asked c.length-from.result 65536 c.read.result c.in_ok-piece.piece is)
     (more_than _ _ _ _ _ c.is_too_large.ensures c.if-is_too_large.true c.requires.counted.0.0
-    (omega (arith, c.len-count.ensures, c.in_ok-piece.piece.ok))) (
-      65536,
-      omega arith,
-      ap (λ s. bytes_asked (place_shown c.args.place.now) s (map string_bytes c.deref.result.now) c.length-from.result 65536)
-          c.as_str-2.ensures.value
-          ∙ ap (λ ns. bytes_asked (place_shown c.args.place.now) (string_bytes c.args.tree.path) ns c.length-from.result 65536)
-          (ap (map string_bytes) c.deref.ensures.value ∙ c.in_ok-names.ensures
-          ∙ ap (λ s. c.args.tree.nodes.above ++ s ∷ []) c.as_str.ensures.value)
-          ∙ ap (λ n. bytes_asked (place_shown c.args.place.now) (string_bytes c.args.tree.path)
-          (c.args.tree.nodes.above ++ string_bytes c.args.file.name ∷ []) n 65536) c.length-from.ensures,
-    )
+    (omega (arith, c.len-count.ensures, c.in_ok-piece.piece.ok))) (piece_next (place_shown c.args.place.now)
+    (string_bytes c.args.tree.path) _ _ _ c.args.file.content _ 65536 (omega arith) c.as_str-2.ensures.value
+    (names_asked string_bytes _ _ _ _ _ c.deref.ensures.value c.in_ok-names.ensures c.as_str.ensures.value) c.length-from.ensures)
 
 pub returns-then-is_empty-clause-counted : goal.returns-then-is_empty-clause-counted
 returns-then-is_empty-clause-counted g c = (
@@ -124,48 +112,24 @@ returns-in_err-piece-clause-stops g c = folder_failed c.from_residual-in_err-pie
     c.of_folder.ensures c.in_err-piece.was folder_bytes_of (λ e. refl) (λ fault small text p.
     folder_stops text (place_shown c.args.place.now) _ fault _ _ p
     (bytes_asked (place_shown c.args.place.now) c.as_str-2.result.now (map string_bytes c.deref.result.now) c.length-from.result 65536)
-    _ refl small c.read.ensures.adds (
-      65536,
-      omega arith,
-      ap (λ s. bytes_asked (place_shown c.args.place.now) s (map string_bytes c.deref.result.now) c.length-from.result 65536)
-          c.as_str-2.ensures.value
-          ∙ ap (λ ns. bytes_asked (place_shown c.args.place.now) (string_bytes c.args.tree.path) ns c.length-from.result 65536)
-          (ap (map string_bytes) c.deref.ensures.value ∙ c.in_ok-names.ensures
-          ∙ ap (λ s. c.args.tree.nodes.above ++ s ∷ []) c.as_str.ensures.value)
-          ∙ ap (λ n. bytes_asked (place_shown c.args.place.now) (string_bytes c.args.tree.path)
-          (c.args.tree.nodes.above ++ string_bytes c.args.file.name ∷ []) n 65536) c.length-from.ensures,
-    ))
+    _ refl small c.read.ensures.adds (piece_next (place_shown c.args.place.now)
+    (string_bytes c.args.tree.path) _ _ _ c.args.file.content _ 65536 (omega arith) c.as_str-2.ensures.value
+    (names_asked string_bytes _ _ _ _ _ c.deref.ensures.value c.in_ok-names.ensures c.as_str.ensures.value) c.length-from.ensures))
 
 pub returns-in_err-tree-clause-stops : goal.returns-in_err-tree-clause-stops
 returns-in_err-tree-clause-stops g c = memory_failed c.from_residual-in_err-tree.result _ _ _
     (ap folder_bytes_of (was_ok _ _ _ c.of_folder.ensures c.in_ok-piece.was)) c.from_residual-in_err-tree.ensures.1 (λ fault small text p.
     folder_stops text (place_shown c.args.place.now) _ fault _ _ p
     (bytes_asked (place_shown c.args.place.now) c.as_str-2.result.now (map string_bytes c.deref.result.now) c.length-from.result 65536)
-    _ refl small c.read.ensures.adds (
-      65536,
-      omega arith,
-      ap (λ s. bytes_asked (place_shown c.args.place.now) s (map string_bytes c.deref.result.now) c.length-from.result 65536)
-          c.as_str-2.ensures.value
-          ∙ ap (λ ns. bytes_asked (place_shown c.args.place.now) (string_bytes c.args.tree.path) ns c.length-from.result 65536)
-          (ap (map string_bytes) c.deref.ensures.value ∙ c.in_ok-names.ensures
-          ∙ ap (λ s. c.args.tree.nodes.above ++ s ∷ []) c.as_str.ensures.value)
-          ∙ ap (λ n. bytes_asked (place_shown c.args.place.now) (string_bytes c.args.tree.path)
-          (c.args.tree.nodes.above ++ string_bytes c.args.file.name ∷ []) n 65536) c.length-from.ensures,
-    ))
+    _ refl small c.read.ensures.adds (piece_next (place_shown c.args.place.now)
+    (string_bytes c.args.tree.path) _ _ _ c.args.file.content _ 65536 (omega arith) c.as_str-2.ensures.value
+    (names_asked string_bytes _ _ _ _ _ c.deref.ensures.value c.in_ok-names.ensures c.as_str.ensures.value) c.length-from.ensures))
 
 pub returns-in_err-push-clause-stops : goal.returns-in_err-push-clause-stops
 returns-in_err-push-clause-stops g c = memory_failed c.from_residual-in_err-push.result _ _ _
     (ap folder_bytes_of (was_ok _ _ _ c.of_folder.ensures c.in_ok-piece.was)) c.from_residual-in_err-push.ensures.1 (λ fault small text p.
     folder_stops text (place_shown c.args.place.now) _ fault _ _ p
     (bytes_asked (place_shown c.args.place.now) c.as_str-2.result.now (map string_bytes c.deref.result.now) c.length-from.result 65536)
-    _ refl small c.read.ensures.adds (
-      65536,
-      omega arith,
-      ap (λ s. bytes_asked (place_shown c.args.place.now) s (map string_bytes c.deref.result.now) c.length-from.result 65536)
-          c.as_str-2.ensures.value
-          ∙ ap (λ ns. bytes_asked (place_shown c.args.place.now) (string_bytes c.args.tree.path) ns c.length-from.result 65536)
-          (ap (map string_bytes) c.deref.ensures.value ∙ c.in_ok-names.ensures
-          ∙ ap (λ s. c.args.tree.nodes.above ++ s ∷ []) c.as_str.ensures.value)
-          ∙ ap (λ n. bytes_asked (place_shown c.args.place.now) (string_bytes c.args.tree.path)
-          (c.args.tree.nodes.above ++ string_bytes c.args.file.name ∷ []) n 65536) c.length-from.ensures,
-    ))
+    _ refl small c.read.ensures.adds (piece_next (place_shown c.args.place.now)
+    (string_bytes c.args.tree.path) _ _ _ c.args.file.content _ 65536 (omega arith) c.as_str-2.ensures.value
+    (names_asked string_bytes _ _ _ _ _ c.deref.ensures.value c.in_ok-names.ensures c.as_str.ensures.value) c.length-from.ensures))

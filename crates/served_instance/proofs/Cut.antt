@@ -16,7 +16,7 @@ use Rattle.served_instance.specs.Ranges.{KeepsRanges, sources_at}
 use Rattle.served_instance.specs.Shown.{connection_shown}
 use Rattle.served_instance.specs.StandsFor.{AreServed}
 use Rattle.served_instance.specs.Acts.{FindAlike}
-use Rattle.served_instance.specs.Cuts.{others_of, KeepsOthers, OthersFindAlike, StepsAt}
+use Rattle.served_instance.specs.Cuts.{others_of, KeepsOthers, StepsAt}
 use Rattle.instance_core.specs.Apart.{AreRepliesTo}
 use Rattle.served_instance.proofs.Opens.{without_at, closed_at_is}
 use Rattle.served_instance.proofs.Places.{IsPlace, is_place, place_of, place_is, places_kept}
@@ -94,11 +94,6 @@ finds_trans p q r os ns e h k =
 
 pub finds_here : (p : Slots) (os : List OpenConnection) → FindAlike p p os
 finds_here p os = λ n some. refl
-
--- the connections alone changed before
-pub finds_after : (c : ℕ) (p q : Slots) (os ns : List OpenConnection) → KeepsOthers c os ns → OthersFindAlike c p q ns →
-    OthersFindAlike c p q os
-finds_after c p q os ns e h = subst (λ (xs : List OpenConnection). FindAlike p q xs) e h
 
 -- ---- what they stand for
 

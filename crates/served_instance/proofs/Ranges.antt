@@ -203,12 +203,6 @@ keeps_here v w e = record {
   fit = subst (λ (x : StoredSending). KeepsFit v.sending x) (sym e) (λ texts h. h);
 }
 
-pub keeps_trans : (u v w : ConnectionValue) → KeepsRanges u v → KeepsRanges v w → KeepsRanges u w
-keeps_trans u v w a b = record {
-  sources = λ k. b.sources k ∙ a.sources k;
-  fit = λ texts h. b.fit texts (a.fit texts h);
-}
-
 pub fit_at : (texts : SourceTexts) (os : List OpenConnection) (i : ℕ) (d : OpenConnection) → i < length os →
     RangesEndWithin texts (map connection_shown os) → QueuesEndWithin texts (get_or os i d).connection.sending.queues
 fit_at texts [] i d lt f = absurd (omega arith)

@@ -1,4 +1,5 @@
-use Rattle.std.proofs.Common.{◌≡◌, List, ap, ◌∙◌, subst, sym, rules}
+use Rattle.std.proofs.Common.{◌≡◌, List, ap, ◌∙◌, subst, sym, arith, rules}
+use Rattle.std.proofs.lemmas.Grind.{common_steps}
 use Rattle.std.specs.Prelude.{None, Some}
 use Rattle.blob_pool.specs.Slots.{Slots}
 use Rattle.instance_core.specs.InstanceViewShown.{visible_in}
@@ -67,52 +68,36 @@ pump-requires c =
     let b = lent_value c.act.new.self in
     subst (λ (q : Slots). IsServedInPool q (lent_slots b)) (search rules) c.act.ensures.goes.kept
 
-pub returns-in-Ok-act-clause-outcome : goal.returns-in-Ok-act-clause-outcome
-returns-in-Ok-act-clause-outcome c = λ l s. no_reason c.args.pool.now (event_value c.args.event).lone c.args.self.now l
-    (seen_refusal (event_value c.args.event).lone c.self.inside.instance c.deref.result.now c.self.inside.connections.items c.args.self.now
-    None c.deref.ensures.value c.self.view_is c.in-Ok.ensures.refused) c.requires.kept.fit s
-
-pub returns-in-Ok-act-clause-stands : goal.returns-in-Ok-act-clause-stands
-returns-in-Ok-act-clause-stands c = λ l s n.
+pub returns-in-Ok-act : goal.returns-in-Ok-act
+returns-in-Ok-act c =
     let e = (event_value c.args.event).lone in
     let v = c.args.self.now in
     let i = c.self.inside.instance in
     let a = lends c.args.parent.now c.args.pool.now c.set_moment.new.self c.self.inside.connections.items in
     let b = lent_value c.act.new.self in
+    let q = c.pump.new.pool in
+    let w = c.pump.new.self in
     let taken = is_taken e v i a c.deref.result.now c.deref.ensures.value c.self.view_is c.in-Ok.ensures.refused c.set_moment.ensures.changed
     c.requires.kept in
-    let pumped : IsPumped b.pool (lent_slots b) c.pump.new.pool c.pump.new.self = record {
-      stands = subst (λ (q : Slots). Pumps q (lent_slots b) c.pump.new.pool c.pump.new.self) (search rules) c.pump.ensures.stands;
+    let pumped : IsPumped b.pool (lent_slots b) q w = record {
+      stands = subst (λ (p : Slots). Pumps p (lent_slots b) q w) (search rules) c.pump.ensures.stands;
       tidy = c.pump.ensures.tidy;
       fit = c.pump.ensures.kept.fit;
     } in
-    done_stands e v i a b c.in-Ok-act.orders c.pump.new.pool c.pump.new.self l taken c.in-Ok-act.ensures.done pumped s
-
-pub returns-in-Ok-act-clause-settled : goal.returns-in-Ok-act-clause-settled
-returns-in-Ok-act-clause-settled c = λ l s.
-    let e = (event_value c.args.event).lone in
-    let v = c.args.self.now in
-    let i = c.self.inside.instance in
-    let a = lends c.args.parent.now c.args.pool.now c.set_moment.new.self c.self.inside.connections.items in
-    let taken = is_taken e v i a c.deref.result.now c.deref.ensures.value c.self.view_is c.in-Ok.ensures.refused c.set_moment.ensures.changed
-    c.requires.kept in
-    done_settled e v i a (lent_value c.act.new.self) c.in-Ok-act.orders l taken c.in-Ok-act.ensures.done s
-
-pub returns-in-Ok-act-clause-orders : goal.returns-in-Ok-act-clause-orders
-returns-in-Ok-act-clause-orders c = λ l s.
-    let e = (event_value c.args.event).lone in
-    let v = c.args.self.now in
-    let i = c.self.inside.instance in
-    let a = lends c.args.parent.now c.args.pool.now c.set_moment.new.self c.self.inside.connections.items in
-    let b = lent_value c.act.new.self in
-    let taken = is_taken e v i a c.deref.result.now c.deref.ensures.value c.self.view_is c.in-Ok.ensures.refused c.set_moment.ensures.changed
-    c.requires.kept in
-    let pumped : IsPumped b.pool (lent_slots b) c.pump.new.pool c.pump.new.self = record {
-      stands = subst (λ (q : Slots). Pumps q (lent_slots b) c.pump.new.pool c.pump.new.self) (search rules) c.pump.ensures.stands;
-      tidy = c.pump.ensures.tidy;
-      fit = c.pump.ensures.kept.fit;
-    } in
-    done_orders e v i a b c.in-Ok-act.orders c.pump.new.pool c.pump.new.self l taken c.in-Ok-act.ensures.done pumped s
+    record {
+      outcome = λ l s. no_reason c.args.pool.now e v l (seen_refusal e i c.deref.result.now c.self.inside.connections.items v None
+          c.deref.ensures.value c.self.view_is c.in-Ok.ensures.refused) c.requires.kept.fit s;
+      stands = λ l s n. done_stands e v i a b c.in-Ok-act.orders q w l taken c.in-Ok-act.ensures.done pumped s;
+      short = first_of (search rules, grind (arith, common_steps));
+      here = first_of (search rules, grind (arith, common_steps));
+      memory_free = first_of (search rules, grind (arith, common_steps));
+      refused = first_of (search rules, grind (arith, common_steps));
+      settled = λ l s. done_settled e v i a b c.in-Ok-act.orders l taken c.in-Ok-act.ensures.done s;
+      orders = λ l s. done_orders e v i a b c.in-Ok-act.orders q w l taken c.in-Ok-act.ensures.done pumped s;
+      tidy = first_of (search rules, grind (arith, common_steps));
+      moves = first_of (search rules, grind (arith, common_steps));
+      kept = first_of (search rules, grind (arith, common_steps));
+    }
 
 -- ---- memory is refused
 

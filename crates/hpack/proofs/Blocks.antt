@@ -2,7 +2,6 @@
 use Rattle.std.proofs.Common.{◌≡◌, ◌⊎◌, ℕ, zero, suc, ◌+◌, ◌-◌, ◌<◌, ◌≤◌, false, true, Bool, cond, ltb, leb, List, [], ◌∷◌, ◌++◌, length, Result, Ok, Err, refl, sym, ap, subst, ◌∙◌, append_assoc, append-nil, arith, inl, inr}
 use Rattle.std.proofs.lemmas.Bool.{ltb-true, ltb-false, lt-ltb, le-ltb, cases_lt}
 use Rattle.std.proofs.lemmas.Bool.Decides.{nat_tests}
-use Rattle.std.proofs.lemmas.List.{length-append}
 use Rattle.std.specs.Prelude.{MatchBool}
 use Rattle.hpack.specs.declared.error.HpackError.{HpackError}
 use Rattle.hpack.specs.declared.error.HpackError.TheVariants.{Index, Integer, String as TooShort, Huffman, SizeUpdate, ListTooLarge, NoMemory, Failed}
@@ -144,9 +143,6 @@ joined h hs (Err e) = refl
 same_front : (r : Result (List Header × Table) HpackError) → after_front [] r ≡ r
 same_front (Ok x) = refl
 same_front (Err e) = refl
-
-positive : (front : List ℕ) (rest : List ℕ) → 0 < length front → 0 < length (front ++ rest)
-positive front rest some = omega (arith, length-append front rest)
 
 -- the first of some fields, read from the front of their bytes and what follows these
 record IsFirst (table : Table) (bytes rest : List ℕ) (x : Header) (xs : List Header) (after : Table) : Type 0 where

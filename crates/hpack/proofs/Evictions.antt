@@ -39,16 +39,6 @@ longest_dropped xs ys y room is full = rw is (sym (longest_push ys y room (rw (�
 
 -- ---- it is the longest front
 
-pub longest_fits : (xs : List Header) (room : ℕ) → total_size (longest_front room xs) ≤ room
-longest_fits [] room = omega arith
-longest_fits (x ∷ xs) room = elim (cases_lt room (size_of x)) [
-  | inl over ↦ let full : leb (size_of x) room ≡ false = lt-leb (size_of x) room over in rw full (omega arith)
-  | inr within ↦
-      let fits : leb (size_of x) room ≡ true = le-leb (size_of x) room within in
-      let rest = longest_fits xs (room - size_of x) in
-      rw fits (omega arith)
-]
-
 rest_is : (x h : Header) (xs hs : List Header) → x ∷ xs ≡ h ∷ hs → x ≡ h
 rest_is x h xs hs e = cc
 

@@ -152,11 +152,6 @@ prepended : (s : ℕ) (bs : List ℕ) (text : List ℕ) (rest : List ℕ) (end :
     bs ≡ codes_of (s ∷ text) ++ end
 prepended s bs text rest end e parts = e ∙ ap (λ (xs : List ℕ). code s ++ xs) parts ∙ sym (codes_of-cons s text end)
 
--- how reading goes on, by what begins the bits
-record Padded (bs : List ℕ) : Type 0 where
-  short : length bs ≤ 7
-  ones : bs ≡ replicate (length bs) 1
-
 end_is : (bs text : List ℕ) → (if is_padding bs then ok [] else Err Padding) ≡ Ok text → Spells bs text
 unfolding ok codes_of
 end_is bs text e = go (is_padding bs) refl e where

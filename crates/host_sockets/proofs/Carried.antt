@@ -1,24 +1,22 @@
 -- What each call of sockets does to the connections is what its event says.
-use Rattle.std.proofs.Common.{◌≡◌, ◌≢◌, ◌⊎◌, inl, inr, refl, sym, ap, subst, ◌∙◌, ℕ, zero, suc, Bool, true, false, cond, List, [], ◌∷◌, ◌++◌, Option, None, Some, Result, Ok, Err, slice_get, IfSome, IsSomeAnd, is_some, take, append-nil}
+use Rattle.std.proofs.Common.{◌≡◌, ◌≢◌, ◌⊎◌, inl, inr, refl, sym, ap, subst, ◌∙◌, ℕ, zero, suc, Bool, true, false, cond, List, [], ◌∷◌, ◌++◌, Option, None, Some, Result, Ok, Err, slice_get, IfSome, is_some, take, append-nil}
 use Rattle.std.specs.Option.{option_and_then}
-use Rattle.std.specs.Prelude.{⊤}
 use Rattle.std.specs.IoError.{error_kind}
 use Rattle.std.specs.List.{AllZip}
 use Rattle.std.specs.declared.io.Error.{Error}
-use Rattle.std.specs.declared.net.socket_addr.SocketAddr.{SocketAddr}
 use Rattle.std.proofs.lemmas.Bool.{true≢false}
 use Rattle.std.proofs.lemmas.Bool.Decides.{eqb_tells}
 use Rattle.std.proofs.lemmas.List.Sums.{fold-append}
 use Rattle.serve.specs.declared.sockets.Socket.{Socket}
-use Rattle.serve.specs.SocketEvents.{Carries, SocketEvent, accept_events, clock, failed, read_events, shutdown_events, write_events}
-use Rattle.wires.specs.Wires.{WireEvent, Adds, IsNew, is_unready}
+use Rattle.serve.specs.SocketEvents.{Carries, SocketEvent, clock, failed, read_events, write_events}
+use Rattle.wires.specs.Wires.{WireEvent, Adds, is_unready}
 use Rattle.wires.specs.Wires as wires
 use Rattle.host_sockets.specs.declared.port.Port.{Port}
 use Rattle.host_sockets.specs.declared.watched.Watched.{Watched}
 use Rattle.host_sockets.specs.Laid.{AreLaid, on_wire, wire_events}
 use Rattle.host_sockets.specs.Told.{AreTold, IsTold, OnlyTold}
-use Rattle.host_sockets.specs.Ports.{BecomesAt, ClosesAt, HappensAt, IsLetIn, LetsInAt, OnlyClosedGo, OpenStay, OthersHold, OthersStay, Turns, on, wire_at, wires_of}
-use Rattle.host_sockets.proofs.Laid.{Goes, OthersAre, accepted_laid, closed_laid, failed_laid, read_laid, same_laid, still_laid, written_laid}
+use Rattle.host_sockets.specs.Ports.{BecomesAt, HappensAt, OnlyClosedGo, OpenStay, OthersHold, OthersStay, Turns, on, wire_at, wires_of}
+use Rattle.host_sockets.proofs.Laid.{Goes, OthersAre, failed_laid, read_laid, same_laid, still_laid, written_laid}
 
 some_is_there : {X : Type 0} (o : Option X) (x : X) → o ≡ Some x → o ≡ None → ⊥
 some_is_there o x is none = true≢false (ap is_some (sym is ∙ none))
@@ -125,69 +123,6 @@ module _ {D W : Type 0} (happened : W → Option (List WireEvent)) where
         (happens_goes (wires.read_events (Ok n) room) own)
     read_carries (Err e) room stay own h =
         failure_carries (is_unready (error_kind e)) stay own h
-
-    pub close_carries : OthersStay at.instance old new
-        → BecomesAt at.instance (ClosesAt happened at.connection) old new
-        → Carries (AreLaid happened old) (AreLaid happened new) (shutdown_events at)
-    close_carries stay own h = closed_laid (on happened) (wires_of old) (wires_of new)
-        at.instance at.connection h (others_are old new at.instance at.connection stay
-        (hold (ClosesAt happened at.connection) at.connection (λ p q so. so.0.2)
-        (slice_get old at.instance) (slice_get new at.instance) own))
-        (gone (slice_get old at.instance) (slice_get new at.instance) own)
-      where
-        gone : (o n : Option (Port D W)) → Turns (ClosesAt happened at.connection) o n
-            → at_port at.connection n ≡ None
-        gone None n is = ap (at_port at.connection) is
-        gone (Some p) None bad = absurd bad
-        gone (Some p) (Some q) so = so.0.0
-
-    pub accept_carries : {E : Type 0} (number : W → Option ℕ) (given : D → Option (List W))
-        (opened_at : D → Option (SocketAddr × ℕ)) (r : Result ⊤ E)
-        → OthersStay at.instance old new
-        → BecomesAt at.instance (LetsInAt happened number given opened_at at.connection r) old new
-        → Carries (AreLaid happened old) (AreLaid happened new) (accept_events at r)
-    accept_carries {E} number given opened_at (Ok x) stay own h = accepted_laid (on happened) (wires_of old)
-        (wires_of new) at.instance at.connection h
-        (others_are old new at.instance at.connection stay
-        (hold (LetsInAt {D = D} {W = W} {E = E} happened number given opened_at at.connection
-        (Ok x)) at.connection
-        (λ p q so. so.0.1) (slice_get old at.instance) (slice_get new at.instance) own))
-        (fresh (slice_get old at.instance) (slice_get new at.instance) own)
-      where
-        let_in : (before after : Option (List W)) (o : Option (Watched W))
-            → IsSomeAnd o (λ w. IsLetIn happened number at.connection before after w.wire)
-            → (v : Watched W) → o ≡ Some v → IsNew (on happened v)
-        let_in before after None bad v is = absurd bad
-        let_in before after (Some w) so v is =
-            subst (λ (y : Watched W). IsNew (on happened y)) (ap (got v) is) so.new
-
-        fresh : (o n : Option (Port D W))
-            → Turns (LetsInAt {D = D} {W = W} {E = E} happened number given opened_at
-            at.connection (Ok x)) o n
-            → (v : Watched W) → at_port at.connection n ≡ Some v → IsNew (on happened v)
-        fresh None n is v there = absurd (some_is_there (at_port at.connection n) v there
-            (ap (at_port at.connection) is))
-        fresh (Some p) None bad v there = absurd bad
-        fresh (Some p) (Some q) so v there =
-            let_in (given p.door) (given q.door) (wire_at at.connection q.wires.entries) so.0.0 v
-            there
-    accept_carries {E} number given opened_at (Err e) stay own h = same_laid (on happened) (wires_of old)
-        (wires_of new) h (h ++ []) all_same (λ i c. ap (wire_events i c) (append-nil h))
-      where
-        at_own : (o n : Option (Port D W))
-            → Turns (LetsInAt {D = D} {W = W} {E = E} happened number given opened_at
-            at.connection (Err e)) o n
-            → (d : ℕ) → at_port d n ≡ at_port d o
-        at_own None n is d = ap (at_port d) is
-        at_own (Some p) None bad d = absurd bad
-        at_own (Some p) (Some q) so d = so.0.1 d
-
-        all_same : (i c : ℕ) → wires_of new i c ≡ wires_of old i c
-        all_same i c = elim (eqb_tells i at.instance) [
-          | inr t ↦ ap (at_port c) (stay.others i t.1)
-          | inl t ↦ subst (λ (k : ℕ). wires_of new k c ≡ wires_of old k c) (sym t.1)
-              (at_own (slice_get old at.instance) (slice_get new at.instance) own c)
-        ]
 
   -- time goes on, and nothing happens on what is open
   pub now_carries : (old new : List (Port D W)) → OpenStay happened old new → (moment : ℕ)

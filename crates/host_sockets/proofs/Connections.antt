@@ -1,5 +1,5 @@
 -- What becomes of the connections of a port when a table of them changes.
-use Rattle.std.proofs.Common.{◌≡◌, ◌==◌, ◌||◌, refl, ap, sym, subst, ◌∙◌, ℕ, Bool, true, false, if◌then◌else◌, ◌++◌, inl, inr, nat_eq, List, [], ◌∷◌, Option, Some, None, is_some, IfSome, IsSomeAnd}
+use Rattle.std.proofs.Common.{◌≡◌, ◌==◌, ◌||◌, refl, ap, sym, subst, ◌∙◌, ℕ, Bool, true, false, if◌then◌else◌, ◌++◌, inl, inr, nat_eq, List, [], ◌∷◌, Option, Some, None, is_some, IsSomeAnd}
 use Rattle.std.specs.HashMap.{HashMap, WritesThrough}
 use Rattle.std.proofs.lemmas.Bool.{ne_eqb, true≢false}
 use Rattle.std.proofs.lemmas.Bool.Decides.{eqb_tells}
@@ -71,10 +71,6 @@ or_true : (a b : Bool) → a ≡ true → (a || b) ≡ true
 or_true true b is = refl
 or_true false b is = absurd (true≢false (sym is))
 
-or_other : (a b : Bool) → b ≡ true → (a || b) ≡ true
-or_other true b is = refl
-or_other false b is = is
-
 module _ {W S : Type 0} (c : ℕ) (news : News) (old new : HashMap ℕ (Watched W) S)
     (w v : Watched W) (through : WritesThrough nat_eq (λ n. c == n) old v new)
     (was : Some w ≡ wire_at c old.entries) where
@@ -93,19 +89,6 @@ module _ {W S : Type 0} (c : ℕ) (news : News) (old new : HashMap ℕ (Watched 
         (sym ((through.3 (ap is_some (sym was))).2 d (ne_eqb c d (λ is. t.1 (sym is)))))
         (still_told (wire_at d old.entries))
   ]
-
-  -- the news is told of it
-  pub told_so : v.may_read ≡ (w.may_read || news.may_read)
-      → v.may_write ≡ (w.may_write || news.may_write)
-      → IfSome (wire_at c new.entries) (λ x. (news.may_read ≡ true → x.may_read ≡ true)
-      × (news.may_write ≡ true → x.may_write ≡ true))
-  told_so reads writes = subst (λ (o : Option (Watched W)). IfSome o
-      (λ x. (news.may_read ≡ true → x.may_read ≡ true)
-      × (news.may_write ≡ true → x.may_write ≡ true)))
-      (sym (through.3 (ap is_some (sym was))).1) (
-        λ so. reads ∙ or_other w.may_read news.may_read so,
-        λ so. writes ∙ or_other w.may_write news.may_write so,
-      )
 
 module _ {W : Type 0} (happened : W → Option (List WireEvent)) where
   -- what was shut is put among those that linger, where there is room

@@ -1,12 +1,12 @@
 -- What happened at sockets, laid onto the connections.
 use Rattle.std.proofs.Common.{◌≡◌, ◌≢◌, ◌⊎◌, ◌==◌, inl, inr, refl, sym, ap, subst, ◌∙◌, ℕ, if◌then◌else◌, Bool, true, false, List, [], ◌∷◌, ◌++◌, Option, None, Some, append-nil}
 use Rattle.std.specs.Option.{option_map}
-use Rattle.std.specs.Prelude.{is_some, IfSome}
+use Rattle.std.specs.Prelude.{is_some}
 use Rattle.std.proofs.lemmas.Bool.{true≢false}
 use Rattle.std.proofs.lemmas.Bool.Decides.{eqb_tells}
 use Rattle.std.proofs.lemmas.List.Sums.{fold-append}
 use Rattle.serve.specs.SocketEvents.{PortEvent, SocketEvent, port, failed, accepted, read, written, shut}
-use Rattle.wires.specs.Wires.{WireEvent, Adds, IsNew, came, sent}
+use Rattle.wires.specs.Wires.{WireEvent, Adds, came, sent}
 use Rattle.wires.specs.Wires as wire
 use Rattle.host_sockets.specs.Laid.{at_number, failed_at, on_wire, wire_events}
 
@@ -183,31 +183,9 @@ module _ {W : Type 0} (happened : W → Option (List WireEvent)) where
     failed_laid others own = goes old new j d h (h ++ failed j d ∷ []) (wire.failed ∷ [])
         (λ i c apart. fails_elsewhere i c h j d apart) (fails_here h j d) others own
 
-    -- a new client has a number
-    pub accepted_laid : OthersAre j d old new
-        → ((v : W) → new j d ≡ Some v → IsNew (happened v)) → Laid old h
-        → Laid new (h ++ port j (accepted d) ∷ [])
-    accepted_laid others own = laid_from old new j d h (h ++ port j (accepted d) ∷ []) others
-        (λ i c apart. elsewhere i c h j (accepted d) apart) (λ v on there known.
-        subst (λ (o : Option (List WireEvent)). IfSome o (λ l. l ≡ [])) known (own v there)
-        ∙ sym (here h j (accepted d) ∙ if_true (d == d) [] (wire_events j d h) (same_number d)))
-
-    -- one is gone
-    pub closed_laid : OthersAre j d old new → new j d ≡ None → Laid old h
-        → Laid new (h ++ port j (shut d) ∷ [])
-    closed_laid others gone = laid_from old new j d h (h ++ port j (shut d) ∷ []) others
-        (λ i c apart. elsewhere i c h j (shut d) apart) (λ v on there known.
-        absurd (true≢false (ap is_some (sym there ∙ gone))))
-
   -- all are the same
   pub same_laid : (old new : ℕ → ℕ → Option W) (h g : List SocketEvent)
       → ((i c : ℕ) → new i c ≡ old i c) → ((i c : ℕ) → wire_events i c g ≡ wire_events i c h)
       → Laid old h → Laid new g
   same_laid old new h g wires events was i c w on there known =
       was i c w on (sym (wires i c) ∙ there) known ∙ sym (events i c)
-
-  -- none is there
-  pub none_laid : (wires : ℕ → ℕ → Option W) (h : List SocketEvent)
-      → ((i c : ℕ) → wires i c ≡ None) → Laid wires h
-  none_laid wires h none i c w on there known =
-      absurd (true≢false (ap is_some (sym there ∙ none i c)))

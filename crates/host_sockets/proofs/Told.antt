@@ -155,12 +155,6 @@ module _ {D W : Type 0} where
       subst (λ (m : ℕ). FirstPassed m (Some all) qs) more
       (one_longer (λ n. IsPassedOn n qs) all k news is (all_stay (take k all) ps qs told first) so)
 
-  pub all_are : (k : ℕ) (learned : Option (List News)) (ports : List (Port D W))
-      → IfSome learned (λ all. length all ≤ k) → FirstPassed k learned ports
-      → ArePassedOn learned ports
-  all_are k None ports few first = tt
-  all_are k (Some all) ports few first = whole (λ n. IsPassedOn n ports) all k few first
-
   pub no_more : (k : ℕ) (learned : Option (List News)) (ports : List (Port D W))
       → IfSome learned (λ all. None ≡ slice_get all k) → FirstPassed k learned ports
       → ArePassedOn learned ports

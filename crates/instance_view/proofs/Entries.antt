@@ -10,9 +10,6 @@ use Rattle.blob_pool.specs.Moves.{one_at}
 use Rattle.instance_view.specs.Visible.{Blob, visible_text, with_match_first}
 use Rattle.instance_view.specs.Shown.{ViewEntry, blob_in, blobs_in, entry_holders, sizes, size_of}
 
-abbrev text_of : Slots → Option ℕ → Option (List ℕ)
-text_of p o = option_map (text_at p) o
-
 pub lookup-shown : (p : Slots) (t : Digest → Bool) (v : List ViewEntry) → lookup t (blobs_in p v) ≡ option_map (text_at p) (lookup t v)
 lookup-shown p t [] = refl
 lookup-shown p t (e ∷ v) = go (t e.0) refl (lookup-shown p t v) where

@@ -1,6 +1,6 @@
 -- What keeps the limits.
 use Rattle.std.proofs.Common.{◌≡◌, ℕ, zero, suc, ◌+◌, ◌-◌, ◌<◌, ◌≤◌, Bool, true, false, cond, nat_le, nat_lt, List, [], ◌∷◌, length, take, Option, Some, None, refl, ap, subst, ◌∙◌, arith}
-use Rattle.std.specs.Prelude.{is_some, Result, Ok, Err, OnErr}
+use Rattle.std.specs.Prelude.{is_some}
 use Rattle.std.specs.List.{AllByRecursion, IsDistinct}
 use Rattle.std.specs.Map.{keys_of, lookup, lookup_entry, remove_entry}
 use Rattle.std.proofs.lemmas.Map.Keys.{IsDistinct-head, IsDistinct-tail, IsDistinct-cons}
@@ -214,7 +214,3 @@ pub admitted_new : (limit quota : ℕ) (d : Digest) (text : List ℕ) (old betwe
 admitted_new limit quota d text old between new unseen small put kept =
     let large : nat_lt quota (length text) ≡ false = grind (arith, nat_tests) in
     rw (unseen, large) (kept ∙ ap (longest_front quota) put ∙ longest_front-new quota (limit - 1) (d, text) old small)
-
-pub on_err : {T E : Type 0} (r : Result T E) {P : Type 0} → P → OnErr r P
-on_err (Ok x) p = tt
-on_err (Err e) p = p

@@ -122,7 +122,3 @@ kept_used quota d p v w kept limit is same = record {
   within = subst (λ (n : ℕ). AreBlobsWithin n quota (visible_in p w)) (sym limit)
       (subst (AreBlobsWithin v.limit quota) (sym is) (used_within v.limit quota d (visible_in p v) kept.within));
 }
-
-pub kept_same : (quota : ℕ) (p q : Slots) (v w : ViewValue) → IsViewInPool quota p v → w ≡ v → q ≡ p → IsViewInPool quota q w
-kept_same quota p q v w kept same pool = subst (λ (x : Slots). IsViewInPool quota x w) (sym pool)
-    (subst (λ (x : ViewValue). IsViewInPool quota p x) (sym same) kept)

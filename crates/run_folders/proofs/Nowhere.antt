@@ -1,12 +1,7 @@
 -- Where no place is known, and all may be done.
-use Rattle.std.proofs.Common.{◌≡◌, ℕ, List, [], ◌∷◌, Option, None, refl}
+use Rattle.std.proofs.Common.{ℕ, List, [], ◌∷◌, Option}
 use Rattle.std.specs.Prelude.{⊤}
-use Rattle.system.specs.Places.{AtAndBelow, MayTake, OnTheWay, entry, place_below}
-
--- what is below no known place is at none
-pub stays_nowhere : (names : List (List ℕ)) → place_below None names ≡ None
-stays_nowhere [] = refl
-stays_nowhere (name ∷ names) = stays_nowhere names
+use Rattle.system.specs.Places.{AtAndBelow, MayTake, OnTheWay, entry}
 
 pub all_may : (place : Option (List (List ℕ))) (names : List (List ℕ))
     → OnTheWay (λ _. ⊤) place names

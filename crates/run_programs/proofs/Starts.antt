@@ -1,13 +1,12 @@
 -- What was started, when one more was.
-use Rattle.std.proofs.Common.{◌≡◌, ◌∙◌, sym, ap, subst, inl, inr, refl, Bool, true, false, if◌then◌else◌, ◌≢◌, ◌-◌, ◌≤◌, List, [], ◌∷◌, length, map, take, drop, get_or, arith, Option, Some, None, Result, Ok, Err, String, string_bytes, bytes_eq, slice_get, IsSomeAnd, codes}
+use Rattle.std.proofs.Common.{◌≡◌, ◌∙◌, sym, ap, subst, inl, inr, refl, Bool, true, false, if◌then◌else◌, ◌≢◌, ◌-◌, ◌≤◌, List, [], ◌∷◌, length, map, take, drop, get_or, arith, Option, Some, None, Result, Ok, Err, string_bytes, bytes_eq, IsSomeAnd}
 use Rattle.std.proofs.Math.Seq.{take-length}
 use Rattle.std.proofs.lemmas.Slice.Eq.{bytes_eq-Decides}
 use Rattle.run_calls.specs.declared.task.Variable.{Variable}
-use Rattle.run_calls.specs.Values.{CommandValue, PlaceValue, variable_shown}
-use Rattle.run_folders.specs.Folders.{root_path}
-use Rattle.system.specs.Starting.{Is, Start, StartsBy, StartsNone, StartsOne}
+use Rattle.run_calls.specs.Values.{CommandValue, variable_shown}
+use Rattle.system.specs.Starting.{Is, Start, StartsBy, StartsOne}
 use Rattle.run_programs.specs.declared.launching.Launcher.{Launcher}
-use Rattle.run_programs.specs.Launching.{StartsBare, StartsLauncher, Text, session_words}
+use Rattle.run_programs.specs.Launching.{StartsBare, Text, session_words}
 use Rattle.run_programs.specs.Ways.{SoughtValue}
 use Rattle.run_programs.specs.Spawning.{MayStartBy, StartsAtMost, StartsItself, StartsOrdered, set_by}
 
@@ -30,16 +29,6 @@ at_most IsSo (Ok x) before after s = inr s
 at_most IsSo (Err e) before after s = s
 
 -- ---- what a table starts, by its launcher
-
-pub not_started : {C X E : Type 0} (IsTold : Launcher → C → Type 0) (IsItself : C → Type 0)
-    (l : Option Launcher) (r : Result X E) (e : E) (before after : Option (List C))
-    → r ≡ Err e → after ≡ before → StartsOrdered l IsTold IsItself r before after
-not_started {C} {X} {E} IsTold IsItself l r e before after is same =
-    subst (λ (q : Result X E). StartsOrdered l IsTold IsItself q before after) (sym is) (go l)
-  where
-    go : (o : Option Launcher) → StartsOrdered {X = X} o IsTold IsItself (Err e) before after
-    go None = inr same
-    go (Some launcher) = inr same
 
 module _ {C X E : Type 0} (IsTold : Launcher → C → Type 0) (IsItself : C → Type 0) where
   pub launched : (l : Option Launcher) (launcher : Launcher) (r : Result X E)
@@ -140,9 +129,3 @@ pub since_found : {C : Type 0} (IsItself : Text → CommandValue → C → Type 
 since_found {C} IsItself s o before after is starts =
     subst (λ (f : Option SoughtValue). StartsAtMost (λ c. IsSomeAnd f (λ t. IsItself t.directory
     t.command c)) before after) is starts
-
-pub none_by : {C X E : Type 0} (IsSo : C → Type 0) (r : Result X E) (e : E)
-    (before after : Option (List C)) → r ≡ Err e → StartsNone before after
-    → MayStartBy IsSo r before after
-none_by {C} {X} {E} IsSo r e before after is none =
-    subst (λ (q : Result X E). MayStartBy IsSo q before after) (sym is) none

@@ -1,5 +1,5 @@
 -- How the first connection of a number stands, and one of its streams.
-use Rattle.std.proofs.Common.{◌≡◌, ℕ, ◌-◌, ◌<◌, ◌≤◌, List, [], ◌∷◌, ◌++◌, refl, ap, ◌∙◌, sym, subst, append_assoc, arith}
+use Rattle.std.proofs.Common.{◌≡◌, ℕ, ◌<◌, ◌≤◌, List, [], ◌∷◌, ◌++◌, refl, ap, ◌∙◌, sym, subst, append_assoc, arith}
 use Rattle.std.specs.Prelude.{Bool, true, false, map, Option, Some, None}
 use Rattle.std.specs.List.{AllByRecursion, flat_map}
 use Rattle.grpc_sending.specs.Owed.{OwedItem, Item}
@@ -22,7 +22,7 @@ use Rattle.execution.specs.Steps.{StepValue}
 use Rattle.job_queue.specs.Jobs.{running_job}
 use Rattle.run_calls.specs.Outcomes.{OutcomeValue}
 use Rattle.instance_core.specs.declared.event.CallId.{CallId}
-use Rattle.instance_core.specs.Calls.{CallValue, CallEventValue, has, start_jobs, end_late_jobs, end_job}
+use Rattle.instance_core.specs.Calls.{CallValue, CallEventValue, start_jobs, end_late_jobs, end_job}
 use Rattle.instance_core.specs.Changes.{Text, Keeps as KeepsResults, Settles, state_after_change, state_after_changes}
 use Rattle.instance_core.specs.Method.TheVariants.{Read}
 use Rattle.instance_core.specs.State.{InstanceState}
@@ -257,12 +257,6 @@ quiet_brought name c s es l d items fine short none is live = record {
 }
 
 -- ---- a frame of the connection
-
--- before its events
-pub record AtFrame (name : List ℕ) (c s : ℕ) (l : LoneInstance) (d : List Entry) : Type 0 where
-  pub items : List Item
-  pub look : look_at c s l.connections ≡ Some (opened d items)
-  pub fine : IsFine name l
 
 -- a stream is not opened before its request
 pub fresh : (d : List Entry) (s : ℕ) → highest_stream d < s → IsOpened d s → ⊥

@@ -3,7 +3,7 @@ use Rattle.std.proofs.Common.{◌≡◌, ℕ, ◌+◌, ◌<◌, ◌≤◌, List,
 use Rattle.std.specs.Prelude.{◌^◌}
 use Rattle.std.specs.List.{All}
 use Rattle.std.specs.Io.KnownBytes.{Appends, Keeps}
-use Rattle.std.proofs.lemmas.List.{append_assoc, append-nil, length-set, drop_more, drop_all, get_or-map}
+use Rattle.std.proofs.lemmas.List.{append_assoc, append-nil, length-set, drop_more, get_or-map}
 use Rattle.script.specs.declared.unary.command.Command.{Command}
 use Rattle.script.specs.declared.unary.command.Instance.{Instance}
 use Rattle.script.specs.UnaryShown.{command_value, instance_value}
@@ -59,16 +59,6 @@ told_more commands at c first now next before between after lt is changed put t 
 take_done : (xs ys : List (List ℕ)) → take (length xs) (xs ++ ys) ≡ xs
 take_done [] ys = refl
 take_done (x ∷ xs) ys = ap (λ (zs : List (List ℕ)). x ∷ zs) (take_done xs ys)
-
--- all lines were written
-pub told_all : (commands : List Command) (at : ℕ) (first now : List StoreValue) (before after : Option (List ℕ)) → length commands ≤ at →
-    Told commands at first now before after
-    → Appends before after (text_of_lines (lines_of_commands (map command_value commands) first))
-told_all commands at first now before after le t =
-    let none : drop at commands ≡ [] = drop_all at commands le in
-    let of_rest : List Command → List (List ℕ) = λ cs. t.done ++ lines_of_commands (map command_value cs) now in
-    let all : t.done ≡ lines_of_commands (map command_value commands) first = sym (append-nil t.done) ∙ sym (ap of_rest none) ∙ t.lines in
-    subst (λ (xs : List (List ℕ)). Appends before after (text_of_lines xs)) all t.out
 
 -- the first of them were
 pub told_some : (commands : List Command) (at : ℕ) (first now : List StoreValue) (before between after : Option (List ℕ)) →

@@ -1,12 +1,8 @@
 -- Bytes sent and received, one turn after another.
-use Rattle.std.proofs.Common.{ℕ, List, [], ◌++◌, Option, Some, None, sym, ap, ◌∙◌}
+use Rattle.std.proofs.Common.{ℕ, List, ◌++◌, Option, Some, None, sym, ap, ◌∙◌}
 use Rattle.std.specs.Io.KnownBytes.{Appends, Consumes}
-use Rattle.std.proofs.lemmas.List.{append_assoc, append-nil}
+use Rattle.std.proofs.lemmas.List.{append_assoc}
 use Rattle.tool_programs.specs.Exchange.{IsSent, IsReceived}
-
-appends_none : (o : Option (List ℕ)) → Appends o o []
-appends_none None = tt
-appends_none (Some xs) = sym (append-nil xs)
 
 appends_more : (first second third : Option (List ℕ)) (xs ys : List ℕ) → Appends first second xs → Appends second third ys →
     Appends first third (xs ++ ys)

@@ -1,10 +1,7 @@
 -- How few looks it takes to name the blobs of a result.
-use Rattle.std.proofs.Common.{◌≡◌, ℕ, ◌+◌, ◌-◌, ◌*◌, ◌<◌, ◌≤◌, Bool, true, false, List, [], ◌∷◌, ◌++◌, map, reverse, take, drop, length, Option, Some, None, Result, Ok, Err, refl, sym, ap, subst, ◌∙◌, arith, if◌then◌else◌}
-use Rattle.std.specs.Prelude.{slice_index_or}
+use Rattle.std.proofs.Common.{◌≡◌, ℕ, ◌+◌, ◌*◌, ◌≤◌, Bool, true, false, List, [], ◌∷◌, map, length, Option, Some, None, Result, Ok, Err, refl, sym, ap, subst, ◌∙◌, arith, if◌then◌else◌}
 use Rattle.std.specs.List.{list_any}
-use Rattle.std.proofs.Math.Seq.{take-length}
-use Rattle.std.proofs.lemmas.List.{length-map, map-append, reverse-append}
-use Rattle.digest.specs.declared.Digest.{Digest}
+use Rattle.std.proofs.lemmas.List.{length-map}
 use Rattle.protobuf_wire.specs.Results.{◌>>=◌}
 use Rattle.protobuf_wire.specs.Record.{Record}
 use Rattle.protobuf_wire.specs.declared.error.MessageError.{MessageError}
@@ -12,9 +9,7 @@ use Rattle.protobuf_wire.specs.Fields.{embedded_value, int32, octets, repeated_v
 use Rattle.protobuf_wire.proofs.Tools.{ok_is}
 use Rattle.reapi_messages.specs.Digests.{DigestValue, digest_of}
 use Rattle.tree_messages.specs.Results.{ActionResultValue, OutputDirectoryValue, OutputFileValue, action_result_of, output_directory_of, output_file_of}
-use Rattle.input_tree.specs.Directories.{written_digest}
 use Rattle.input_tree.specs.Listing.{Lookup}
-use Rattle.input_tree.specs.Pages.{text_or_none}
 use Rattle.input_tree.proofs.Counts.{has_records, payload_left, values_few}
 use Rattle.input_tree.proofs.Counts as counts
 use Rattle.protobuf_wire.specs.declared.field.WireError.{WireError}
@@ -22,7 +17,7 @@ use Rattle.protobuf_wire.specs.Reading.{record_at, step, count_left}
 use Rattle.protobuf_wire.specs.Fields.{payload_in}
 use Rattle.action_cache.specs.Lengths.{length_or_zero}
 use Rattle.action_cache.specs.LastTrees.{are_of_one_tree, last_trees}
-use Rattle.action_cache.specs.Work.{length_of, looks_named, looks_within, result_looks, sum_of, tree_length, tree_looks, trees_named}
+use Rattle.action_cache.specs.Work.{looks_named, looks_within, result_looks, sum_of, tree_length, tree_looks, trees_named}
 
 pub ones : {V : Type 0} (vs : List V) → sum_of (λ _. 1) vs ≡ length vs
 ones [] = refl
@@ -109,30 +104,6 @@ step_left field s after r told is =
     let same = same_length (payload_in field r) in
     let rest : count_left after ≡ count_left (step record_at s).1 = ap (λ (x : Result (List ℕ) WireError). count_left x) is in
     omega (arith, left, same, rest)
-
--- the first of a list, and those behind it
-pub sum_next : {V X : Type 0} (f : V → ℕ) (shown : X → V) (left : List X) (first default : X) (new old : ℕ) → 0 < length left →
-    first ≡ slice_index_or left 0 default → new ≤ old + f (shown first) →
-    new + sum_of f (map shown (take (length left - 1) (drop 1 left))) ≤ old + sum_of f (map shown left)
-sum_next f shown [] first default new old some is more = absurd (omega arith)
-sum_next {V} {X} f shown (x ∷ xs) first default new old some is more =
-    let count : length (x ∷ xs) - 1 ≡ length xs = omega arith in
-    let one : f (shown first) ≡ f (shown x) = ap (λ (y : X). f (shown y)) is in
-    rw (count, take-length) (omega (arith, more, one))
-
--- the last of a list, and those before it
-pub sum_pop : {V X : Type 0} (f : V → ℕ) (shown : X → V) (items rest : List X) (last : X) (new old : ℕ) → items ≡ rest ++ last ∷ [] →
-    new ≤ old + f (shown last) → new + sum_of f (reverse (map shown rest)) ≤ old + sum_of f (reverse (map shown items))
-sum_pop {V} f shown items rest last new old is more =
-    let turned : reverse (map shown items) ≡ shown last ∷ reverse (map shown rest) =
-    ap (λ xs. reverse (map shown xs)) is ∙ ap (λ (vs : List V). reverse vs) (map-append shown rest (last ∷ []))
-    ∙ reverse-append (map shown rest) (shown last ∷ []) in
-    rw turned (omega (arith, more))
-
--- how long a tree is whose digest was read
-pub tree_length_is : (look : Lookup) (o : OutputDirectoryValue) (d : Digest) → Some d ≡ written_digest o.tree_digest →
-    tree_length look o ≡ length (text_or_none look d)
-tree_length_is look o d h = ap (λ (e : Option Digest). length_of look e) (sym h)
 
 -- ---- what stands in a result
 

@@ -1,6 +1,5 @@
 -- How many records and parts a text has: no more than it has bytes.
 use Rattle.std.proofs.Common.{◌≡◌, ℕ, zero, suc, ◌+◌, ◌≤◌, Bool, true, false, eqb, List, [], ◌∷◌, length, Option, Some, None, Result, Ok, Err, refl, ap, subst, arith, if◌then◌else◌}
-use Rattle.std.specs.List.{filter_map}
 use Rattle.std.proofs.lemmas.List.{length-append}
 use Rattle.protobuf_wire.specs.Results.{◌>>=◌}
 use Rattle.protobuf_wire.specs.Record.{Value, Number, Eight, Payload, Four, Record}
@@ -69,13 +68,6 @@ pub has_records : {V : Type 0} (value_of : List Record → Result V MessageError
 has_records value_of text v h =
     let a = bind_ok (records_in text) value_of v h in
     record { records = a.0; means = a.2; few = records_few text a.0 a.1 }
-
-pub filtered_few : {A B : Type 0} (f : A → Option B) (xs : List A) → length (filter_map f xs) ≤ length xs
-filtered_few f [] = omega arith
-filtered_few {A} f (x ∷ xs) = go (f x) refl (filtered_few f xs) where
-  go : (o : Option _) → f x ≡ o → length (filter_map f xs) ≤ length xs → length (filter_map f (x ∷ xs)) ≤ length (x ∷ xs)
-  go None is few = rw is (omega (arith, few))
-  go (Some b) is few = rw is (omega (arith, few))
 
 -- ---- one step of a reader
 

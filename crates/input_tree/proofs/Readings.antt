@@ -29,14 +29,6 @@ begin_given r text count bad count_is text_is at taken = go (nat_le (length text
       let long : nat_lt 67108864 (length text) ≡ true = grind (arith, nat_tests) in
       rw (bad, count_is, long, many) refl
 
--- what a reading that goes on gives
-pub going : (r : DirectoryReading) → is_over r ≡ false →
-    given_by r ≡ in_order (with_nodes_left (taken_shown r.taken) (records_of (drop r.at r.text.items)))
-going r h = rw ((neither r.is_bad (nat_le (length r.text.items) r.at) h).0) refl
-
-pub some_left : (r : DirectoryReading) → is_over r ≡ false → r.at < length r.text.items
-some_left r h = let more = (neither r.is_bad (nat_le (length r.text.items) r.at) h).1 in grind (arith, nat_tests)
-
 -- what is left of its text
 pub rest_is : (n : ℕ) (text t : List ℕ) → t ≡ text → take (length t - n) (drop n t) ≡ drop n text
 rest_is n text t same =
@@ -63,17 +55,6 @@ step_less old new left rest h text bad at is less =
     let few : left < length (drop old.at old.text.items) = rw is at less in
     let count = length-drop old.at old.text.items in
     rw (bad, good, text, at) (omega (arith, few, count))
-
--- a node is met that is not taken
-pub step_bad : (old new : DirectoryReading) → is_over old ≡ false → new.is_bad ≡ true →
-    with_nodes_left (taken_shown old.taken) (records_of (drop old.at old.text.items)) ≡ None → given_by new ≡ given_by old
-step_bad old new h bad none = rw bad (sym (going old h ∙ ap in_order none))
-
-pub step_bad_less : (old new : DirectoryReading) → is_over old ≡ false → new.is_bad ≡ true → bytes_left new < bytes_left old
-step_bad_less old new h bad =
-    let good = (neither old.is_bad (nat_le (length old.text.items) old.at) h).0 in
-    let more = some_left old h in
-    rw (bad, good) (omega (arith, more))
 
 -- nothing is left
 pub end_given : (r : DirectoryReading) → is_over r ≡ true → r.is_bad ≡ false → given_by r ≡ in_order (Some (taken_shown r.taken))

@@ -253,9 +253,6 @@ ends_with text front rest is =
     let count : length front ≡ length (front ++ rest) - length rest = omega (arith, both) in
     rw is (drop_at front rest (length (front ++ rest) - length rest) count)
 
-pub all_last : (text : List ℕ) → last_of (length text) text ≡ text
-all_last text = ends_with text [] text refl
-
 -- behind one more record the reader stands at the end of the same text
 pub next_last : (text : List ℕ) (old new : Result (List ℕ) WireError) (r : Record) → old ≡ Ok (last_of (count_left old) text) →
     Ok (Some r) ≡ (step record_at old).0 → new ≡ (step record_at old).1 → new ≡ Ok (last_of (count_left new) text)

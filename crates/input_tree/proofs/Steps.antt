@@ -11,7 +11,7 @@ use Rattle.std.specs.declared.vec.Vec.{Vec}
 use Rattle.digest.specs.declared.Digest.{Digest}
 use Rattle.digest.specs.Naming.{same_digest}
 use Rattle.tree_messages.specs.Directories.{DirectoryValue, DirectoryNodeValue}
-use Rattle.input_tree.specs.declared.error.TreeRefusal.TheVariants.{NotFound, BadDirectory, TooMany}
+use Rattle.input_tree.specs.declared.error.TreeRefusal.TheVariants.{TooMany}
 use Rattle.input_tree.specs.declared.listing.Listing.{Listing}
 use Rattle.input_tree.specs.declared.listing.ChildReading.{ChildReading}
 use Rattle.input_tree.specs.Directories.{child_digest, children_in, directory_in, written_digest}
@@ -19,7 +19,6 @@ use Rattle.input_tree.specs.Listing.{Lookup, children, children_of_text, listed_
 use Rattle.input_tree.specs.ListingSteps.{AreDue, AreNone}
 use Rattle.input_tree.specs.Listings.{Closes, IsReading, LeadsTo, Opens, is_over, left_of, named_left, reading_left, steps_left, with_read, with_reading}
 use Rattle.input_tree.specs.Taken.{DirectoryTakenValue, child_taken, directory_taken, taken_at, taken_of}
-use Rattle.input_tree.specs.Taking.{given_by}
 use Rattle.input_tree.specs.Work.{named_along}
 use Rattle.input_tree.proofs.Listed.{along_end, along_full, along_next, due_more, due_next, named_next, none_due}
 
@@ -48,12 +47,6 @@ children_at look d o h = text (look d) h where
   text None h = cc
   text (Some t) h = read (directory_in t) cc
 
-pub none_at : (look : Lookup) (d : Digest) → taken_at look d ≡ None → look d ≡ None
-none_at look d h = go (look d) h where
-  go : (t : Option (List ℕ)) → option_map directory_taken t ≡ None → t ≡ None
-  go None h = refl
-  go (Some t) h = cc
-
 -- ---- the root
 
 from_root : (look : Lookup) (root : Digest) (inside : List Digest) (o : Option (List ℕ)) → look root ≡ o → children look root ≡ Some inside →
@@ -66,18 +59,6 @@ from_root look root inside (Some text) is h =
 root_listed : (look : Lookup) (root : Digest) (inside : List Digest) → children look root ≡ Some inside →
     tree_list look root ≡ listed_along 10000 look (root ∷ []) 0
 root_listed look root inside h = from_root look root inside (look root) refl h
-
-pub root_not_found : (look : Lookup) (root : Digest) → taken_at look root ≡ None → tree_list look root ≡ Err NotFound
-root_not_found look root h = rw (none_at look root h) refl
-
-pub root_bad : (look : Lookup) (root : Digest) → taken_at look root ≡ Some None → tree_list look root ≡ Err BadDirectory
-root_bad look root h = go (look root) refl h where
-  go : (t : Option (List ℕ)) → look root ≡ t → option_map directory_taken t ≡ Some None → tree_list look root ≡ Err BadDirectory
-  go None is h = cc
-  go (Some t) is h =
-      let none : children look root ≡ None = children_at look root None (rw is h) in
-      let at : children_in t ≡ None = rw is at none in
-      rw (is, at) refl
 
 -- ---- the measure
 
@@ -141,13 +122,6 @@ pub opened_listed : (look : Lookup) (keys : List Digest) (d : Digest) (reading :
 opened_listed look keys d reading closed h =
     rw closed (record { with_it = sym (listed_before look keys d h); reading_is = tt })
 
-pub opened_none : (look : Lookup) (keys : List Digest) (d : Digest) → children look d ≡ None → IsOpened look keys d None
-opened_none look keys d h = record { with_it = sym (none_listed look keys d h); reading_is = tt }
-
-pub opened_some : (look : Lookup) (keys : List Digest) (r : ChildReading) → taken_at look r.digest ≡ Some (given_by r.directory) →
-    list_any (same_digest r.digest) keys ≡ false → IsOpened look keys r.digest (Some r)
-opened_some look keys r is new = record { with_it = refl; reading_is = (is, new) }
-
 pub opens_child : (look : Lookup) (old new : Listing) (d : Digest) → LeadsTo look old → old.is_begun ≡ true → old.reading ≡ None →
     slice_get old.inside.items old.next ≡ Some d → new.root ≡ old.root → new.is_begun ≡ old.is_begun → new.place ≡ old.place →
     new.inside ≡ old.inside → new.next ≡ old.next + 1 → new.known ≡ old.known → IsOpened look old.known.listed.keys d new.reading →
@@ -166,23 +140,6 @@ opens_child look old new d leads begun closed there root begins place inside nex
         first = λ no. absurd (let not : true ≡ false = sym begun ∙ sym begins ∙ no in cc);
       };
       named = rw (begins, begun, closed, place, inside, next, known, opened.with_it, left) (omega arith);
-    }
-
-pub opens_root : (look : Lookup) (old new : Listing) (r : ChildReading) → LeadsTo look old → old.is_begun ≡ false → old.reading ≡ None →
-    r.digest ≡ old.root → taken_at look r.digest ≡ Some (given_by r.directory) → new.root ≡ old.root → new.is_begun ≡ old.is_begun →
-    new.place ≡ old.place → new.inside ≡ old.inside → new.next ≡ old.next → new.known ≡ old.known → new.reading ≡ Some r → Opens look old new
-opens_root look old new r leads fresh closed at_root is root begins place inside next known opened =
-    let empty = leads.first fresh in
-    record {
-      leads = record {
-        same = rw (root, begins, fresh) refl;
-        reading_is = rw (opened, known, empty.0) (is, refl);
-        others_are = rw known leads.others_are;
-        due_are = rw (place, known) leads.due_are;
-        few = rw place leads.few;
-        first = λ h. rw (known, inside, next, place, opened, root) (empty.0, empty.1, empty.2, at_root);
-      };
-      named = rw (root, begins, fresh, closed, opened) (omega arith);
     }
 
 -- ---- a directory that was read

@@ -56,10 +56,6 @@ last_joined : (before : Path) (xs ys : List PlanNodeValue) → last_behind befor
 last_joined before [] ys = refl
 last_joined before (x ∷ xs) ys = last_joined (path_behind before x) xs ys
 
-take_front : (above tail : Path) → take (length above) (above ++ tail) ≡ above
-take_front [] tail = refl
-take_front (t ∷ above) tail = ap (λ (p : Path). t ∷ p) (take_front above tail)
-
 take_whole : (p : Path) → take (length p) p ≡ p
 take_whole [] = refl
 take_whole (t ∷ p) = ap (λ (q : Path). t ∷ q) (take_whole p)

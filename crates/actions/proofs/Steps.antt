@@ -26,7 +26,7 @@ use Rattle.actions.specs.Shown.{node_shown, nodes_shown}
 use Rattle.actions.specs.Walk.{Nodes, TreeFaultValue, bad_directory, digest_of_node, digests_met, directory_nodes, missing, missing_among, nodes_below, nodes_inside, nodes_met, nodes_of_text, nodes_or_fault, nodes_unless_missing, plan_of, too_deep, too_many, walk, walk_along}
 use Rattle.actions.specs.KeptNodes.{AreKept, IsKept}
 use Rattle.actions.specs.Answers.{Fails}
-use Rattle.actions.specs.TreeWalks.{IsReading, LeadsTo, ahead_left, is_over, nodes_ahead, not_looked_for, opened_below, opened_by, reading_left, steps_left, text_of_node, with_ahead}
+use Rattle.actions.specs.TreeWalks.{IsReading, LeadsTo, ahead_left, is_over, nodes_ahead, not_looked_for, opened_below, opened_by, steps_left, text_of_node, with_ahead}
 use Rattle.actions.proofs.Walks.{along_end, along_full, along_next, fails_as, fails_then, reverse_last}
 
 -- ---- the nodes that what is taken stands for
@@ -346,15 +346,6 @@ falls a m x k y h g =
     less_by (a * k) (m * k + y) x k (more (a * k + k) (m * k) y fits) g where
       more : (p q y : ℕ) → p ≤ q → p ≤ q + y
       more p q y h = omega (arith, h)
-
-stays : (a x y : ℕ) → x < y → a + x < a + y
-stays a x y h = omega (arith, h)
-
--- a step that meets no node
-pub less_ahead : (old new : TreeWalk) (d : Digest) (level : ℕ) (reading : Option DirectoryReading) → new.met ≡ old.met →
-    ahead_left new.ahead < reading_left reading → steps_left new < steps_left (with_ahead old d level reading)
-less_ahead old new d level reading met less =
-    rw met (stays ((10000 - length old.met.items) * 67108867) (ahead_left new.ahead) (reading_left reading) less)
 
 pub less_met : (old : TreeWalk) (met : List PlanNode) (n : PlanNode) (ahead : Option Ahead) → length old.met.items < 10000 →
     opened_by (node_shown n) ≡ Ok ahead → met ≡ old.met.items ++ n ∷ [] →

@@ -12,9 +12,9 @@ ghost use Rattle.action_cache.specs.TreeTexts.{node_in, with_directories, with_d
 
 use crate::naming::{Blobs, Unnamed, name_blob};
 use digest::Digest;
-use input_tree::{Node, payload_of};
+use input_tree::Node;
 use instance_view::Work;
-use protobuf_wire::{Field, Reader};
+use protobuf_wire::{Field, Reader, payload_of};
 use tree_messages::{DirectoryNode, FileNode, SymlinkNode};
 
 /// The node of a record, where that is one of the field.

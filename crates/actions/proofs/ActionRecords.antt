@@ -12,12 +12,12 @@ use Rattle.protobuf_wire.specs.Fields.{embedded_value, flag, int32, int32_of, in
 use Rattle.protobuf_wire.specs.Joining.{joined_records, optional_value}
 use Rattle.protobuf_wire.proofs.Submessages.{embedded_is_joined}
 use Rattle.reapi_messages.specs.Digests.{DigestValue, digest_of}
-use Rattle.input_tree.specs.NodeTexts.{and_then, readable, with_all, with_left}
+use Rattle.input_tree.specs.NodeTexts.{and_then, number_after, readable, with_all, with_left}
 use Rattle.input_tree.proofs.NodeRecords.{none_after}
 use Rattle.execution_messages.specs.Actions.{ActionValue, DurationValue, action_of, duration_of}
 use Rattle.actions.specs.Actions.{taken_or_none}
 use Rattle.actions.specs.Texts.{string_after}
-use Rattle.actions.specs.ActionTexts.{number_after, message_or, message_after, digest_after, no_digest, duration_after, no_duration, digest_field_after, duration_field_after, action_after, no_action, taken_action}
+use Rattle.actions.specs.ActionTexts.{message_or, message_after, digest_after, no_digest, duration_after, no_duration, digest_field_after, duration_field_after, action_after, no_action, taken_action}
 use Rattle.actions.proofs.Records.{both, both_same, beside, beside_are, seen_along, string_is, text_is}
 
 -- ---- numbers

@@ -3,21 +3,14 @@ use Rattle.std.specs.Prelude.{ℕ, ℤ, pos, false, List, [], Option, Some, None
 use Rattle.std.specs.Int.{w64, cast_signed}
 use Rattle.protobuf_wire.specs.Reading.{records_of}
 use Rattle.protobuf_wire.specs.Record.{Record}
-use Rattle.protobuf_wire.specs.Fields.{int32_of, number_in, payload_in}
+use Rattle.protobuf_wire.specs.Fields.{int32_of, payload_in}
 use Rattle.reapi_messages.specs.Digests.{DigestValue}
-use Rattle.input_tree.specs.NodeTexts.{and_then, with_left}
+use Rattle.input_tree.specs.NodeTexts.{and_then, with_left, number_after}
 use Rattle.execution_messages.specs.Actions.{ActionValue, DurationValue}
 use Rattle.actions.specs.Actions.{ActionTaken, action_taken}
 use Rattle.actions.specs.Texts.{string_after}
 
 -- ---- a field so far, and with one more record
-
-abbrev pub number_or : {C : Type 0} → (ℕ → C) → C → Option ℕ → C
-number_or meaning last None = last
-number_or meaning last (Some n) = meaning n
-
-abbrev pub number_after : {C : Type 0} → (ℕ → C) → ℕ → C → Record → C
-number_after meaning field last r = number_or meaning last (number_in field r)
 
 -- an embedded message so far, and with the records of one more payload
 abbrev pub message_or : {V : Type 0} → (V → Record → Option V) → V → Option V →

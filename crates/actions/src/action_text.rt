@@ -1,57 +1,20 @@
 //! Actions, read while their texts are gone over. No memory is taken, and where a text cannot be
 //! read there is `None`.
 
-ghost use Rattle.std.specs.Prelude.{◌≡◌, Some, nat_lt, option_map};
-ghost use Rattle.std.specs.Int.{w64, cast_signed};
+ghost use Rattle.std.specs.Prelude.{◌≡◌, Some, option_map};
 ghost use Rattle.protobuf_wire.specs.Reading.{records_of};
 ghost use Rattle.protobuf_wire.specs.Shown.{record_shown};
-ghost use Rattle.protobuf_wire.specs.Fields.{int32_of, number_in};
+ghost use Rattle.protobuf_wire.specs.Fields.{int32_of};
 ghost use Rattle.reapi_messages.specs.Digests.{digest_shown};
-ghost use Rattle.input_tree.specs.NodeTexts.{with_left};
+ghost use Rattle.input_tree.specs.NodeTexts.{number_after, with_left};
 ghost use Rattle.execution_messages.specs.Actions.{action_shown, duration_shown};
-ghost use Rattle.actions.specs.ActionTexts.{number_after, digest_after, digest_field_after, duration_after, duration_field_after, action_after, no_action};
+ghost use Rattle.actions.specs.ActionTexts.{digest_after, digest_field_after, duration_after, duration_field_after, action_after, no_action};
 
 use crate::command_text::string_after;
 use execution_messages::{Action, Duration};
-use input_tree::payload_of;
-use protobuf_wire::{Content, Field, Reader};
+use input_tree::{flag_after, int64_after};
+use protobuf_wire::{Field, Reader, low_half, number_of, payload_of};
 use reapi_messages::Digest;
-
-/// The number of a record, where it is one of the field.
-fn number_of(entry: &Field<'_>, field: u32) -> Option<u64>
-    ensures { result ≡ number_in field (record_shown entry.now) }
-{
-    match entry.content {
-        Content::Varint(number) if entry.number == field => Some(number),
-        _ => None,
-    }
-}
-
-/// The `bool` of a record, where it is one of the field, and else the one before.
-fn flag_after(last: bool, entry: &Field<'_>, field: u32) -> bool
-    ensures { result ≡ number_after (nat_lt 0) field last (record_shown entry.now) }
-{
-    match number_of(entry, field) {
-        None => last,
-        Some(number) => number > 0,
-    }
-}
-
-/// The `int64` of a record, where it is one of the field, and else the one before.
-fn int64_after(last: i64, entry: &Field<'_>, field: u32) -> i64
-    ensures { result ≡ number_after (cast_signed w64) field last (record_shown entry.now) }
-{
-    match number_of(entry, field) {
-        None => last,
-        Some(number) => number.cast_signed(),
-    }
-}
-
-fn low_half(number: u64) -> i32
-    ensures { result ≡ int32_of number }
-{
-    ((number % (1 << 32)) as u32).cast_signed()
-}
 
 /// The `int32` of a record, where it is one of the field, and else the one before.
 fn int32_after(last: i32, entry: &Field<'_>, field: u32) -> i32

@@ -9,8 +9,7 @@ ghost use Rattle.actions.specs.declared.command_text.Untaken.TheVariants.{Bad, N
 ghost use Rattle.actions.specs.Texts.{Takes, string_in, string_after, strings_after, each_after, variable_after, variable_in, command_after, no_command};
 
 use execution_messages::{Command, EnvironmentVariable};
-use input_tree::payload_of;
-use protobuf_wire::{Field, Reader, WireError};
+use protobuf_wire::{Field, Reader, WireError, payload_of};
 use std::alloc::{AllocFailed, Global};
 
 /// Why a text is not read to its end.

@@ -4,11 +4,10 @@
 //! In each of them field 1 is the instance's name, and each payload of field 2 is an entry.
 
 ghost use Rattle.std.specs.Prelude.{◌≡◌, ◌<◌, option_map, IfOk, IsSome};
-ghost use Rattle.std.specs.Option.{option_copied};
 ghost use Rattle.protobuf_wire.specs.Reading.{count_left};
 ghost use Rattle.reapi_messages.specs.Shown.{record_shown};
 ghost use Rattle.reapi_messages.specs.Answers.{Means};
-ghost use Rattle.reapi_messages.specs.Fields.{value_of_text, payload_in, number_in, int32_of, utf8};
+ghost use Rattle.reapi_messages.specs.Fields.{value_of_text, payload_in, number_in, utf8};
 ghost use Rattle.cas_service.specs.Answers.{Answers};
 ghost use Rattle.cas_service.specs.Requests.{message_or_refusal};
 ghost use Rattle.cas_service.specs.Entries.{head_shown, head_of, name_in, function_in, ReadsEntry, entry_in, entries_left, form_of, refusal_of, Refuses, admitted};
@@ -16,7 +15,7 @@ ghost use Rattle.cas_service.specs.Entries.{head_shown, head_of, name_in, functi
 use crate::error::CallError;
 use crate::requests::{asked_function, check_instance};
 use digest::HashFunction;
-use protobuf_wire::{Content, Reader};
+use protobuf_wire::{Reader, low_half, number_of, payload_of};
 use reapi_messages::{Decode, Field, MessageError};
 use rpc::Refusal;
 use std::alloc::Global;
@@ -29,26 +28,6 @@ pub struct Head<'a> {
     pub digest_function: i32,
 }
 
-/// The payload of a record, where it is one of this field.
-fn payload_of<'a>(entry: &Field<'a>, field: u32) -> Option<&'a [u8]>
-    ensures { option_copied result ≡ payload_in field (record_shown entry.now) }
-{
-    match entry.content {
-        Content::Bytes(payload) if entry.number == field => Some(payload),
-        _ => None,
-    }
-}
-
-/// The number of a record, where it is one of this field.
-fn number_of(entry: &Field<'_>, field: u32) -> Option<u64>
-    ensures { result ≡ number_in field (record_shown entry.now) }
-{
-    match entry.content {
-        Content::Varint(number) if entry.number == field => Some(number),
-        _ => None,
-    }
-}
-
 fn text_of<'a>(payload: &'a [u8]) -> Result<&'a str, CallError>
     ensures { Answers (λ s. s.now) result (message_or_refusal (utf8 payload.now)) }
 {
@@ -56,12 +35,6 @@ fn text_of<'a>(payload: &'a [u8]) -> Result<&'a str, CallError>
         Ok(text) => Ok(text),
         Err(_) => Err(CallError::Refused(Refusal::MalformedMessage)),
     }
-}
-
-fn low_half(number: u64) -> i32
-    ensures { result ≡ int32_of number }
-{
-    ((number % (1 << 32)) as u32).cast_signed()
 }
 
 /// The name so far, or that of a record.

@@ -4,13 +4,12 @@ ghost use Rattle.std.specs.Prelude.{◌≡◌, nat_lt, option_map};
 ghost use Rattle.std.specs.Int.{w64, cast_signed};
 ghost use Rattle.protobuf_wire.specs.Reading.{records_of};
 ghost use Rattle.protobuf_wire.specs.Shown.{record_shown};
-ghost use Rattle.protobuf_wire.specs.Fields.{number_in, value_of_text};
+ghost use Rattle.protobuf_wire.specs.Fields.{value_of_text};
 ghost use Rattle.reapi_messages.specs.Digests.{digest_shown};
 ghost use Rattle.tree_messages.specs.Directories.{file_node_shown, directory_node_shown, symlink_node_shown, file_node_of, directory_node_of, symlink_node_of};
 ghost use Rattle.input_tree.specs.NodeTexts.{Reads, readable, with_left, string_in, string_after, number_after, digest_after, embedded_after, file_after, child_after, symlink_after};
 
-use crate::taking::payload_of;
-use protobuf_wire::{Content, Field, Reader, WireError};
+use protobuf_wire::{Field, Reader, WireError, number_of, payload_of};
 use reapi_messages::Digest;
 use tree_messages::{DirectoryNode, FileNode, SymlinkNode};
 
@@ -21,16 +20,6 @@ pub struct Unread;
 impl From<WireError> for Unread {
     fn from(_fault: WireError) -> Unread {
         Unread
-    }
-}
-
-/// The number of a record, where it is one of the field.
-fn number_of(entry: &Field<'_>, field: u32) -> Option<u64>
-    ensures { result ≡ number_in field (record_shown entry.now) }
-{
-    match entry.content {
-        Content::Varint(number) if entry.number == field => Some(number),
-        _ => None,
     }
 }
 
@@ -54,7 +43,7 @@ fn string_after<'a>(last: &'a str, entry: &Field<'a>, field: u32) -> Result<&'a 
 }
 
 /// The `bool` of a record, where it is one of the field, and else the one before.
-fn flag_after(last: bool, entry: &Field<'_>, field: u32) -> bool
+pub fn flag_after(last: bool, entry: &Field<'_>, field: u32) -> bool
     ensures { result ≡ number_after (nat_lt 0) field last (record_shown entry.now) }
 {
     match number_of(entry, field) {
@@ -64,7 +53,7 @@ fn flag_after(last: bool, entry: &Field<'_>, field: u32) -> bool
 }
 
 /// The `int64` of a record, where it is one of the field, and else the one before.
-fn int64_after(last: i64, entry: &Field<'_>, field: u32) -> i64
+pub fn int64_after(last: i64, entry: &Field<'_>, field: u32) -> i64
     ensures { result ≡ number_after (cast_signed w64) field last (record_shown entry.now) }
 {
     match number_of(entry, field) {

@@ -1,17 +1,15 @@
 //! Records of a directory, up to the first node that is not taken.
 
 ghost use Rattle.std.specs.Prelude.{◌≡◌, ◌<◌, length, map, IfOk, IfErr};
-ghost use Rattle.std.specs.Option.{option_copied};
 ghost use Rattle.protobuf_wire.specs.Reading.{records_of};
 ghost use Rattle.protobuf_wire.specs.Shown.{record_shown};
-ghost use Rattle.protobuf_wire.specs.Fields.{payload_in};
 ghost use Rattle.input_tree.specs.declared.taking.Untaken.TheVariants.{Bad, NoMemory};
 ghost use Rattle.input_tree.specs.Taken.{taken_shown};
 ghost use Rattle.input_tree.specs.Taking.{Declines, Takes, last_of, with_record, with_node, with_nodes_left};
 
 use crate::node_texts::Unread;
 use crate::taken::{DirectoryTaken, Taken};
-use protobuf_wire::{Content, Field, Reader, WireError};
+use protobuf_wire::{Field, Reader, WireError, payload_of};
 use std::alloc::{AllocError, AllocFailed, Global};
 
 /// The most records that are read at a time.
@@ -55,16 +53,6 @@ impl<T: Drop> From<AllocFailed<T>> for Untaken {
 
     fn from(_refused: AllocFailed<T>) -> Untaken {
         Untaken::NoMemory
-    }
-}
-
-/// The payload of a record, where it is one of this field.
-pub fn payload_of<'a>(entry: &Field<'a>, field: u32) -> Option<&'a [u8]>
-    ensures { option_copied result ≡ payload_in field (record_shown entry.now) }
-{
-    match entry.content {
-        Content::Bytes(payload) if entry.number == field => Some(payload),
-        _ => None,
     }
 }
 

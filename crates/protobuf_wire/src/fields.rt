@@ -75,7 +75,8 @@ pub fn fields_of<'a>(alloc: Global, text: &'a [u8]) -> Result<Vec<Field<'a>>, Me
     Ok(fields)
 }
 
-fn number_of(entry: &Field<'_>, field: u32) -> Option<u64>
+/// The number of a record, where it is one of this field.
+pub fn number_of(entry: &Field<'_>, field: u32) -> Option<u64>
     ensures { result ≡ number_in field (record_shown entry.now) }
 {
     match entry.content {
@@ -132,7 +133,8 @@ pub fn int64(records: &[Field<'_>], field: u32) -> i64
     number(records, field).cast_signed()
 }
 
-fn low_half(number: u64) -> i32
+/// The low 32 bits of a number, with a sign: what an `int32` or an enum is.
+pub fn low_half(number: u64) -> i32
     ensures { result ≡ int32_of number }
 {
     ((number % (1 << 32)) as u32).cast_signed()

@@ -1,20 +1,18 @@
 //! Rules that the outputs of a run may break, so that its job fails whatever its program says.
 
 ghost use Rattle.std.specs.Prelude.{◌≡◌, IfOk, map, option_map};
-ghost use Rattle.std.specs.List.{list_all};
 ghost use Rattle.actions.specs.Commands.{asked_outputs};
 ghost use Rattle.actions.specs.Shown.{asked_shown};
-ghost use Rattle.outcomes.specs.Asked.{are_asked, is_asked};
-ghost use Rattle.outcomes.specs.Trees.{is_shallow, level_behind};
-ghost use Rattle.run_calls.specs.Shown.{node_shown, nodes_shown, output_shown};
+ghost use Rattle.run_calls.specs.Shown.{nodes_shown, output_shown};
 ghost use Rattle.server_core.specs.Lent.{lent_shown};
 ghost use Rattle.job_runs.specs.OutputRules.{breaking_path, broken_by, broken_by_nodes, broken_of, first_breaking, first_broken, first_unasked, path_of};
 ghost use Rattle.job_runs.specs.Tasks.{command_for};
 
 use crate::commands::command_for;
-use actions::{AskedOutput, MOST_LEVELS, MOST_NODES, asked_outputs};
+use actions::{AskedOutput, MOST_NODES, asked_outputs};
 use execution::read_task_command;
-use run_calls::{Output, OutputKind, OutputNode, OutputNodeKind};
+use outcomes::{are_asked, are_shallow, is_asked};
+use run_calls::{Output, OutputKind, OutputNode};
 use server_core::LentTask;
 use std::alloc::{AllocError, Global};
 use std::io::{self, ErrorKind};
@@ -43,31 +41,6 @@ impl OutputRule {
             OutputRule::Levels => "an output directory has more than 64 levels",
         }
     }
-}
-
-/// The level at which nodes go on behind a node.
-fn level_behind(node: &OutputNode) -> u64
-    ensures { result ≡ level_behind node.now.level (node_shown node.now).kind }
-{
-    let level = u64::from(node.level);
-    match &node.kind {
-        OutputNodeKind::File { .. } => level,
-        OutputNodeKind::Directory => level + 1,
-    }
-}
-
-/// Whether no directory has a level above the highest.
-fn are_shallow(nodes: &[OutputNode]) -> bool
-    ensures { result ≡ list_all is_shallow (nodes_shown nodes.now) }
-{
-    let mut left = nodes;
-    while let [first, rest @ ..] = left {
-        if level_behind(first) > MOST_LEVELS as u64 {
-            return false;
-        }
-        left = rest;
-    }
-    true
 }
 
 /// The rule that the nodes of an output directory break.
@@ -105,35 +78,6 @@ fn first_broken(outputs: &[Output]) -> Option<OutputRule>
         left = rest;
     }
     None
-}
-
-/// Whether an output is the one that is asked for.
-fn is_asked(asked: &AskedOutput<'_>, output: &Output) -> bool
-    ensures { result ≡ is_asked (asked_shown asked.now) (output_shown output.now) }
-{
-    let may_be = match &output.kind {
-        OutputKind::File { .. } => asked.as_file,
-        OutputKind::Tree { .. } => asked.as_tree,
-    };
-    may_be && asked.path == output.path.as_str()
-}
-
-/// Whether outputs are some of those that are asked for, in their order, each as often at most.
-fn are_asked(asked: &[AskedOutput<'_>], outputs: &[Output]) -> bool
-    ensures { result ≡ are_asked (map asked_shown asked.now) (map output_shown outputs.now) }
-{
-    let mut left = outputs;
-    let mut asked_left = asked;
-    while let [output, next @ ..] = left {
-        let [first, rest @ ..] = asked_left else {
-            return false;
-        };
-        if is_asked(first, output) {
-            left = next;
-        }
-        asked_left = rest;
-    }
-    true
 }
 
 /// The path of an output, of either kind.

@@ -9,7 +9,7 @@ use actions::AskedOutput;
 use run_calls::{Output, OutputKind};
 
 /// Whether an output is the one that is asked for.
-fn is_asked(asked: &AskedOutput<'_>, output: &Output) -> bool
+pub fn is_asked(asked: &AskedOutput<'_>, output: &Output) -> bool
     ensures { result ≡ is_asked (asked_shown asked.now) (output_shown output.now) }
 {
     let may_be = match &output.kind {
@@ -20,7 +20,7 @@ fn is_asked(asked: &AskedOutput<'_>, output: &Output) -> bool
 }
 
 /// Whether outputs are some of those that are asked for, in their order, each as often at most.
-pub(crate) fn are_asked(asked: &[AskedOutput<'_>], outputs: &[Output]) -> bool
+pub fn are_asked(asked: &[AskedOutput<'_>], outputs: &[Output]) -> bool
     ensures { result ≡ are_asked (map asked_shown asked.now) (map output_shown outputs.now) }
 {
     let mut left = outputs;

@@ -14,6 +14,7 @@ mod quota;
 mod sizes;
 mod tree;
 
+pub use asked::{are_asked, is_asked};
 pub use completion::{BlobText, Completion, OutputBlob, complete};
 pub use ending::{Ending, admit_blobs, end_of_run};
 pub use laws::{
@@ -27,3 +28,4 @@ pub use sizes::{
     results_of_runs_are_short, runs_are_told_shortly, steps_are_told_shortly,
     unfinished_operations_are_short,
 };
+pub use tree::are_shallow;

@@ -32,7 +32,7 @@ fn level_behind(node: &OutputNode) -> u64
 }
 
 /// Whether no directory has a level above the highest.
-fn are_shallow(nodes: &[OutputNode]) -> bool
+pub fn are_shallow(nodes: &[OutputNode]) -> bool
     ensures { result ≡ list_all is_shallow (nodes_shown nodes.now) }
 {
     let mut left = nodes;

@@ -30,16 +30,3 @@ node_shown n = record { name = rc_str_bytes n.name; level = n.level; kind = kind
 
 abbrev pub nodes_shown : {T : Type 0} → List (Node T) → List (NodeValue T)
 nodes_shown nodes = map node_shown nodes
-
--- the same node in a directory of a level
-abbrev pub node_at_level : {T : Type 0} → ℕ → NodeValue T → NodeValue T
-node_at_level level n = record n { level = level }
-
--- the same, where each text is named in another way
-abbrev pub kind_by : {T U : Type 0} → (T → U) → NodeKindValue T → NodeKindValue U
-kind_by f (file text is_executable) = file (f text) is_executable
-kind_by f (symlink target) = symlink target
-kind_by f (directory text) = directory (f text)
-
-abbrev pub node_by : {T U : Type 0} → (T → U) → NodeValue T → NodeValue U
-node_by f n = record { name = n.name; level = n.level; kind = kind_by f n.kind }

@@ -1,7 +1,7 @@
 //! Nodes of a tree, which share their names and the targets of their links.
 
 ghost use Rattle.std.specs.Prelude.{◌≡◌, IfOk};
-ghost use Rattle.run_calls.specs.Nodes.{kind_shown, node_at_level, node_shown};
+ghost use Rattle.run_calls.specs.Nodes.{kind_shown};
 
 use std::alloc::AllocError;
 use std::rc::RcStr;
@@ -49,20 +49,5 @@ impl<T: Copy> NodeKind<T> {
             }
             NodeKind::Directory { text } => Ok(NodeKind::Directory { text: *text }),
         }
-    }
-}
-
-impl<T: Copy> Node<T> {
-    /// The same node in a directory of a level. It shares the name, and the target of a link, and
-    /// takes no memory.
-    ///
-    /// Err: one of these is shared too often to be counted.
-    pub fn at_level(&self, level: usize) -> Result<Node<T>, AllocError>
-        ensures { IfOk result (λ node.
-            node_shown node ≡ node_at_level level (node_shown self.now)) }
-    {
-        let name = self.name.clone()?;
-        let kind = self.kind.shared()?;
-        Ok(Node { name, level, kind })
     }
 }

@@ -156,13 +156,6 @@ impl<D: Directory, S: Shells<File = D::File>> StartFolder<D, S> {
         answer
     }
 
-    /// Closes the file that was made last.
-    pub(crate) fn close_made(&mut self)
-        ensures same { self.new ≡ self.old }
-    {
-        self.made = None;
-    }
-
     /// Makes a node of a run. A file is open then, to be written.
     pub(crate) fn make_node(
         &mut self,

@@ -183,7 +183,7 @@ def leftovers_of_programs(c):
         passed = time.monotonic() - begun
         expect(passed < 10 * c.slow, True, f"three runs took {passed:.1f} s")
         expect(programs.settled(lambda: marked(c), 5 * c.slow), {}, "processes that are left")
-        writers = "(while :; do echo more >> o; done) & mkdir t; (while :; do echo x > t/$((n=n+1)); done) & sleep 0.3"
+        writers = "(while :; do echo more >> o; done) & mkdir t; (while :; do echo x > t/$((n=(n+1)%1000)); done) & sleep 0.3"
         result = c.ran(peer, shell(writers, paths=["o", "t"])).result
         text = peer.text(result.files["o"][0])
         expect(m.digest(text), result.files["o"][0], "an output that a child still writes")

@@ -26,7 +26,7 @@ pub struct Question {
 }
 
 /// How far a session is ended.
-#[derive(Clone, Copy)]
+#[derive(Clone, Copy, Debug)]
 pub enum Progress {
     Alive,
     /// It was told then to end by itself.

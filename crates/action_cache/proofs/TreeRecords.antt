@@ -154,16 +154,16 @@ module _ (look : Lookup) where
         node_same child_after no_child directory_node_of child_text_is 2 r,
         node_same symlink_after no_symlink symlink_node_of symlink_text_is 3 r,
       ) (go (node_in file_node_of 1 r) (node_in directory_node_of 2 r) (node_in symlink_node_of 3 r)) where
-    go : (x : Option (Option FileNodeValue)) (y : Option (Option DirectoryNodeValue)) (z : Option (Option SymlinkNodeValue)) →
-        and_then x (λ file. and_then (option_map (λ _. tt {0}) y) (λ _. and_then (option_map (λ _. tt {0}) z)
-        (λ _. with_file_read look ds file)))
-        ≡ gate (is_some y && is_some z) (and_then x (λ file. with_file_read look ds file))
-    go None None z = refl
-    go None (Some y) None = refl
-    go None (Some y) (Some z) = refl
-    go (Some x) None z = refl
-    go (Some x) (Some y) None = refl
-    go (Some x) (Some y) (Some z) = refl
+        go : (x : Option (Option FileNodeValue)) (y : Option (Option DirectoryNodeValue)) (z : Option (Option SymlinkNodeValue)) →
+            and_then x (λ file. and_then (option_map (λ _. tt {0}) y) (λ _. and_then (option_map (λ _. tt {0}) z)
+            (λ _. with_file_read look ds file)))
+            ≡ gate (is_some y && is_some z) (and_then x (λ file. with_file_read look ds file))
+        go None None z = refl
+        go None (Some y) None = refl
+        go None (Some y) (Some z) = refl
+        go (Some x) None z = refl
+        go (Some x) (Some y) None = refl
+        go (Some x) (Some y) (Some z) = refl
 
   nodes_are : (ds : List Digest) (rs : List Record) → with_each (with_node look) ds rs ≡ gate (all_read rs) (with_each with_file_in ds rs)
   nodes_are ds [] = refl

@@ -83,11 +83,7 @@ fn name_last_trees(
 
 /// The digests of the blobs that a result names by its parts: its files, its trees, each followed by
 /// its files where it is named last, what it printed.
-fn name_parts(
-    blobs: &Blobs<'_>,
-    work: &mut Work,
-    parts: Parts<'_>,
-) -> Result<Vec<Digest>, Unnamed>
+fn name_parts(blobs: &Blobs<'_>, work: &mut Work, parts: Parts<'_>) -> Result<Vec<Digest>, Unnamed>
     ensures named { Names (λ named. named.items) result
         (named_by (look_of blobs.now.texts) (parts_shown parts.entry)) }
     ensures looks { work.new.looks ≤ work.old.looks + (sum_of (text_looks (look_of blobs.now.texts))

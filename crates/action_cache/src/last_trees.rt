@@ -27,11 +27,7 @@ fn add_new(
 
 /// The last of each digest, the last of them first.
 #[tactic(auto, using(crate::proofs::Trees::all_kept))]
-pub fn last_trees(
-    alloc: Global,
-    key: MapKey,
-    trees: Vec<Digest>,
-) -> Result<Vec<Digest>, AllocError>
+pub fn last_trees(alloc: Global, key: MapKey, trees: Vec<Digest>) -> Result<Vec<Digest>, AllocError>
     ensures { IfOk result (λ kept. reverse kept.items ≡ last_of same_digest trees.items) }
 {
     let mut seen = KeyedSet::with_hasher(alloc, key);

@@ -185,9 +185,7 @@ fn command_among<F: Finds>(
 }
 
 /// The nodes that a walk met, where it has no fault.
-fn met_or_none(
-    met: Result<Vec<PlanNode>, TreeFault>,
-) -> Result<Option<Vec<PlanNode>>, AllocError>
+fn met_or_none(met: Result<Vec<PlanNode>, TreeFault>) -> Result<Option<Vec<PlanNode>>, AllocError>
     ensures { (meaning : Nodes) → Answers (λ nodes. nodes_shown nodes.items) met meaning →
         IfOk result (λ found. option_map (λ nodes. nodes_shown nodes.items) found
         ≡ nodes_or_none meaning) }

@@ -84,13 +84,7 @@ impl TreeReading {
     {
         match self {
             TreeReading::Going(_listing, _work) => None,
-            TreeReading::Over(known, listed) => {
-                if known == *root {
-                    Some(listed)
-                } else {
-                    None
-                }
-            }
+            TreeReading::Over(known, listed) => { if known == *root { Some(listed) } else { None } }
         }
     }
 }

@@ -324,6 +324,10 @@ marked_behind : (look : Lookup) (p : Digest → Bool) (n : PlanNodeValue) (ns : 
     IsMarked look p (n ∷ ns) (suc at)
 marked_behind look p n ns at m = record { node = m.node; behind = m.behind; here = m.here; is_passed = m.is_passed; many = m.many }
 
+-- each of these nodes that is whole has many files
+abbrev HaveMany : Lookup → (Digest → Option ℕ) → List PlanNodeValue → Type 0
+HaveMany look whole ns = HaveManyFiles look (sizes_of whole ns) ns
+
 what_is_marked : (look : Lookup) (whole : Digest → Option ℕ) (s : Option ℕ) (ns : List PlanNodeValue) (at : ℕ) →
     HaveManyFiles look (sizes_of whole (around_behind (λ d. is_some (whole d)) s ns)) (around_behind (λ d. is_some (whole d)) s ns) →
     get_or (spread (λ d. is_some (whole d)) s ns) at false ≡ true → IsMarked look (λ d. is_some (whole d)) ns at
@@ -333,9 +337,6 @@ what_is_marked look whole s (n ∷ ns) at many is =
       p : Digest → Bool
       p = λ d. is_some (whole d)
 
-      abbrev HaveMany : List PlanNodeValue → Type 0
-      HaveMany xs = HaveManyFiles look (sizes_of whole xs) xs
-
       by : (b : Bool) (rest : List Bool) (at : ℕ) → get_or (b ∷ rest) at false ≡ true →
           (b ≡ true → (passes p n.kind ≡ true) × HasManyFiles look n.kind) →
           ((k : ℕ) → get_or rest k false ≡ true → IsMarked look p ns k) → IsMarked look p (n ∷ ns) at
@@ -343,20 +344,20 @@ what_is_marked look whole s (n ∷ ns) at many is =
           record { node = n; behind = ns; here = refl; is_passed = (first is).0; many = (first is).1 }
       by b rest (suc k) is first later = marked_behind look p n ns k (later k is)
 
-      go : (b : Bool) → stands_in s n ≡ b → HaveMany (around_behind p s (n ∷ ns)) → get_or (spread p s (n ∷ ns)) at false ≡ true →
-          ((k : ℕ) → HaveMany (around_behind p s ns) → get_or (spread p s ns) k false ≡ true → IsMarked look p ns k) →
-          ((k : ℕ) → HaveMany (around_behind p (passed_level p n) ns) → get_or (spread p (passed_level p n) ns) k false ≡ true →
+      go : (b : Bool) → stands_in s n ≡ b → HaveMany look whole (around_behind p s (n ∷ ns)) → get_or (spread p s (n ∷ ns)) at false ≡ true →
+          ((k : ℕ) → HaveMany look whole (around_behind p s ns) → get_or (spread p s ns) k false ≡ true → IsMarked look p ns k) →
+          ((k : ℕ) → HaveMany look whole (around_behind p (passed_level p n) ns) → get_or (spread p (passed_level p n) ns) k false ≡ true →
           IsMarked look p ns k) → IsMarked look p (n ∷ ns) at
       go true stands many is passed met =
           let here : around_behind p s (n ∷ ns) ≡ around_behind p s ns = rw stands refl in
           let marks_are : spread p s (n ∷ ns) ≡ false ∷ spread p s ns = rw stands refl in
           by false (spread p s ns) at (ap (λ (m : List Bool). get_or m at false) (sym marks_are) ∙ is) (λ no. absurd (cc))
-          (λ k. passed k (subst HaveMany here many))
+          (λ k. passed k (subst (HaveMany look whole) here many))
       go false stands many is passed met =
           let rest : List PlanNodeValue = around_behind p (passed_level p n) ns in
           let here : around_behind p s (n ∷ ns) ≡ n ∷ rest = rw stands refl in
           let marks_are : spread p s (n ∷ ns) ≡ passes p n.kind ∷ spread p (passed_level p n) ns = rw stands refl in
-          let many_so : HaveMany (n ∷ rest) = subst HaveMany here many in
+          let many_so : HaveMany look whole (n ∷ rest) = subst (HaveMany look whole) here many in
           by (passes p n.kind) (spread p (passed_level p n) ns) at (ap (λ (m : List Bool). get_or m at false) (sym marks_are) ∙ is)
           (λ yes. (yes, many_so.0 (is_whole whole n.kind ∙ yes))) (λ k. met k many_so.1)
 

@@ -14,8 +14,8 @@ ghost use Rattle.job_runs.specs.Tasks.{IsTaskOf};
 ghost use Rattle.job_runs.specs.Runs.{IsBegun};
 
 use crate::commands::command_for;
-use crate::tasks::task_with;
 use crate::sizes::are_those;
+use crate::tasks::task_with;
 use crate::trees::find_trees;
 use crate::whole::{ReadAround, read_around};
 use actions::{Plan, PlanNode};
@@ -109,7 +109,14 @@ fn copied_task(alloc: Global, task: LentTask<'_>) -> Result<Task, AllocError>
     let read = read_task(alloc, task.pool, task.task)?;
     let command = command_for(alloc, &read.command)?;
     let nodes = nodes_of(alloc, read.plan);
-    task_with(alloc, &task.task.texts, &read.numbers, &nodes, &command, &[])
+    task_with(
+        alloc,
+        &task.task.texts,
+        &read.numbers,
+        &nodes,
+        &command,
+        &[],
+    )
 }
 
 /// What is run for a task, of which directories are claimed.
@@ -129,7 +136,14 @@ fn claimed_task<F: Folder + Drop, P: Programs + Drop>(
     let command = command_for(alloc, &read.command)?;
     let nodes = nodes_of(alloc, read.plan);
     let made = claimed(alloc, runner, run, &nodes, &[], &command)?;
-    task_with(alloc, &task.task.texts, &read.numbers, &nodes, &command, &made)
+    task_with(
+        alloc,
+        &task.task.texts,
+        &read.numbers,
+        &nodes,
+        &command,
+        &made,
+    )
 }
 
 /// The same, where what stands in directories that were made before was not read. Each of these has
@@ -158,7 +172,14 @@ fn task_around<F: Folder + Drop, P: Programs + Drop>(
     if !are_those(&made, &around.sizes) {
         return copied_task(alloc, task);
     }
-    task_with(alloc, &task.task.texts, &read.numbers, &read.nodes, &command, &made)
+    task_with(
+        alloc,
+        &task.task.texts,
+        &read.numbers,
+        &read.nodes,
+        &command,
+        &made,
+    )
 }
 
 /// What is run for a task.

@@ -213,11 +213,7 @@ fn has_many_files(level: usize, behind: &[PlanNode], sizes: &[Option<u64>]) -> b
 
 /// The digest of a node that is a directory with so many files, where these come behind it. The
 /// first of the sizes is its own.
-fn large_directory(
-    node: &PlanNode,
-    behind: &[PlanNode],
-    sizes: &[Option<u64>],
-) -> Option<Digest>
+fn large_directory(node: &PlanNode, behind: &[PlanNode], sizes: &[Option<u64>]) -> Option<Digest>
     ensures is_large { sizes.now ≡ [] → IfSome result (λ d. is_large (node_shown node.now).kind
         (within node.now.level (nodes_shown behind.now)) ≡ true) }
     ensures digest { IfSome result (λ d. (node_shown node.now).kind ≡ directory d) }

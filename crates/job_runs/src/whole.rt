@@ -92,7 +92,14 @@ fn has_many_files(
     let NodeKind::Directory { text } = &node.kind else {
         return Ok(true);
     };
-    has_files(alloc, task.pool, &task.task.texts, &read.numbers, text, FEWEST_FILES)
+    has_files(
+        alloc,
+        task.pool,
+        &task.task.texts,
+        &read.numbers,
+        text,
+        FEWEST_FILES,
+    )
 }
 
 /// The same of each directory that was made before.

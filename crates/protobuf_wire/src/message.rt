@@ -12,9 +12,7 @@ ghost use Rattle.protobuf_wire.specs.Joining.{embedded_value_by_records, value_o
 
 use crate::error::MessageError;
 use crate::field::Field;
-use crate::fields::{
-    BLANK, FEW, fields_of, joined, octets, payload_count, read_few,
-};
+use crate::fields::{BLANK, FEW, fields_of, joined, octets, payload_count, read_few};
 use crate::writer::Writer;
 use std::alloc::{AllocError, Global};
 

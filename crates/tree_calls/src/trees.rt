@@ -53,12 +53,7 @@ pub fn begin_tree(
         IfOk result (λ begun. IfSome begun (Reads (texts_seen visible))) }
 {
     match tree_asked(alloc, own, message) {
-        Ok(asked) => Ok(Some(TreeReading::begin(
-            alloc,
-            pool.key(),
-            &asked.root,
-            Work::new(),
-        ))),
+        Ok(asked) => Ok(Some(TreeReading::begin(alloc, pool.key(), &asked.root, Work::new()))),
         Err(CallError::Refused(_)) => Ok(None),
         Err(CallError::NoMemory) => Err(AllocError),
     }

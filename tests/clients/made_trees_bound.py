@@ -145,6 +145,23 @@ def inner_one_repeats(stage):
     return "the one in it is bound"
 
 
+def above_a_whole_one(stage):
+    """A tree is there when one is made of a directory above it; then actions run in it, or have outputs in either."""
+    tree, beside = flat(stage.folder, 100), flat(f"{stage.folder} beside", 70)
+    of = lambda count: {"n": b"%d" % count, "a": {"tc": tree, **beside}}
+    with stage.serve() as (server, red):
+        stage.made(red, {"tc": tree})
+        for count, place in enumerate(["a/tc", "a", "a"]):
+            expect(stage.looked(red, of(count)), stage.bound(place), f"what is bound for action {count + 1}")
+        stage.settles(server, 2)
+        expect(stage.looked(red, of(3), folder="a/tc"), [], "what is bound for one that runs in the tree")
+        expect(stage.looked(red, of(4), files=["a/tc/out"]), [], "what is bound with an output in the tree")
+        expect(stage.looked(red, of(5), files=["a/out"]), stage.bound("a/tc"), "what is bound with an output above it")
+        expect(stage.looked(red, of(6)), stage.bound("a"), "what is bound for the last one")
+        stage.settles(server, 2)
+    return "the one above is made in the second action that has it, and all inputs are there in each"
+
+
 def once_by_one_action(stage):
     """One action has the same directory at two places, and nobody had it before."""
     tree = flat(stage.folder, 80)
@@ -249,6 +266,7 @@ CASES = [
     deep_place,
     many_candidates,
     inner_one_repeats,
+    above_a_whole_one,
     once_by_one_action,
     other_instance,
     off,

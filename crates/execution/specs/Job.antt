@@ -7,9 +7,9 @@ use Rattle.input_tree.specs.Listing.{Lookup}
 use Rattle.actions.specs.Nodes.{PlanNodeValue}
 use Rattle.execution_messages.specs.Statuses.{distinct}
 
--- what is handed to whoever runs a job: the text of its command, what stands in its input root, if its
--- texts say that, and each distinct text that the job met and that is not empty, in the order met,
--- once
+-- what is handed to whoever runs a job: the text of its command, what stands in its input root, if
+-- its texts say that, and each distinct text that the job met and that is not empty, in the order
+-- met, once
 pub record TaskValue : Type 0 where
   pub command : List ℕ
   pub nodes : Option (List PlanNodeValue)

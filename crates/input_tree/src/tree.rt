@@ -59,10 +59,10 @@ fn responses(
 /// its own text, or else its parent's. Each directory of the list is then used, in order, where it
 /// is the instance's own. An error changes nothing.
 ///
-/// The list is that of `list_tree`, or what was read of it before. The page's size is the most directories of a page: 0, and more
-/// than 1,000, are 1,000. A page takes directories until it is full or the next would bring their
-/// records over 4,000,000 bytes, and one at least. Each page but the last says the place in the
-/// list at which the next begins, in decimal digits.
+/// The list is that of `list_tree`, or what was read of it before. The page's size is the most
+/// directories of a page: 0, and more than 1,000, are 1,000. A page takes directories until it is
+/// full or the next would bring their records over 4,000,000 bytes, and one at least. Each page but
+/// the last says the place in the list at which the next begins, in decimal digits.
 pub fn get_tree(
     alloc: Global,
     view: &mut View,

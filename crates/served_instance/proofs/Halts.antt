@@ -103,13 +103,13 @@ popped_comes texts c s os ns event d there = λ l st. elim (kept_or_not (present
       (k, now, rest)
 ]
   where
-  first_cut : (c : ℕ) (what : CallEventValue) (k : LoneInstance) (u : InstanceState) (P : Type 0) → (IsMadeInPart what k.state u → P) →
-      (IsCutShort (due_events c (after_call_event what k)) (after_call_event what k).state u → P) →
-      IsCutShort ((first_left what (due_left c)).brings k) k.state u → P
-  first_cut c what k u P refused answered (inl made) = refused made
-  first_cut c what k u P refused answered (inr cut) =
-      let m = after_call_event what k in
-      answered (cut_at (due_events c m) m.state (state_after k.state what) u (happened_state what k) cut)
+    first_cut : (c : ℕ) (what : CallEventValue) (k : LoneInstance) (u : InstanceState) (P : Type 0) → (IsMadeInPart what k.state u → P) →
+        (IsCutShort (due_events c (after_call_event what k)) (after_call_event what k).state u → P) →
+        IsCutShort ((first_left what (due_left c)).brings k) k.state u → P
+    first_cut c what k u P refused answered (inl made) = refused made
+    first_cut c what k u P refused answered (inr cut) =
+        let m = after_call_event what k in
+        answered (cut_at (due_events c m) m.state (state_after k.state what) u (happened_state what k) cut)
 
 -- .. in other words
 pub next_comes : (texts others : SourceTexts) (c : ℕ) (s0 s : InstanceState) (os0 os ns : List OpenConnection) (event : CallEvent)

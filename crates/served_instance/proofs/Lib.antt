@@ -31,8 +31,6 @@ mod Cut
 mod Answered
 mod CutEvents
 mod BrokenOff
-mod Halts
-mod InCourse
 pub mod Losses
 mod RoomLeft
 pub mod JobChanges

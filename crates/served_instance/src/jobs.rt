@@ -32,7 +32,7 @@ use std::alloc::AllocError;
 impl<'a> Lent<'a> {
     /// Carries out what was made ready: the replies are owed, and then all steps are taken, which
     /// takes no memory. For want of memory no step is taken.
-    pub(crate) fn settle(&mut self, turn: Turn) -> Result<Vec<Order>, AllocError>
+    fn settle(&mut self, turn: Turn) -> Result<Vec<Order>, AllocError>
         requires short { (p : Slots)
             → AllByRecursion IsShortReply (map (reply_shown p) turn.replies.items) }
         requires given { (k : ℕ) → replies_holders turn.replies.items k ≡ 0 }

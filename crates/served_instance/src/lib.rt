@@ -4,7 +4,6 @@
 
 mod broken;
 mod calls;
-mod courses;
 mod held;
 mod instance;
 mod jobs;

@@ -10,6 +10,7 @@ use crate::block::read_block;
 use crate::dynamic_table::DynamicTable;
 use crate::error::HpackError;
 use crate::headers::Headers;
+use crate::integer::read_integer;
 use std::alloc::Global;
 use std::marker::Model;
 
@@ -75,5 +76,31 @@ impl Decoder {
             Some(table) => table.size(),
             None => 0,
         }
+    }
+    /// The value of the first field of this name in a block that is still to be read, where that field
+    /// and all before it stand in the tables. It is a hint: nothing is read by it, and no promise is
+    /// made of it.
+    pub fn indexed_value(&self, block: &[u8], name: &[u8]) -> Option<&[u8]> {
+        let Some(table) = &self.table else {
+            return None;
+        };
+        let mut left = block;
+        for _ in 0..block.len() {
+            let [first, behind @ ..] = left else {
+                return None;
+            };
+            if *first < 128 {
+                return None;
+            }
+            let Ok((index, rest)) = read_integer(127, *first - 128, behind) else {
+                return None;
+            };
+            let (found, value) = table.get(index)?;
+            if found == name {
+                return Some(value);
+            }
+            left = rest;
+        }
+        None
     }
 }

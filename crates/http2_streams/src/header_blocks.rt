@@ -93,6 +93,15 @@ impl HeaderBlocks {
         }
     }
 
+    /// The path of the request whose header block is this, where the tables alone say it. It is a
+    /// hint: nothing is decoded by it, and no promise is made of it.
+    pub fn path_ahead(&self, block: &[u8]) -> Option<&[u8]> {
+        match &self.decoder {
+            Some(decoder) => decoder.indexed_value(block, b":path"),
+            None => None,
+        }
+    }
+
     /// Takes a HEADERS frame, with which a block begins. Its fields are there where it has
     /// END_HEADERS.
     pub fn begin(

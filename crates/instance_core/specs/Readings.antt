@@ -6,6 +6,7 @@ use Rattle.tree_calls.specs.GetTree.{texts_seen}
 use Rattle.tree_calls.specs.TreeReadings.{Reads}
 use Rattle.instance_core.specs.declared.call_reading.CallReading.{CallReading}
 use Rattle.instance_core.specs.declared.call_reading.CallReading.TheVariants.{Tree}
+use Rattle.instance_core.specs.declared.call_reading.ReadAhead.{ReadAhead}
 use Rattle.instance_core.specs.declared.event.CallEvent.{CallEvent}
 use Rattle.instance_core.specs.declared.event.CallEvent.TheVariants as Code
 
@@ -20,3 +21,7 @@ BringsRead visible (Code.Fault id refusal) = Unit {0}
 BringsRead visible (Code.End id read) = IfSome read (IsRead visible)
 BringsRead visible (Code.Cancel id) = Unit {0}
 BringsRead visible Code.Tick = Unit {0}
+
+-- what was read before a call's request is at its end is true of these texts
+abbrev pub IsReadAhead : List Blob → ReadAhead → Type 0
+IsReadAhead visible ahead = IsRead visible ahead.reading

@@ -9,6 +9,7 @@ ghost use Rattle.instance_core.specs.Readings.{IsRead};
 
 use crate::calls::{Call, Progress};
 use crate::contents::Settings;
+use crate::event::CallId;
 use blob_pool::Pool;
 use instance_view::{Sight, Texts, View};
 use rpc::Method;
@@ -52,18 +53,36 @@ impl CallReading {
     }
 }
 
-/// Begins to read what a call needs whose request is at its end, where its method may read much.
+/// What was read for a call before its request is at its end.
+#[derive(Drop)]
+pub struct ReadAhead {
+    pub call: CallId,
+    /// How many bytes that wait on the call's connection end its request.
+    pub rest: usize,
+    pub reading: CallReading,
+}
+
+/// Whether a call of this method may read much.
+pub fn reads_much(method: Method) -> bool {
+    method == Method::GetTree
+}
+
+/// Begins to read what a call needs, before its request is at its end: that brings this message, or
+/// none besides the one that came. Where its method does not read much there is nothing to read.
 /// This reads no text.
 pub fn begin_reading(
     alloc: Global,
     settings: &Settings,
     pool: &Pool,
     call: &Call,
+    last: Option<&[u8]>,
 ) -> Result<Option<CallReading>, AllocError>
     ensures { (visible : List Blob) → IfOk result (λ begun. IfSome begun (IsRead visible)) }
 {
-    let Progress::Has(message) = call.progress() else {
-        return Ok(None);
+    let message = match (call.progress(), last) {
+        (Progress::Waits, Some(message)) => message,
+        (Progress::Has(message), None) => message.as_slice(),
+        _ => return Ok(None),
     };
     match call.method() {
         Method::GetTree => {

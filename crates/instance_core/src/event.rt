@@ -14,7 +14,7 @@ pub struct CallId {
 }
 
 /// What happens to a call, or to all of them.
-#[derive(Drop, Debug)]
+#[derive(Drop)]
 pub enum CallEvent {
     /// The call begins.
     Head(CallId, Method),

@@ -170,7 +170,8 @@ fn ask_ended<S: Sockets, R: Runs, E: Write>(
             continue;
         };
         pace.leave_out(sockets.passed());
-        let is_asked = pace.takes(run.instance, Doing::Goes);
+        let waits = counting.server.waits(run.instance);
+        let is_asked = !waits && pace.takes(run.instance, Doing::Goes);
         let is_told = ask_if(counting, configs, runs, errors, moment, run, is_asked);
         pace.note_told(is_told);
         if is_asked && pace.note_asked(sockets, sockets.passed(), run.instance) {
@@ -215,7 +216,8 @@ pub(crate) fn ask_all<S: Sockets, R: Runs, E: Write>(
         let Some(run) = runs.next() else {
             break;
         };
-        let is_asked = pace.takes(run.instance, doing);
+        let waits = counting.server.waits(run.instance);
+        let is_asked = !waits && pace.takes(run.instance, doing);
         let is_told = ask_if(counting, configs, runs, errors, moment, run, is_asked);
         pace.note_told(is_told);
         if is_asked && pace.note_asked(sockets, sockets.passed(), run.instance) {

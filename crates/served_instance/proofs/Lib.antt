@@ -31,6 +31,7 @@ mod Cut
 mod Answered
 mod CutEvents
 mod BrokenOff
+mod Texts
 pub mod Losses
 mod RoomLeft
 pub mod JobChanges

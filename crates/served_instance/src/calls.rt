@@ -99,9 +99,10 @@ impl<'a> Lent<'a> {
         ensures went { GoesApart number (lent_value self.old) (lent_value self.new) }
         ensures same { IsSameLoan self.old self.new }
     {
-        let mut read = read;
+        let mut left = read;
         'events: while let Some(event) = pop_event(self.connections, place) {
-            let event = self.with_read(call_event_on(number, event), &mut read);
+            let event = call_event_on(number, event);
+            let event = self.with_read(event, &mut left);
             self.happen(event)?;
         }
         Ok(())
@@ -160,8 +161,8 @@ impl<'a> Lent<'a> {
         ensures same { IsSameLoan self.old self.new }
     {
         feed(self.connections, place, bytes)?;
-        let mut read = read;
-        'frames: while self.read_next(place, number, read.take())? {}
+        let mut left = read;
+        'frames: while self.read_next(place, number, left.take())? {}
         Ok(())
     }
 

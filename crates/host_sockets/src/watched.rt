@@ -81,10 +81,11 @@ impl<W: Wire> Watched<W> {
         requires room { 0 < length room.old }
         ensures bound { ReadsAtMost result room.new }
     {
-        if !self.may_read {
-            return Err(io::Error::from(ErrorKind::WouldBlock));
+        if self.may_read {
+            self.wire.peek(room)
+        } else {
+            Err(io::Error::from(ErrorKind::WouldBlock))
         }
-        self.wire.peek(room)
     }
 
     pub(crate) fn write(&mut self, bytes: &[u8]) -> io::Result<usize>

@@ -1,6 +1,6 @@
 -- Which messages leave all texts as they are.
-use Rattle.std.proofs.Common.{◌≡◌, ℕ, List, refl, absurd}
-use Rattle.std.specs.Prelude.{◌≢◌, Some, ⊥}
+use Rattle.std.proofs.Common.{◌≡◌, ℕ, List, refl}
+use Rattle.std.specs.Prelude.{◌≢◌, Some}
 use Rattle.rpc.specs.declared.method.Method.{Method}
 use Rattle.rpc.specs.declared.method.Method.TheVariants.{Write}
 use Rattle.instance_core.specs.declared.event.CallId.{CallId}

@@ -1,5 +1,5 @@
 -- What is read for calls before their requests are at an end.
-use Rattle.std.specs.Prelude.{◌≤◌, ℕ, List, ⊥}
+use Rattle.std.specs.Prelude.{◌≤◌, ℕ, List}
 use Rattle.instance_core.specs.Readings.{IsReadAhead}
 use Rattle.instance_core.specs.Visible.{Blob}
 use Rattle.server_events.specs.Events.{WhatValue, opened, received, took, closed, tick, ended}

@@ -17,4 +17,4 @@ mod Families
 mod Runs
 mod Marks
 mod SameTasks
-mod Readings
+mod StillRead

@@ -11,6 +11,7 @@ use served_instance::ReadAhead;
 use server_events::{Event, What};
 use std::alloc::{AllocError, Global};
 use std::marker::Model;
+use std::mem::replace;
 
 /// What is read for a call of each instance, if anything.
 #[derive(Drop)]
@@ -21,7 +22,7 @@ pub(crate) struct Readings {
 }
 
 impl Model for Readings {
-    ghost use Rattle.std.specs.Prelude.{◌≡◌, ℕ, List, Option, false, ⊥};
+    ghost use Rattle.std.specs.Prelude.{◌≡◌, ℕ, List, Option, false};
     ghost use Rattle.instance_core.specs.declared.call_reading.ReadAhead.{ReadAhead};
     ghost use Rattle.server_core.specs.Readings.{IsThere};
 
@@ -75,10 +76,16 @@ impl Readings {
     pub(crate) fn take(&mut self, number: usize) -> Option<ReadAhead>
         ensures holds { (s : ServerState) → AreRead s self.old
             → IfSome result (IsReadAhead (seen_at number s)) }
-        ensures left { (s : ServerState) → AreRead s self.old → AreRead s self.new }
+        ensures left { (i : ℕ) (ahead : ReadAhead) → IsThere i ahead self.new
+            → IsThere i ahead self.old }
+        ensures there { IfSome result (λ ahead. number < length self.old) }
         ensures count { length self.new ≡ length self.old }
     {
-        self.all.get_mut(number)?.take()
+        if number < self.all.len() {
+            replace(&mut self.all[number], None)
+        } else {
+            None
+        }
     }
 
     /// This is read for a call of an instance.
@@ -125,9 +132,11 @@ impl Readings {
             → IsThere i ahead self.old }
         ensures count { length self.new ≡ length self.old }
     {
-        match self.all.get_mut(number)?.take() {
-            Some(ahead) if ahead.call.connection == connection => Some(ahead),
-            _ => None,
+        let ahead = self.take(number)?;
+        if ahead.call.connection == connection {
+            Some(ahead)
+        } else {
+            None
         }
     }
 
@@ -153,7 +162,13 @@ impl Readings {
 fn is_near(parents: &[Option<usize>], i: usize, number: usize) -> bool
     ensures { IsTrue result ⊎ IsApart i number parents.now }
 {
-    i == number || parents.get(i) == Some(&Some(number))
+    if i == number {
+        return true;
+    }
+    match parents.get(i) {
+        Some(Some(parent)) => *parent == number,
+        _ => false,
+    }
 }
 
 /// Whether an event leaves the texts of its instance as they are.

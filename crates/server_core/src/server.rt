@@ -15,6 +15,7 @@ ghost use Rattle.execution.specs.Orders.{task_of};
 ghost use Rattle.served_instance.specs.StandsFor.{ServedState};
 ghost use Rattle.served_instance.specs.Refusals.{NeedsNoMemory, refusal_of, lone_step, lone_orders, IsRefusalOutcome};
 ghost use Rattle.served_instance.specs.StandsFor.{IsServedWithin, AreSettled};
+ghost use Rattle.instance_core.specs.InstanceViewShown.{visible_in};
 ghost use Rattle.instance_core.specs.Readings.{IsReadAhead};
 ghost use Rattle.served_instance.specs.Ahead.{KeepsTexts};
 ghost use Rattle.served_instance.specs.Slots.{served_state_in};
@@ -33,6 +34,7 @@ ghost use Rattle.served_instance.specs.Ranges.{RangesEndWithin};
 
 use crate::readings::Readings;
 use blob_pool::Pool;
+use instance_view::View;
 use keyed_maps::MapKey;
 use served_instance::{Ahead, EventRefusal, Order, ReadAhead, ServedInstance, Task};
 use server_events::{Configs, Event, InstanceConfig, Limits};
@@ -276,7 +278,9 @@ impl Server {
             self.readings.put(number, ahead);
             return Ok(false);
         }
+        let alloc = *self.instances.allocator();
         let ahead = read_one(
+            alloc,
             &self.pool,
             &self.spare,
             &self.instances,
@@ -418,28 +422,44 @@ fn new_parents(alloc: Global, configs: &Configs) -> Result<Vec<Option<usize>>, A
     Ok(parents)
 }
 
+/// What an instance reads of its parent's; of the spare one where it has no parent.
+fn parent_view<'a>(
+    spare: &'a ServedInstance,
+    instances: &'a [ServedInstance],
+    parents: &[Option<usize>],
+    number: usize,
+) -> &'a View
+    requires parents { AreParentsOf (length instances.now) parents.now }
+    requires there { number < length instances.now }
+    requires spare { spare.now.instance.view.entries ≡ [] }
+    ensures { (p : Slots) → visible_in p result.now
+        ≡ texts_of_one (parent_at number parents.now) (all_in p instances.now) }
+{
+    match parents[number] {
+        Some(place) => instances[place].view(),
+        None => spare.view(),
+    }
+}
+
 /// Goes on with what is read for a call of the instance of a number, by one step.
 fn read_one(
+    alloc: Global,
     pool: &Pool,
     spare: &ServedInstance,
-    instances: &Vec<ServedInstance>,
+    instances: &[ServedInstance],
     parents: &[Option<usize>],
     number: usize,
     ahead: ReadAhead,
 ) -> Result<ReadAhead, AllocError>
-    requires parents { AreParentsOf (length instances.now.items) parents.now }
-    requires there { number < length instances.now.items }
+    requires parents { AreParentsOf (length instances.now) parents.now }
+    requires there { number < length instances.now }
     requires spare { spare.now.instance.view.entries ≡ [] }
     requires read { IsReadAhead (seen_at number (record
-        { instances = all_in pool.now instances.now.items; parents = parents.now })) ahead }
+        { instances = all_in pool.now instances.now; parents = parents.now })) ahead }
     ensures read { IfOk result (IsReadAhead (seen_at number (record
-        { instances = all_in pool.now instances.now.items; parents = parents.now }))) }
+        { instances = all_in pool.now instances.now; parents = parents.now }))) }
 {
-    let alloc = *instances.allocator();
-    let parent = match parents[number] {
-        Some(place) => instances[place].view(),
-        None => spare.view(),
-    };
+    let parent = parent_view(spare, instances, parents, number);
     instances[number].read_on(alloc, parent, pool, ahead)
 }
 

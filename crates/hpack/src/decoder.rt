@@ -77,6 +77,7 @@ impl Decoder {
             None => 0,
         }
     }
+
     /// The value of the first field of this name in a block that is still to be read, where that field
     /// and all before it stand in the tables. It is a hint: nothing is read by it, and no promise is
     /// made of it.

@@ -298,7 +298,10 @@ impl Instance {
         ensures { (visible : List Blob) → IfOk result (λ begun. IfSome begun (IsRead visible)) }
     {
         match self.calls.find(id) {
-            Some(call) => begin_reading(alloc, &self.settings, pool, call, last),
+            Some(call) => {
+                let results = &self.contents.results;
+                begin_reading(alloc, &self.settings, results, pool, call, last)
+            }
             None => Ok(None),
         }
     }

@@ -1,5 +1,5 @@
-//! Which requests end in bytes that are still to be received. What is found here is a hint: nothing is
-//! read by it, and no promise is made of it.
+//! Which requests end in bytes that are still to be received. What is found here is a hint: nothing
+//! is read by it, and no promise is made of it.
 
 use crate::connection::Connection;
 use grpc_calls::Method;

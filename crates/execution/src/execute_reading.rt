@@ -65,8 +65,8 @@ impl ExecuteReading {
     }
 }
 
-/// The walk through the tree of an action's inputs, of which nothing is done, where the action can be
-/// read.
+/// The walk through the tree of an action's inputs, of which nothing is done, where the action can
+/// be read.
 fn begin_walk(
     alloc: Global,
     view: &Sight<'_>,

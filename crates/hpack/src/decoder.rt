@@ -78,9 +78,9 @@ impl Decoder {
         }
     }
 
-    /// The value of the first field of this name in a block that is still to be read, where that field
-    /// and all before it stand in the tables. It is a hint: nothing is read by it, and no promise is
-    /// made of it.
+    /// The value of the first field of this name in a block that is still to be read, where that
+    /// field and all before it stand in the tables. It is a hint: nothing is read by it, and no
+    /// promise is made of it.
     pub fn indexed_value(&self, block: &[u8], name: &[u8]) -> Option<&[u8]> {
         let Some(table) = &self.table else {
             return None;

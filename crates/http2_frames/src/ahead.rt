@@ -1,5 +1,5 @@
-//! Frames of bytes that are still to be fed. What is found here is a hint: nothing is read by it, and
-//! no promise is made of it.
+//! Frames of bytes that are still to be fed. What is found here is a hint: nothing is read by it,
+//! and no promise is made of it.
 
 ghost use Rattle.std.specs.Prelude.{◌≤◌};
 

@@ -160,8 +160,8 @@ impl Streams {
         live::is_live(&self.live, stream)
     }
 
-    /// The path of the request that a HEADERS frame begins which brings all of this header block, where
-    /// the tables of header fields alone say it. It is a hint: no promise is made of it.
+    /// The path of the request that a HEADERS frame begins which brings all of this header block,
+    /// where the tables of header fields alone say it. It is a hint: no promise is made of it.
     pub fn path_ahead(&self, block: &[u8]) -> Option<&[u8]> {
         self.headers.path_ahead(block)
     }

@@ -107,8 +107,8 @@ pub fn begin_reading(
     }
 }
 
-/// Begins to read the inputs of the action that an `Execute` asks for, unless it may be answered by a
-/// result, or is refused.
+/// Begins to read the inputs of the action that an `Execute` asks for, unless it may be answered by
+/// a result, or is refused.
 fn begin_inputs(
     alloc: Global,
     settings: &Settings,

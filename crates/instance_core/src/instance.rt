@@ -280,14 +280,14 @@ impl Instance {
         }
     }
 
-    /// Whether a call in course may read much once its request is at its end; `None` where there is no
-    /// such call. It is a hint.
+    /// Whether a call in course may read much once its request is at its end; `None` where there is
+    /// no such call. It is a hint.
     pub fn reads_much(&self, id: CallId) -> Option<bool> {
         Some(reads_much(self.calls.find(id)?.method()))
     }
 
-    /// Begins to read what a call needs, before its request is at its end: that brings this message, or
-    /// none besides the one that came. This reads no text.
+    /// Begins to read what a call needs, before its request is at its end: that brings this
+    /// message, or none besides the one that came. This reads no text.
     pub fn begin_reading(
         &self,
         alloc: Global,
@@ -306,8 +306,8 @@ impl Instance {
         }
     }
 
-    /// Whether it is known of an event that it leaves all texts as they are: it is a message of a call
-    /// that is no `Write`, or of none in course.
+    /// Whether it is known of an event that it leaves all texts as they are: it is a message of a
+    /// call that is no `Write`, or of none in course.
     pub fn leaves_texts(&self, event: &CallEvent) -> bool
         ensures { result ≡ true → (p : Slots) (parent : List Blob)
             → let s = seeing parent (state_in p self.now) in

@@ -111,9 +111,9 @@ struct Taking {
     is_cut: bool,
 }
 
-/// How much is taken now of what waits on a connection, where there is room for so much. Where a call
-/// of its instance may read much it is looked at before: nothing is taken of a request's end while
-/// that is read which its call needs, which goes on until the clock shows this.
+/// How much is taken now of what waits on a connection, where there is room for so much. Where a
+/// call of its instance may read much it is looked at before: nothing is taken of a request's end
+/// while that is read which its call needs, which goes on until the clock shows this.
 fn taking_of<S: Sockets>(
     server: &mut Server,
     sockets: &S,

@@ -157,8 +157,8 @@ impl ServedInstance {
     /// that can be put on open connections is put. It gives the orders to whoever runs jobs. Where
     /// memory is refused a part of it was done, as `Short` says, and the event's connection is
     /// gone, or all are; the instance goes on from there. The texts of `parent` are read too, and
-    /// stay. What was read before for a call whose request ends with the first frame, if anything, is
-    /// not read again.
+    /// stay. What was read before for a call whose request ends with the first frame, if anything,
+    /// is not read again.
     pub fn step(
         &mut self,
         parent: &View,

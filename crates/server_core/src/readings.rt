@@ -72,6 +72,19 @@ impl Readings {
         false
     }
 
+    /// An instance for a call of which something is read and which builds on another one.
+    pub(crate) fn beside_a_parent(&self, parents: &[Option<usize>]) -> Option<u32> {
+        if !self.has_any {
+            return None;
+        }
+        for i in 0..self.all.len() {
+            if let (Some(_), Some(Some(_))) = (&self.all[i], parents.get(i)) {
+                return u32::try_from(i).ok();
+            }
+        }
+        None
+    }
+
     /// Takes out what is read for a call of an instance.
     pub(crate) fn take(&mut self, number: usize) -> Option<ReadAhead>
         ensures holds { (s : ServerState) → AreRead s self.old

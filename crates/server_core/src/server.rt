@@ -204,8 +204,9 @@ impl Server {
         )
     }
 
-    /// Whether a call of an instance may read much before it is answered, or what is read for another
-    /// call needs the instance's texts as they are: then it is to be asked how much is `ready`.
+    /// Whether a call of an instance may read much before it is answered, or what is read for
+    /// another call needs the instance's texts as they are: then it is to be asked how much is
+    /// `ready`.
     pub fn may_read_much(&self, instance: u32) -> bool {
         let number = instance as usize;
         self.waits(instance) || self.seen_bytes(number) >= MUCH
@@ -231,6 +232,12 @@ impl Server {
     /// happen meanwhile that changes them.
     pub fn waits(&self, instance: u32) -> bool {
         self.readings.need(&self.parents, instance as usize)
+    }
+
+    /// An instance for a call of which something is read and which builds on another one, if any:
+    /// that waits for it.
+    pub fn holds_its_parent(&self) -> Option<u32> {
+        self.readings.beside_a_parent(&self.parents)
     }
 
     /// How many of these bytes may be received now, which wait on a connection: those that stand

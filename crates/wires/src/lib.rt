@@ -35,8 +35,8 @@ pub trait Wire: Drop {
         ensures adds { Adds (happened self.old) (happened self.new)
             (read_events result room.new) };
 
-    /// Shows the first of the bytes that came and were not taken, and says how many. Nothing is taken
-    /// by it, and no promise is made of what it shows.
+    /// Shows the first of the bytes that came and were not taken, and says how many. Nothing is
+    /// taken by it, and no promise is made of what it shows.
     fn peek(&self, room: &mut [u8]) -> io::Result<usize>
         requires room { 0 < length room.old }
         ensures bound { ReadsAtMost result room.new };

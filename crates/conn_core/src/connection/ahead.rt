@@ -4,6 +4,7 @@ use crate::ahead::{EndAhead, EndsAhead};
 use crate::call::message_ahead;
 use crate::connection::Connection;
 use grpc_calls::Method;
+use http2_frames::frame_type;
 use std::alloc::AllocError;
 
 impl Connection {
@@ -25,7 +26,10 @@ impl Connection {
         end: &EndAhead,
     ) -> Result<Option<Vec<u8>>, AllocError> {
         let mut content = Vec::new(*self.calls.allocator());
-        ends.frames.copy_content(&end.frame, &mut content)?;
+        // Trailers bring nothing of it.
+        if end.frame.kind == frame_type::DATA {
+            ends.frames.copy_content(&end.frame, &mut content)?;
+        }
         message_ahead(&self.calls, end.stream, &content)
     }
 }

@@ -1,15 +1,10 @@
 -- What is read for calls before their requests are at an end.
-use Rattle.std.specs.Prelude.{◌≤◌, ℕ, List}
+use Rattle.std.specs.Prelude.{List}
 use Rattle.instance_core.specs.Readings.{IsReadAhead}
 use Rattle.instance_core.specs.Visible.{Blob}
 use Rattle.server_events.specs.Events.{WhatValue, opened, received, took, closed, tick, ended}
 use Rattle.served_instance.specs.declared.instance.ahead.Ahead.{Ahead}
 use Rattle.served_instance.specs.declared.instance.ahead.Ahead.TheVariants.{Nothing, Reads}
-
--- no more than so many bytes are told
-abbrev pub EndsWithin : ℕ → Ahead → Type 0
-EndsWithin most (Nothing count) = count ≤ most
-EndsWithin most (Reads ahead) = Unit {0}
 
 -- what is read, if anything, is true of these texts
 abbrev pub FindsReading : List Blob → Ahead → Type 0

@@ -263,7 +263,7 @@ impl Server {
         }
         let alloc = *self.instances.allocator();
         match self.instances[number].look_ahead(alloc, &self.pool, connection, bytes) {
-            Ok(Ahead::Nothing(count)) => count,
+            Ok(Ahead::Nothing(count)) => count.min(bytes.len()),
             Ok(Ahead::Reads(ahead)) => {
                 self.readings.put(number, ahead);
                 0

@@ -1,11 +1,11 @@
 //! What calls read before their requests are at an end. It is found by looking at bytes that wait on
 //! a connection and were not received yet.
 
-ghost use Rattle.std.specs.Prelude.{◌++◌, List, IfOk, IfSome, length};
+ghost use Rattle.std.specs.Prelude.{◌++◌, List, IfOk, IfSome};
 ghost use Rattle.instance_core.specs.InstanceViewShown.{visible_in};
 ghost use Rattle.instance_core.specs.Readings.{IsReadAhead};
 ghost use Rattle.instance_core.specs.Visible.{Blob};
-ghost use Rattle.served_instance.specs.Ahead.{EndsWithin, FindsReading};
+ghost use Rattle.served_instance.specs.Ahead.{FindsReading};
 
 use super::ServedInstance;
 use crate::open_connection::connection_at;
@@ -33,7 +33,6 @@ impl ServedInstance {
         connection: u32,
         bytes: &[u8],
     ) -> Result<Ahead, AllocError>
-        ensures within { IfOk result (EndsWithin (length bytes.now)) }
         ensures reads { (visible : List Blob) → IfOk result (FindsReading visible) }
     {
         let Some(open) = connection_at(&self.connections, connection) else {
@@ -52,7 +51,7 @@ impl ServedInstance {
                 continue;
             }
             if end.before > 0 {
-                return Ok(Ahead::Nothing(end.before.min(bytes.len())));
+                return Ok(Ahead::Nothing(end.before));
             }
             if let Some(ahead) = self.begin_reading(alloc, pool, call, open, &ends, &end)? {
                 return Ok(Ahead::Reads(ahead));

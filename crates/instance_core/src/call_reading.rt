@@ -24,7 +24,7 @@ use tree_calls::{TreeReading, begin_tree};
 /// other work may come between its steps.
 #[derive(Drop)]
 pub enum CallReading {
-    /// The list of the tree that a `GetTree` asks for.
+    /// The tree that a `GetTree` asks for, and its pages.
     Tree(TreeReading),
     /// The inputs of the action that an `Execute` asks for.
     Inputs(ExecuteReading),

@@ -6,11 +6,11 @@ ghost use Rattle.hpack.specs.Results.{GivesInMemory};
 ghost use Rattle.hpack.specs.Table.{new_table, table_size};
 ghost use Rattle.hpack.specs.Block.{step};
 
+use crate::ahead::value_ahead;
 use crate::block::read_block;
 use crate::dynamic_table::DynamicTable;
 use crate::error::HpackError;
 use crate::headers::Headers;
-use crate::integer::read_integer;
 use std::alloc::Global;
 use std::marker::Model;
 
@@ -78,30 +78,13 @@ impl Decoder {
         }
     }
 
-    /// The value of the first field of this name in a block that is still to be read, where that
-    /// field and all before it stand in the tables. It is a hint: nothing is read by it, and no
+    /// The value of the first field of this name in a block that is still to be read, where the tables
+    /// say each name up to it and the value is not coded. It is a hint: nothing is read by it, and no
     /// promise is made of it.
-    pub fn indexed_value(&self, block: &[u8], name: &[u8]) -> Option<&[u8]> {
-        let Some(table) = &self.table else {
-            return None;
-        };
-        let mut left = block;
-        for _ in 0..block.len() {
-            let [first, behind @ ..] = left else {
-                return None;
-            };
-            if *first < 128 {
-                return None;
-            }
-            let Ok((index, rest)) = read_integer(127, *first - 128, behind) else {
-                return None;
-            };
-            let (found, value) = table.get(index)?;
-            if found == name {
-                return Some(value);
-            }
-            left = rest;
+    pub fn value_ahead<'a>(&'a self, block: &'a [u8], name: &[u8]) -> Option<&'a [u8]> {
+        match &self.table {
+            Some(table) => value_ahead(table, block, name),
+            None => None,
         }
-        None
     }
 }

@@ -93,11 +93,11 @@ impl HeaderBlocks {
         }
     }
 
-    /// The path of the request whose header block is this, where the tables alone say it. It is a
-    /// hint: nothing is decoded by it, and no promise is made of it.
-    pub fn path_ahead(&self, block: &[u8]) -> Option<&[u8]> {
+    /// The path of the request whose header block is this, where the tables say all names and
+    /// it is not coded. It is a hint: nothing is decoded by it, and no promise is made of it.
+    pub fn path_ahead<'a>(&'a self, block: &'a [u8]) -> Option<&'a [u8]> {
         match &self.decoder {
-            Some(decoder) => decoder.indexed_value(block, b":path"),
+            Some(decoder) => decoder.value_ahead(block, b":path"),
             None => None,
         }
     }

@@ -161,8 +161,8 @@ impl Streams {
     }
 
     /// The path of the request that a HEADERS frame begins which brings all of this header block,
-    /// where the tables of header fields alone say it. It is a hint: no promise is made of it.
-    pub fn path_ahead(&self, block: &[u8]) -> Option<&[u8]> {
+    /// where that is seen without decoding it. It is a hint: no promise is made of it.
+    pub fn path_ahead<'a>(&'a self, block: &'a [u8]) -> Option<&'a [u8]> {
         self.headers.path_ahead(block)
     }
 

@@ -13,8 +13,7 @@ impl Connection {
         EndsAhead::new(self, self.reader.ahead(bytes))
     }
 
-    /// The method of the request whose header block this is, where the tables of header fields alone
-    /// say it.
+    /// The method of the request whose header block this is, where that is seen without decoding it.
     pub(crate) fn method_ahead(&self, block: &[u8]) -> Option<Method> {
         Method::from_path(self.streams.path_ahead(block)?)
     }

@@ -1,7 +1,5 @@
-//! What a header block would say that is still to be read. It is a hint: nothing is read by it, and no
-//! promise is made of it.
-
-ghost use Rattle.std.specs.Prelude.{◌≤◌};
+//! What a header block would say that is still to be read. It is a hint: nothing is read by it, and
+//! no promise is made of it.
 
 use crate::dynamic_table::DynamicTable;
 use crate::integer::read_integer;
@@ -47,7 +45,7 @@ fn field_ahead<'a>(table: &'a DynamicTable, block: &'a [u8]) -> Option<FieldAhea
     let (name, _) = table.get(index)?;
     let (value, rest) = text_ahead(text)?;
     // One that is added to the table gives all others new places.
-    let rest = if *first >= 64 { &[] } else { rest };
+    let rest: &[u8] = if *first >= 64 { &[] } else { rest };
     Some(FieldAhead { name, value, rest })
 }
 

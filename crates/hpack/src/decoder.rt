@@ -78,9 +78,9 @@ impl Decoder {
         }
     }
 
-    /// The value of the first field of this name in a block that is still to be read, where the tables
-    /// say each name up to it and the value is not coded. It is a hint: nothing is read by it, and no
-    /// promise is made of it.
+    /// The value of the first field of this name in a block that is still to be read, where the
+    /// tables say each name up to it and the value is not coded. It is a hint: nothing is read by
+    /// it, and no promise is made of it.
     pub fn value_ahead<'a>(&'a self, block: &'a [u8], name: &[u8]) -> Option<&'a [u8]> {
         match &self.table {
             Some(table) => value_ahead(table, block, name),

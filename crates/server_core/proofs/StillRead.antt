@@ -92,6 +92,3 @@ taken_there rs n i ahead there = elim (cases_eq i n) [
       absurd cc
   | inr ne ↦ sym (get-set_other rs n i None ne) ∙ there
 ]
-
-pub taken_read : (s : ServerState) (rs : List (Option ReadAhead)) (n : ℕ) → AreRead s rs → AreRead s (set rs n None)
-taken_read s rs n all = λ i ahead there. all i ahead (taken_there rs n i ahead there)

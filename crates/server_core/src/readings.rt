@@ -1,9 +1,10 @@
 //! What is read for calls before their requests are at an end, by the numbers of their instances.
 
-ghost use Rattle.std.specs.Prelude.{◌≡◌, ◌<◌, ◌⊎◌, ℕ, IfOk, IfSome, IsTrue, length};
+ghost use Rattle.std.specs.Prelude.{◌≡◌, ◌<◌, ℕ, false, IfOk, IfSome, IsTrue, length};
 ghost use Rattle.server_events.specs.Shown.{event_value, what_value};
 ghost use Rattle.served_instance.specs.Ahead.{KeepsTexts};
 ghost use Rattle.instance_core.specs.Readings.{IsReadAhead};
+ghost use Rattle.server_core.specs.Parents.{parent_at};
 ghost use Rattle.server_core.specs.Readings.{AreRead, IsApart, IsThere, LeavesTexts, seen_at};
 ghost use Rattle.server_core.specs.StandsFor.{ServerState};
 
@@ -78,7 +79,7 @@ impl Readings {
             return None;
         }
         for i in 0..self.all.len() {
-            if let (Some(_), Some(Some(_))) = (&self.all[i], parents.get(i)) {
+            if self.all[i].is_some() && parent_of(parents, i).is_some() {
                 return u32::try_from(i).ok();
             }
         }
@@ -86,6 +87,7 @@ impl Readings {
     }
 
     /// Takes out what is read for a call of an instance.
+    #[tactic(auto, using(crate::proofs::StillRead::taken_there))]
     pub(crate) fn take(&mut self, number: usize) -> Option<ReadAhead>
         ensures holds { (s : ServerState) → AreRead s self.old
             → IfSome result (IsReadAhead (seen_at number s)) }
@@ -102,6 +104,7 @@ impl Readings {
     }
 
     /// This is read for a call of an instance.
+    #[tactic(auto, using(crate::proofs::StillRead::put_read))]
     pub(crate) fn put(&mut self, number: usize, ahead: ReadAhead)
         requires there { number < length self.old }
         ensures read { (s : ServerState) → AreRead s self.old
@@ -114,6 +117,7 @@ impl Readings {
 
     /// Takes out what was read for a call whose request may end with the bytes of an event; and lets
     /// go of all that may be true no more behind the event.
+    #[tactic(auto, using(crate::proofs::StillRead::all_left, crate::proofs::StillRead::apart_left))]
     pub(crate) fn take_for(
         &mut self,
         parents: &[Option<usize>],
@@ -171,17 +175,21 @@ impl Readings {
     }
 }
 
+/// The number of an instance's parent, if it has one.
+fn parent_of(parents: &[Option<usize>], i: usize) -> Option<usize>
+    ensures { result ≡ parent_at i parents.now }
+{
+    match parents.get(i) {
+        Some(parent) => *parent,
+        None => None,
+    }
+}
+
 /// Whether an instance is that of this number, or builds on it.
 fn is_near(parents: &[Option<usize>], i: usize, number: usize) -> bool
-    ensures { IsTrue result ⊎ IsApart i number parents.now }
+    ensures apart { result ≡ false → IsApart i number parents.now }
 {
-    if i == number {
-        return true;
-    }
-    match parents.get(i) {
-        Some(Some(parent)) => *parent == number,
-        _ => false,
-    }
+    i == number || parent_of(parents, i) == Some(number)
 }
 
 /// Whether an event leaves the texts of its instance as they are.

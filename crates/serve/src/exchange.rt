@@ -141,6 +141,11 @@ fn taking_of<S: Sockets>(
                 is_cut: count < shown,
             }
         }
+        // Nor is the end of a connection, where another call's reading would begin anew.
+        Ok(_) if server.waits(socket.instance) => Taking {
+            count: 0,
+            is_cut: true,
+        },
         _ => all,
     }
 }

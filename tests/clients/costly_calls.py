@@ -50,6 +50,7 @@ class Team:
     """A client of an instance."""
 
     def __init__(self, port):
+        self.port = port
         self.channel = grpc.insecure_channel(f"127.0.0.1:{port}", options=LIMITS)
 
     def unary(self, path, request):
@@ -104,6 +105,26 @@ def tree_named(root, status):
     return ready
 
 
+def tree_in_packets(root, cut):
+    """GetTree, whose message with its prefix `cut` divides into payloads that come one after another."""
+
+    def ready(team):
+        team.store(root)
+        message = m.field(2, m.digest(root))
+
+        def call():
+            connection = Connection(team.port)
+            connection.socket.settimeout(600)
+            frames = connection.call_in_packets(m.CAS + "GetTree", cut(b"\0" + len(message).to_bytes(4, "big") + message), 0.05)
+            connection.close()
+            content = b"".join(payload for kind, payload in frames if kind == 0)
+            return ("OK" if len(content) > len(root) else "NO PAGE"), content
+
+        return call, len(root), "OK"
+
+    return ready
+
+
 def brought(path, request, status):
     return lambda team: (lambda: team.unary(path, request), len(request), status)
 
@@ -115,6 +136,9 @@ KINDS = {
     "result-of-many-unknown-fields": lambda: result_named(b"\x78\0" * 500_000, LONGEST // 90, "OK"),
     "result-of-no-directories": lambda: result_named(b"\x0a\0" * 500_000, 1000, "OK"),
     "tree-of-files": lambda: tree_named(directory(names(780_000)), "OK"),
+    # The request ends behind its message, and in the midst of it.
+    "tree-that-is-ended-later": lambda: tree_in_packets(directory(names(780_000)), lambda text: [text, b""]),
+    "tree-whose-message-is-cut": lambda: tree_in_packets(directory(names(780_000)), lambda text: [text[:9], text[9:]]),
     "tree-of-nameless-files": lambda: tree_named(b"\x0a\0" * 33_000_000, "INVALID_ARGUMENT"),
     "tree-of-unknown-fields": lambda: tree_named(b"\x78\0" * 30_000_000, "OK"),
     "updates-of-nothing": lambda: brought(m.BATCH_UPDATE, b"\x12\0" * (LONGEST // 2), "OK"),

@@ -1,6 +1,7 @@
 """A client of HTTP/2 and gRPC that sends and shows frames as they are, and makes one call at a time."""
 
 import socket
+import time
 
 PREFACE = b"PRI * HTTP/2.0\r\n\r\nSM\r\n\r\n"
 
@@ -57,6 +58,19 @@ class Connection:
                 is_last = place + 1 == len(framed) and at + 1 == len(pieces)
                 sent += frame(0, is_last, stream, piece)
         self.socket.sendall(sent)
+        return self._answer(stream)
+
+    def call_in_packets(self, path, payloads, pause):
+        """The same, where the head of the call and each of these payloads of DATA are sent by themselves, so many seconds
+        apart. The last one ends the request."""
+        stream, self.stream = self.stream, self.stream + 2
+        self.socket.sendall(frame(1, 4, stream, block(path)))
+        for place, payload in enumerate(payloads):
+            time.sleep(pause)
+            self.socket.sendall(frame(0, place + 1 == len(payloads), stream, payload))
+        return self._answer(stream)
+
+    def _answer(self, stream):
         answer = []
         while True:
             kind, flags, number, payload = self._frame()

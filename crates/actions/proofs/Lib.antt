@@ -11,3 +11,4 @@ mod Paths
 pub mod Again
 pub mod Records
 pub mod Passing
+mod WalkFaults

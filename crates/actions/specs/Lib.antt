@@ -10,3 +10,4 @@ pub mod TreeWalks
 pub mod Tree
 pub mod Paths
 pub mod Passing
+pub mod WalkReadings

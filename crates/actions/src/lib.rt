@@ -14,6 +14,7 @@ mod node;
 mod outputs;
 mod reading;
 mod tree_walk;
+mod walk_reading;
 mod walking;
 
 pub use action::{ActionTaken, read_action};
@@ -31,4 +32,5 @@ pub use laws::{
 pub use node::PlanNode;
 pub use outputs::{AskedOutput, asked_outputs};
 pub use tree_walk::TreeWalk;
+pub use walk_reading::{WalkReading, walk_read};
 pub use walking::{MOST_LEVELS, MOST_NODES, Plan, nodes_met, walk};

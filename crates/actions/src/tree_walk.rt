@@ -82,6 +82,13 @@ impl TreeWalk {
         }
     }
 
+    /// The root of the tree.
+    pub fn root(&self) -> Digest
+        ensures { result ≡ self.now.root }
+    {
+        self.root
+    }
+
     /// Whether nothing is left to be met.
     pub fn is_over(&self) -> bool
         ensures { result ≡ is_over self.now }

@@ -42,6 +42,25 @@ impl Call {
         }
     }
 
+    /// The message that this content ends, if it ends one: the text is what came before, and that.
+    fn message_ahead(
+        &self,
+        alloc: Global,
+        content: &[u8],
+    ) -> Result<Option<Vec<u8>>, AllocError> {
+        let mut text = Vec::new(alloc);
+        self.messages.copy_left(&mut text)?;
+        text.extend_from_slice(content)?;
+        let mut messages = Messages::new(alloc);
+        if messages.feed(&text).is_err() {
+            return Err(AllocError);
+        }
+        match messages.next() {
+            Ok(Some(message)) => Ok(Some(message.into_bytes())),
+            Ok(None) | Err(_) => Ok(None),
+        }
+    }
+
     /// Whether a message came in part that few more bytes may end.
     fn is_near_end(&self) -> bool
         ensures { result ≡ is_near_end self.now.messages }
@@ -164,6 +183,18 @@ pub(crate) fn take_more(
         return Ok(());
     }
     calls[place].take(content, end_stream, due)
+}
+
+/// The message of the stream's call that this content ends, which is still to come.
+pub(crate) fn message_ahead(
+    calls: &Vec<Call>,
+    stream: u32,
+    content: &[u8],
+) -> Result<Option<Vec<u8>>, AllocError> {
+    match calls.get(place_of(calls, stream)) {
+        Some(call) => call.message_ahead(*calls.allocator(), content),
+        None => Ok(None),
+    }
 }
 
 /// A call begins. Where there are more calls than live streams, those on closed streams are dropped

@@ -13,6 +13,7 @@ ghost use Rattle.conn_core.specs.CallsInCourse.{is_kept_half};
 ghost use Rattle.conn_core.specs.Past.{new_past, with_bytes, with_taken};
 ghost use Rattle.conn_core.specs.StandsFor.{IsConnection, Becomes, Owes, OwesRange, Pumps, PopsOne, ReadsOneFrame, calls_kept, unread_length, live_calls};
 
+mod ahead;
 mod answers;
 mod failing;
 mod frames;

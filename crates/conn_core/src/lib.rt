@@ -2,6 +2,7 @@
 //! from what calls are answered to the bytes that are sent.
 #![tactic(auto, using(std::proofs::lemmas::Int::ints))]
 
+mod ahead;
 mod call;
 mod connection;
 mod event;
@@ -9,6 +10,7 @@ mod floods;
 mod laws;
 mod limits;
 
+pub use ahead::{EndAhead, EndsAhead};
 pub use connection::Connection;
 pub use event::CallEvent;
 pub use floods::MOST_RESETS;

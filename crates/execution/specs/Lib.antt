@@ -1,6 +1,7 @@
 pub mod Job
 pub mod Preparing
 pub mod Execute
+pub mod ExecuteReadings
 pub mod Changes
 pub mod Waiting
 pub mod Steps

@@ -2,6 +2,7 @@
 
 ghost use Rattle.std.specs.Prelude.{◌<◌, ◌^◌};
 
+use actions::WalkReading;
 use digest::Digest;
 
 /// What a call of Execute asks for.
@@ -12,4 +13,11 @@ pub struct Asked {
     /// Whether a stored result is no answer.
     pub skips_lookup: bool,
     ghost size: { action.size < 2 ^ 63 },
+}
+
+/// A call of Execute: what it asks for, and what was read of the inputs of an action before.
+#[derive(Drop)]
+pub struct ExecuteCall {
+    pub asked: Asked,
+    pub read: Option<WalkReading>,
 }

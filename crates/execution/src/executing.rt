@@ -8,6 +8,7 @@ ghost use Rattle.instance_view.specs.Shown.{ViewValue, holders};
 ghost use Rattle.instance_view.specs.Sight.{SightValue, sight_holders, sight_of};
 ghost use Rattle.input_tree.specs.Texts.{texts_of};
 ghost use Rattle.action_cache.specs.Answering.{HaveSameUses, blobs_for};
+ghost use Rattle.actions.specs.WalkReadings.{Reads};
 ghost use Rattle.cas_service.specs.Answers.{Answers};
 ghost use Rattle.job_queue.specs.Jobs.{jobs_after_done};
 ghost use Rattle.job_queue.specs.declared.queue.TheConstants.{LAST_NUMBER};
@@ -21,10 +22,11 @@ ghost use Rattle.execution.specs.Preparing as preparing;
 ghost use Rattle.execution.specs.Shown.{prepared_shown};
 
 use crate::answer::ExecuteAnswer;
-use crate::asked::Asked;
+use crate::asked::{Asked, ExecuteCall};
 use crate::job::{Executions, Job};
 use crate::making::{digests_met, enqueue, make_job};
 use crate::preparing::{Prepared, Unprepared, prepare};
+use actions::WalkReading;
 use action_cache::{FoundResult, Results, find_result};
 use blob_pool::Pool;
 use cas_service::CallError;
@@ -197,9 +199,12 @@ fn answer_prepared(
     pool: &mut Pool,
     queue: &mut Queue<Job>,
     action: &Digest,
+    read: Option<WalkReading>,
 ) -> Result<ExecuteAnswer, CallError>
     requires next { queue.old.next ≤ LAST_NUMBER }
     requires size { action.now.size < 2 ^ 63 }
+    requires reads { IfSome read
+        (Reads (texts_of pool.old (sight_of view.old parent.now))) }
     requires held { (k : ℕ) → sight_holders (sight_of view.old parent.now) k
         + jobs_holders queue.old k ≤ count_at pool.old k }
     requires room { (k : ℕ) → count_at pool.old k + 2 ^ 64 < 2 ^ 127 }
@@ -216,7 +221,7 @@ fn answer_prepared(
     ensures holders { (k : ℕ) → holders view.new k ≡ holders view.old k }
     ensures limit { view.new.limit ≡ view.old.limit }
 {
-    match prepare(alloc, &Sight::new(view, parent), pool, action) {
+    match prepare(alloc, &Sight::new(view, parent), pool, action, read) {
         Ok(prepared) => answer_job(alloc, view, parent, pool, queue, action, prepared),
         Err(Unprepared::Faulty(fault, missing)) => {
             answer_fault(alloc, pool.key(), queue, action, fault, missing)
@@ -234,7 +239,7 @@ fn answer_prepared(
 ///
 /// [`Refusal::ExecutionIsOff`] where the instance runs no jobs, [`Refusal::QueueFull`] where as
 /// many wait as may or no number is left. A call that is refused, or for which there is no memory,
-/// changes nothing.
+/// changes nothing. A walk that is over is not made again.
 pub fn execute(
     alloc: Global,
     results: &mut Results,
@@ -242,20 +247,22 @@ pub fn execute(
     parent: &View,
     pool: &mut Pool,
     executions: &mut Executions,
-    asked: &Asked,
+    call: ExecuteCall,
 ) -> Result<ExecuteAnswer, CallError>
+    requires reads { IfSome call.read
+        (Reads (texts_of pool.old (sight_of view.old parent.now))) }
     requires held { (k : ℕ) → sight_holders (sight_of view.old parent.now) k
         + jobs_holders executions.old.queue k ≤ count_at pool.old k }
     requires room { (k : ℕ) → count_at pool.old k + 2 ^ 64 < 2 ^ 127 }
     ensures answer { let sight = sight_of view.old parent.now in
         let state = execution_in pool.old sight results.old executions.old.queue in
         Answers answer_shown result
-        (execute executions.old.slots state asked.now.skips_lookup asked.now.action).answer }
+        (execute executions.old.slots state call.asked.skips_lookup call.asked.action).answer }
     ensures after { let sight = sight_of view.old parent.now in
         let state = execution_in pool.old sight results.old executions.old.queue in
         OnOk result (execution_in pool.new (sight_of view.new parent.now) results.new
         executions.new.queue ≡ after_changes (execute executions.old.slots state
-        asked.now.skips_lookup asked.now.action).changes state) }
+        call.asked.skips_lookup call.asked.action).changes state) }
     ensures moves { Moves pool.old pool.new (jobs_holders executions.old.queue)
         (jobs_holders executions.new.queue) }
     ensures err { OnErr result ((results.new ≡ results.old) × (view.new ≡ view.old)
@@ -271,11 +278,12 @@ pub fn execute(
     if executions.queue.next() > LAST_NUMBER {
         return Err(CallError::Refused(Refusal::QueueFull));
     }
-    let found = look_up(alloc, results, &Sight::new(view, parent), pool, asked)?;
+    let ExecuteCall { asked, read } = call;
+    let found = look_up(alloc, results, &Sight::new(view, parent), pool, &asked)?;
     let action = &asked.action;
     let queue = &mut executions.queue;
     match found {
         Some(found) => answer_found(alloc, results, view, queue, action, found),
-        None => answer_prepared(alloc, view, parent, pool, queue, action),
+        None => answer_prepared(alloc, view, parent, pool, queue, action, read),
     }
 }

@@ -5,6 +5,7 @@
 mod answer;
 mod asked;
 mod asking;
+mod execute_reading;
 mod executing;
 mod job;
 mod keeping;
@@ -19,8 +20,9 @@ mod taking;
 mod waiting;
 
 pub use answer::{ExecuteAnswer, WaitAnswer};
-pub use asked::Asked;
+pub use asked::{Asked, ExecuteCall};
 pub use asking::{execute_asked, name_asked};
+pub use execute_reading::ExecuteReading;
 pub use executing::execute;
 pub use job::{Executions, Job, Task};
 pub use keeping::KeptText;

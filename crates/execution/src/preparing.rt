@@ -1,16 +1,19 @@
 //! What an action needs, or why it cannot be run.
 
-ghost use Rattle.std.specs.Prelude.{◌≡◌, ◌≤◌, ℕ, [], ◌∷◌, option_map, Ok, IfOk};
+ghost use Rattle.std.specs.Prelude.{◌≡◌, ◌≤◌, ℕ, [], ◌∷◌, option_map, Ok, IfOk, IfSome};
 ghost use Rattle.blob_pool.specs.Slots.{count_at};
 ghost use Rattle.instance_view.specs.Sight.{sight_holders};
 ghost use Rattle.input_tree.specs.Texts.{texts_of};
 ghost use Rattle.actions.specs.Walk.{TreeFaultValue};
 ghost use Rattle.actions.specs.Shown.{nodes_shown, action_taken_shown};
+ghost use Rattle.actions.specs.WalkReadings.{Reads};
 ghost use Rattle.execution.specs.Preparing.{action_found, command_found, fault_alone, walk_fault, with_command, prepared, prepared_with, missing_blobs};
 ghost use Rattle.execution.specs.Shown.{prepared_shown, Answers, FailsWith, IfNoMemory, IsFault};
 ghost use Rattle.execution.specs.declared.preparing.Unprepared.TheVariants.{NoMemory};
 
-use actions::{ActionTaken, Plan, TreeFault, is_command_text, read_action, walk};
+use actions::{
+    ActionTaken, Plan, TreeFault, WalkReading, is_command_text, read_action, walk_read,
+};
 use blob_pool::Pool;
 use digest::Digest;
 use execution_messages::Fault;
@@ -174,20 +177,22 @@ fn prepared_with(
     }
 }
 
-/// What an action needs, or the first fault that it has.
+/// What an action needs, or the first fault that it has. A walk that is over is not made again.
 pub fn prepare(
     alloc: Global,
     view: &Sight<'_>,
     pool: &Pool,
     digest: &Digest,
+    read: Option<WalkReading>,
 ) -> Result<Prepared, Unprepared>
-    requires { (k : ℕ) → sight_holders view.now k ≤ count_at pool.now k }
+    requires held { (k : ℕ) → sight_holders view.now k ≤ count_at pool.now k }
+    requires reads { IfSome read (Reads (texts_of pool.now view.now)) }
     ensures { Answers prepared_shown result
         (prepared (texts_of pool.now view.now) digest.now) }
 {
     let action = find_action(alloc, view, pool, digest)?;
     let command = find_command(alloc, view, pool, &action.command)?;
-    match walk(alloc, view, pool, &action.root) {
+    match walk_read(alloc, view, pool, &action.root, read) {
         Ok(plan) => prepared_with(alloc, action, command, plan),
         Err(fault) => Err(walk_fault(alloc, &action.command, command.is_some(), fault)),
     }

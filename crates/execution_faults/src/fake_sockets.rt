@@ -112,6 +112,11 @@ impl<'a> Sockets for FakeSockets<'a> {
         true
     }
 
+    /// Nothing is shown before it is read.
+    fn peek(&self, _socket: Socket, _room: &mut [u8]) -> io::Result<usize> {
+        Err(io::Error::from(ErrorKind::WouldBlock))
+    }
+
     /// The server is never without a processor.
     fn processor(&self) -> ProcessorTime {
         ProcessorTime {

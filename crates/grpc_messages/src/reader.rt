@@ -224,6 +224,17 @@ impl Messages {
         missing_of(self.prefix.as_slice(), unread) <= more
     }
 
+    /// Adds the bytes that were not given yet. Of a reader that refused there are none.
+    pub fn copy_left(&self, out: &mut Vec<u8>) -> Result<(), AllocError>
+        ensures left { OnOk result (out.new.items ≡ out.old.items ++ bytes_left self.now) }
+    {
+        if self.is_empty() {
+            return Ok(());
+        }
+        out.extend_from_slice(self.prefix.as_slice())?;
+        out.extend_from_slice(behind_given(&self.behind, self.given))
+    }
+
     fn finish(&mut self) -> Result<(), MessagesError>
         ensures answer { result ≡ ends_at MESSAGE_LIMIT self.old }
         ensures after { self.new ≡ after_end result self.old }

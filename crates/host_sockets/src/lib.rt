@@ -297,6 +297,16 @@ impl<'a, H: Host> Sockets for HostSockets<'a, H> {
         }
     }
 
+    fn peek(&self, socket: Socket, room: &mut [u8]) -> io::Result<usize>
+        requires room { 0 < length room.old }
+        ensures bound { ReadsAtMost result room.new }
+    {
+        match self.ports.get(socket.instance as usize) {
+            Some(port) => port.peek(socket.connection, room),
+            None => Err(io::Error::from(ErrorKind::NotConnected)),
+        }
+    }
+
     fn processor(&self) -> ProcessorTime {
         match self.host.processor() {
             Ok(processor) => processor,

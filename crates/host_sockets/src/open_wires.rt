@@ -144,6 +144,17 @@ impl<W: Wire> OpenWires<W> {
         outcome
     }
 
+    /// Shows the first of the bytes that came on the one of a number and were not taken.
+    pub(crate) fn peek(&self, connection: u32, room: &mut [u8]) -> io::Result<usize>
+        requires room { 0 < length room.old }
+        ensures bound { ReadsAtMost result room.new }
+    {
+        match self.table.get(&connection) {
+            Some(watched) => watched.peek(room),
+            None => Err(io::Error::from(ErrorKind::NotConnected)),
+        }
+    }
+
     /// Sends the first of these bytes on the one of a number, and says how many.
     pub(crate) fn write(&mut self, connection: u32, bytes: &[u8]) -> io::Result<usize>
         ensures bound { WritesAtMost result bytes.now }

@@ -138,6 +138,14 @@ impl<D: Door> Port<D> {
         self.wires.read(connection, room)
     }
 
+    /// Shows the first of the bytes that came on a connection and were not taken.
+    pub(crate) fn peek(&self, connection: u32, room: &mut [u8]) -> io::Result<usize>
+        requires room { 0 < length room.old }
+        ensures bound { ReadsAtMost result room.new }
+    {
+        self.wires.peek(connection, room)
+    }
+
     /// Sends the first of these bytes on a connection, and says how many. `WouldBlock` says that
     /// none can be sent now.
     pub(crate) fn write(&mut self, connection: u32, bytes: &[u8]) -> io::Result<usize>

@@ -77,6 +77,17 @@ impl<W: Wire> Watched<W> {
         outcome
     }
 
+    pub(crate) fn peek(&self, room: &mut [u8]) -> io::Result<usize>
+        requires room { 0 < length room.old }
+        ensures bound { ReadsAtMost result room.new }
+    {
+        if self.may_read {
+            self.wire.peek(room)
+        } else {
+            Err(io::Error::from(ErrorKind::WouldBlock))
+        }
+    }
+
     pub(crate) fn write(&mut self, bytes: &[u8]) -> io::Result<usize>
         ensures bound { WritesAtMost result bytes.now }
         ensures adds { Adds (W.happened self.old.wire) (W.happened self.new.wire)

@@ -103,6 +103,10 @@ impl Wire for HostWire {
         self.stream.read(room)
     }
 
+    fn peek(&self, room: &mut [u8]) -> io::Result<usize> {
+        self.stream.peek(room)
+    }
+
     fn write(&mut self, bytes: &[u8]) -> io::Result<usize> {
         self.stream.write(bytes)
     }

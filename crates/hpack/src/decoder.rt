@@ -6,6 +6,7 @@ ghost use Rattle.hpack.specs.Results.{GivesInMemory};
 ghost use Rattle.hpack.specs.Table.{new_table, table_size};
 ghost use Rattle.hpack.specs.Block.{step};
 
+use crate::ahead::value_ahead;
 use crate::block::read_block;
 use crate::dynamic_table::DynamicTable;
 use crate::error::HpackError;
@@ -74,6 +75,16 @@ impl Decoder {
         match &self.table {
             Some(table) => table.size(),
             None => 0,
+        }
+    }
+
+    /// The value of the first field of this name in a block that is still to be read, where the
+    /// tables say each name up to it and the value is not coded. It is a hint: nothing is read by
+    /// it, and no promise is made of it.
+    pub fn value_ahead<'a>(&'a self, block: &'a [u8], name: &[u8]) -> Option<&'a [u8]> {
+        match &self.table {
+            Some(table) => value_ahead(table, block, name),
+            None => None,
         }
     }
 }

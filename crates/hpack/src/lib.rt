@@ -1,6 +1,7 @@
 //! Header compression for HTTP/2: RFC 7541.
 #![tactic(auto)]
 
+mod ahead;
 mod block;
 mod decoder;
 mod dynamic_table;

@@ -5,6 +5,7 @@
 //! holds of every format of items.
 #![tactic(auto)]
 
+mod ahead;
 mod codes;
 mod error;
 mod frame;
@@ -17,6 +18,7 @@ mod received;
 mod settings;
 mod writer;
 
+pub use ahead::{FrameAhead, FramesAhead};
 pub use codes::{ErrorCode, flag, frame_type, setting};
 pub use error::FrameError;
 pub use frame::{Frame, RawFrame};

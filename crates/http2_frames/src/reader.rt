@@ -9,6 +9,7 @@ ghost use Rattle.http2_frames.specs.Reading.{split, whole_at, frame_at};
 ghost use Rattle.http2_frames.specs.Reader.{IsReader, IsFrame, HasFrame, front_of, with_more_bytes, text_left};
 ghost use Rattle.http2_frames.specs.Step.{IsJoined, after_preface, after_look, behind_front, first_of, is_whole, look, WaitsShortly};
 
+use crate::ahead::FramesAhead;
 use crate::error::FrameError;
 use crate::frame::RawFrame;
 use crate::octets::Octets;
@@ -170,6 +171,11 @@ impl FrameReader {
         ensures shorter { length (text_left self.new) < length (text_left self.old) }
     {
         self.pass_front();
+    }
+
+    /// The frames of what is unread, and of these bytes behind it. To look at them takes nothing.
+    pub fn ahead<'a>(&'a self, more: &'a [u8]) -> FramesAhead<'a> {
+        FramesAhead::new(first(&self.joined, &self.received), more)
     }
 
     fn pass_preface(&mut self)

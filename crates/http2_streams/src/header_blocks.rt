@@ -93,6 +93,15 @@ impl HeaderBlocks {
         }
     }
 
+    /// The path of the request whose header block is this, where the tables say all names and
+    /// it is not coded. It is a hint: nothing is decoded by it, and no promise is made of it.
+    pub fn path_ahead<'a>(&'a self, block: &'a [u8]) -> Option<&'a [u8]> {
+        match &self.decoder {
+            Some(decoder) => decoder.value_ahead(block, b":path"),
+            None => None,
+        }
+    }
+
     /// Takes a HEADERS frame, with which a block begins. Its fields are there where it has
     /// END_HEADERS.
     pub fn begin(

@@ -160,6 +160,12 @@ impl Streams {
         live::is_live(&self.live, stream)
     }
 
+    /// The path of the request that a HEADERS frame begins which brings all of this header block,
+    /// where that is seen without decoding it. It is a hint: no promise is made of it.
+    pub fn path_ahead<'a>(&'a self, block: &'a [u8]) -> Option<&'a [u8]> {
+        self.headers.path_ahead(block)
+    }
+
     /// The highest stream number that the client opened, which GOAWAY names (RFC 9113 section 6.8).
     pub fn highest(&self) -> u32
         ensures { result ≡ self.now.highest }

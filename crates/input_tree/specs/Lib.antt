@@ -7,6 +7,7 @@ pub mod ListingSteps
 pub mod Answers
 pub mod Texts
 pub mod Pages
+pub mod Pagings
 pub mod Uses
 pub use Rattle.numerals.specs.Number
 pub mod Taking

@@ -1,9 +1,10 @@
 //! The pages of a tree's list.
 
-ghost use Rattle.std.specs.Prelude.{◌≡◌, ◌+◌, ◌<◌, ◌≤◌, ◌^◌, [], map, length, ◌++◌, Some, None, IfOk, OnOk, if◌then◌else◌};
+ghost use Rattle.std.specs.Prelude.{◌≡◌, ◌+◌, ◌<◌, ◌≤◌, ◌^◌, ◌∷◌, ℕ, List, [], map, length, ◌++◌, Some, None, IfOk, OnOk, if◌then◌else◌};
 ghost use Rattle.std.specs.Fmt as fmt;
 ghost use Rattle.protobuf_wire.specs.Writing.{records_text, message_field};
-ghost use Rattle.input_tree.specs.Pages.{page_before, page_bytes, page_from, page_text, pages_along, place_asked, size_asked, takes_more, texts};
+ghost use Rattle.input_tree.specs.Pages.{page_before, page_bytes, page_from, page_text, pages_along, place_asked, size_asked, takes_more, text_or_none, texts};
+ghost use Rattle.input_tree.specs.Pagings.{pages_with};
 ghost use Rattle.input_tree.specs.Work.{texts_length};
 ghost use Rattle.instance_view.specs.Texts.{look_of};
 
@@ -147,9 +148,113 @@ fn page_for(
     Ok(Vec::new(alloc))
 }
 
+/// Responses that are made one directory after another: those of full pages, and the page to which
+/// the next one goes. It holds no reference, so that other work may come between its steps.
+#[derive(Drop)]
+pub struct Paging {
+    /// The most directories of a page.
+    size: usize,
+    /// The place in the list of the directory that comes next.
+    place: usize,
+    full: Vec<Vec<u8>>,
+    page: Vec<Vec<u8>>,
+    /// How many bytes the records of that page take.
+    bytes: usize,
+}
+
+impl Model for Paging {
+    ghost use Rattle.std.specs.Prelude.{◌≡◌, map};
+    ghost use Rattle.input_tree.specs.Pages.{page_bytes};
+    ghost use Rattle.input_tree.specs.Pagings.{PagingValue};
+
+    ghost Value = { PagingValue };
+
+    ghost view = { λ p. record {
+      size = p.size;
+      place = p.place;
+      full = map (λ response. response.items) p.full.items;
+      page = map (λ t. t.items) p.page.items;
+    } };
+
+    ghost invariant = { λ p. p.bytes ≡ page_bytes (map (λ t. t.items) p.page.items) };
+}
+
+impl Paging {
+    /// None yet, where the first directory has a place in the list.
+    pub(crate) fn begin(alloc: Global, size: usize, place: usize) -> Paging
+        ensures { result ≡ record { size = size; place = place; full = []; page = [] } }
+    {
+        Paging {
+            size,
+            place,
+            full: Vec::new(alloc),
+            page: Vec::new(alloc),
+            bytes: 0,
+        }
+    }
+
+    /// The place in the list of the directory that comes next.
+    pub(crate) fn place(&self) -> usize
+        ensures { result ≡ self.now.place }
+    {
+        self.place
+    }
+
+    /// Takes the directory that comes next. Its text is copied once.
+    #[tactic(auto, unfolding(crate::specs::Pages::pages_along), using(crate::proofs::Paging::bytes_kept))]
+    pub(crate) fn step(
+        self,
+        alloc: Global,
+        seen: &Texts<'_, Sight<'_>>,
+        work: &mut Work,
+        digest: &Digest,
+    ) -> Result<Paging, AllocError>
+        requires place { self.place + 1 < 2 ^ 64 }
+        ensures rest { (ts : List (List ℕ)) → IfOk result (λ next. pages_with next ts
+            ≡ pages_with self (text_or_none (look_of seen.now) digest.now ∷ ts)) }
+        ensures place { IfOk result (λ next. next.place ≡ self.place + 1) }
+        ensures size { IfOk result (λ next. next.size ≡ self.size) }
+        ensures looks { work.new.looks ≤ work.old.looks + 1 }
+        ensures bytes { work.new.bytes ≤ work.old.bytes
+            + length (text_or_none (look_of seen.now) digest.now) }
+    {
+        let Paging {
+            size,
+            place,
+            full,
+            page,
+            bytes,
+        } = self;
+        let mut full = full;
+        let text = text_or_none(alloc, seen, work, digest)?;
+        let more = record_length(&text)?;
+        let total = bytes_with(size, page.len(), bytes, more);
+        let mut page = page_for(alloc, &mut full, page, total.is_some(), place)?;
+        page.push(text)?;
+        Ok(Paging {
+            size,
+            place: place + 1,
+            full,
+            page,
+            bytes: total.unwrap_or(more),
+        })
+    }
+
+    /// The responses, where no directory comes any more.
+    pub(crate) fn end(self, alloc: Global) -> Result<Vec<Vec<u8>>, AllocError>
+        ensures { IfOk result (λ responses. map (λ response. response.items) responses.items
+            ≡ pages_with self []) }
+    {
+        let mut full = self.full;
+        if !self.page.is_empty() {
+            full.push(response(alloc, &self.page, "")?)?;
+        }
+        Ok(full)
+    }
+}
+
 /// The responses that give the texts of digests page by page, the first of which has a place in the
 /// list. No more than a page's texts are copied at a time, and each once.
-#[tactic(auto, unfolding(crate::specs::Pages::pages_along), using(crate::proofs::Paging::bytes_kept))]
 pub fn pages(
     alloc: Global,
     seen: &Texts<'_, Sight<'_>>,
@@ -165,23 +270,11 @@ pub fn pages(
     ensures bytes { work.new.bytes
         ≤ work.old.bytes + texts_length (look_of seen.now) digests.now }
 {
-    let mut pages = Vec::new(alloc);
-    let mut page = Vec::new(alloc);
-    let mut bytes = 0;
-    let mut place = place;
+    let mut paging = Paging::begin(alloc, size, place);
     let mut left = digests;
     'digests: while let [first, rest @ ..] = left {
-        let text = text_or_none(alloc, seen, work, first)?;
-        let more = record_length(&text)?;
-        let total = bytes_with(size, page.len(), bytes, more);
-        page = page_for(alloc, &mut pages, page, total.is_some(), place)?;
-        page.push(text)?;
-        bytes = total.unwrap_or(more);
-        place += 1;
+        paging = paging.step(alloc, seen, work, first)?;
         left = rest;
     }
-    if !page.is_empty() {
-        pages.push(response(alloc, &page, "")?)?;
-    }
-    Ok(pages)
+    paging.end(alloc)
 }

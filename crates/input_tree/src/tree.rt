@@ -6,63 +6,28 @@ ghost use Rattle.instance_view.specs.Shown.{visible_in, holders};
 ghost use Rattle.instance_view.specs.Sight.{sight_of};
 ghost use Rattle.input_tree.specs.Answers.{Answers};
 ghost use Rattle.input_tree.specs.Listing.{tree_list};
-ghost use Rattle.input_tree.specs.Pages.{digests_of, pages_of, get_tree_reply};
+ghost use Rattle.input_tree.specs.Pages.{digests_of, get_tree_reply};
 ghost use Rattle.input_tree.specs.Texts.{texts_of};
 ghost use Rattle.input_tree.specs.TreeReadings.{Reads};
 ghost use Rattle.input_tree.specs.Uses.{visible_after_uses};
 ghost use Rattle.input_tree.specs.Work.{tree_looks};
-ghost use Rattle.instance_view.specs.Texts.{look_of};
 
-use crate::error::{GetTreeError, TreeRefusal};
-use crate::pages::{pages, place_asked, size_asked};
-use crate::tree_reading::{TreeReading, list_read};
+use crate::error::GetTreeError;
+use crate::tree_reading::{PageAsked, TreeReading, tree_made};
 use crate::uses::use_all;
 use blob_pool::Pool;
-use digest::Digest;
 use instance_view::{Sight, Texts, View, Work};
-use std::alloc::{AllocError, Global};
-
-/// The page of a tree's list that a request asks for.
-#[derive(Clone, Copy, Debug)]
-pub struct PageAsked<'a> {
-    /// The root of the tree.
-    pub root: Digest,
-    /// The most directories of it, or 0 for as many as there may be.
-    pub size: i32,
-    /// The place in the list at which it begins, in decimal digits, or nothing for the beginning.
-    pub token: &'a str,
-}
-
-/// The responses that give the directories of a list, from the place that a request asks for.
-fn responses(
-    alloc: Global,
-    texts: &Texts<'_, Sight<'_>>,
-    work: &mut Work,
-    listed: &[Digest],
-    page: PageAsked<'_>,
-) -> Result<Vec<Vec<u8>>, GetTreeError>
-    requires short { length listed.now < 2 ^ 63 }
-    ensures pages { Answers (λ pages. map (λ page. page.items) pages.items) result
-        (pages_of (look_of texts.now) page.entry.size page.entry.token.now listed.now) }
-    ensures looks { work.new.looks ≤ work.old.looks + length listed.now }
-{
-    let (Some(size), Some(place)) = (size_asked(page.size), place_asked(page.token, listed.len()))
-    else {
-        return Err(GetTreeError::Refused(TreeRefusal::BadPage));
-    };
-    let pages = pages(alloc, texts, work, &listed[place..], size, place)?;
-    Ok(pages)
-}
+use std::alloc::Global;
 
 /// Answers GetTree: the responses, as messages in order, that give the directories of the root's
 /// tree, from the place that the token says on. Directories are read as the instance sees them:
 /// its own text, or else its parent's. Each directory of the list is then used, in order, where it
 /// is the instance's own. An error changes nothing.
 ///
-/// The list is that of `list_tree`, or what was read of it before. The page's size is the most
-/// directories of a page: 0, and more than 1,000, are 1,000. A page takes directories until it is
-/// full or the next would bring their records over 4,000,000 bytes, and one at least. Each page but
-/// the last says the place in the list at which the next begins, in decimal digits.
+/// The list is that of `list_tree`. The page's size is the most directories of a page: 0, and more
+/// than 1,000, are 1,000. A page takes directories until it is full or the next would bring their
+/// records over 4,000,000 bytes, and one at least. Each page but the last says the place in the
+/// list at which the next begins, in decimal digits. What was made before is not made again.
 pub fn get_tree(
     alloc: Global,
     view: &mut View,
@@ -89,9 +54,7 @@ pub fn get_tree(
 {
     let sight = Sight::new(view, parent);
     let texts = Texts::new(&sight, pool);
-    let listed = list_read(alloc, &texts, work, &page.root, read)?;
-    let listed = listed.as_slice();
-    let pages = responses(alloc, &texts, work, listed, page)?;
-    use_all(view, listed);
-    Ok(pages)
+    let made = tree_made(alloc, &texts, work, page, read)?;
+    use_all(view, made.listed.as_slice());
+    Ok(made.pages)
 }

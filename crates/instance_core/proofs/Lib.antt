@@ -41,6 +41,7 @@ mod EmptyBlob
 pub mod Room
 pub mod RoomMade
 pub mod Kept
+mod Leaves
 pub use Rattle.instance_view.proofs.Held
 pub use Rattle.quota_evict.proofs.Limits
 pub use Rattle.quota_evict.proofs.Steps

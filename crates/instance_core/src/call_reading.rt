@@ -4,12 +4,17 @@ ghost use Rattle.std.specs.Prelude.{◌++◌, List, IfOk, IfSome};
 ghost use Rattle.instance_view.specs.Shown.{visible_in};
 ghost use Rattle.instance_view.specs.Visible.{Blob};
 ghost use Rattle.tree_calls.specs.GetTree.{texts_seen};
+ghost use Rattle.actions.specs.WalkReadings.{Reads as Walks};
 ghost use Rattle.tree_calls.specs.TreeReadings.{Reads};
 ghost use Rattle.instance_core.specs.Readings.{IsRead};
 
 use crate::calls::{Call, Progress};
 use crate::contents::Settings;
+use crate::event::CallId;
+use action_cache::Results;
+use actions::WalkReading;
 use blob_pool::Pool;
+use execution::{ExecuteReading, execute_asked};
 use instance_view::{Sight, Texts, View};
 use rpc::Method;
 use std::alloc::{AllocError, Global};
@@ -19,8 +24,10 @@ use tree_calls::{TreeReading, begin_tree};
 /// other work may come between its steps.
 #[derive(Drop)]
 pub enum CallReading {
-    /// The list of the tree that a `GetTree` asks for.
+    /// The tree that a `GetTree` asks for, and its pages.
     Tree(TreeReading),
+    /// The inputs of the action that an `Execute` asks for.
+    Inputs(ExecuteReading),
 }
 
 impl CallReading {
@@ -28,6 +35,7 @@ impl CallReading {
     pub fn is_over(&self) -> bool {
         match self {
             CallReading::Tree(tree) => tree.is_over(),
+            CallReading::Inputs(inputs) => inputs.is_over(),
         }
     }
 
@@ -48,22 +56,44 @@ impl CallReading {
         let texts = Texts::new(&sight, pool);
         match self {
             CallReading::Tree(tree) => Ok(CallReading::Tree(tree.step(alloc, &texts)?)),
+            CallReading::Inputs(inputs) => {
+                Ok(CallReading::Inputs(inputs.step(alloc, &sight, pool)?))
+            }
         }
     }
 }
 
-/// Begins to read what a call needs whose request is at its end, where its method may read much.
+/// What was read for a call before its request is at its end.
+#[derive(Drop)]
+pub struct ReadAhead {
+    pub call: CallId,
+    /// How many bytes that wait on the call's connection end its request.
+    pub rest: usize,
+    pub reading: CallReading,
+}
+
+/// Whether a call of this method may read much.
+pub fn reads_much(method: Method) -> bool {
+    matches!(method, Method::GetTree | Method::Execute)
+}
+
+/// Begins to read what a call needs, before its request is at its end: that brings this message, or
+/// none besides the one that came. Where its method does not read much there is nothing to read.
 /// This reads no text.
 pub fn begin_reading(
     alloc: Global,
     settings: &Settings,
+    results: &Results,
     pool: &Pool,
     call: &Call,
+    last: Option<&[u8]>,
 ) -> Result<Option<CallReading>, AllocError>
     ensures { (visible : List Blob) → IfOk result (λ begun. IfSome begun (IsRead visible)) }
 {
-    let Progress::Has(message) = call.progress() else {
-        return Ok(None);
+    let message = match (call.progress(), last) {
+        (Progress::Waits, Some(message)) => message,
+        (Progress::Has(message), None) => message.as_slice(),
+        _ => return Ok(None),
     };
     match call.method() {
         Method::GetTree => {
@@ -72,8 +102,29 @@ pub fn begin_reading(
                 None => Ok(None),
             }
         }
+        Method::Execute => Ok(begin_inputs(alloc, settings, results, message)),
         _ => Ok(None),
     }
+}
+
+/// Begins to read the inputs of the action that an `Execute` asks for, unless it may be answered by
+/// a result, or is refused.
+fn begin_inputs(
+    alloc: Global,
+    settings: &Settings,
+    results: &Results,
+    message: &[u8],
+) -> Option<CallReading>
+    ensures { (visible : List Blob) → IfSome result (IsRead visible) }
+{
+    if settings.slots == 0 {
+        return None;
+    }
+    let asked = execute_asked(alloc, &settings.name, message).ok()?;
+    if !asked.skips_lookup && results.get(&asked.action).is_some() {
+        return None;
+    }
+    Some(CallReading::Inputs(ExecuteReading::Asked(asked.action)))
 }
 
 /// What was read of the list of a tree.
@@ -83,6 +134,17 @@ pub fn tree_of(read: Option<CallReading>) -> Option<TreeReading>
 {
     match read {
         Some(CallReading::Tree(tree)) => Some(tree),
-        None => None,
+        _ => None,
+    }
+}
+
+/// What was read of the inputs of an action.
+pub fn inputs_of(read: Option<CallReading>) -> Option<WalkReading>
+    ensures { (visible : List Blob) → IfSome read (IsRead visible) →
+        IfSome result (Walks (texts_seen visible)) }
+{
+    match read {
+        Some(CallReading::Inputs(inputs)) => inputs.walk(),
+        _ => None,
     }
 }

@@ -1,9 +1,12 @@
 //! The calls in course.
 
-ghost use Rattle.std.specs.Prelude.{◌≡◌, ◌<◌, ◌^◌, ◌==◌, ◌++◌, ◌∷◌, not, [], Some, IsSome, filter, length, option_map, slice_get, IfOk, OnOk, OnErr};
+ghost use Rattle.std.specs.Prelude.{◌≡◌, ◌<◌, ◌^◌, ◌==◌, ◌++◌, ◌∷◌, ℕ, List, true, not, [], Some, IsSome, filter, length, option_map, slice_get, IfOk, OnOk, OnErr};
 ghost use Rattle.std.specs.List.{IsDistinct};
 ghost use Rattle.std.specs.Map.{keys_of};
 ghost use Rattle.std.specs.Option.{option_copied};
+ghost use Rattle.instance_core.specs.Answer.{message_answer};
+ghost use Rattle.instance_core.specs.Changes.{state_after_changes};
+ghost use Rattle.instance_core.specs.State.{InstanceState, seen};
 ghost use Rattle.instance_core.specs.Calls.{CallValue, call_at, same_call, with_call, without_call, watches, IsProgressOf, AreInCourse};
 ghost use Rattle.instance_core.specs.Watching.{calls_after_steps, calls_told, is_watcher, is_watching, watched_by, watched_numbers};
 ghost use Rattle.execution.specs.Ordered.{told_shown};
@@ -78,6 +81,21 @@ impl Call {
         ensures { progress_shown result.now ≡ self.now.progress }
     {
         &self.progress
+    }
+
+    /// Whether a message that comes for it leaves all texts as they are: it is no `Write`, or
+    /// watches a job.
+    #[tactic(auto, using(crate::proofs::Leaves::message_leaves))]
+    pub fn leaves_texts(&self) -> bool
+        ensures { result ≡ true → (s : InstanceState) (id : CallId) (bytes : List ℕ)
+            → let after = message_answer s id bytes (Some self.now) in
+            seen (state_after_changes after.changes s) ≡ seen s }
+    {
+        match self.progress() {
+            Progress::Waits => self.method != Method::Write,
+            Progress::Has(_) | Progress::Watches(_) => true,
+            Progress::Writes(_) => false,
+        }
     }
 
     /// Whether it watches the job of a number.

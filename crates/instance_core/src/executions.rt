@@ -1,10 +1,12 @@
 //! What `Execute` and `WaitExecution` are answered.
 
-ghost use Rattle.std.specs.Prelude.{◌≡◌, ◌+◌, ◌<◌, ◌≤◌, ◌^◌, ℕ, List};
+ghost use Rattle.std.specs.Prelude.{◌≡◌, ◌+◌, ◌<◌, ◌≤◌, ◌^◌, ◌++◌, ℕ, List, IfSome};
 ghost use Rattle.blob_pool.specs.Slots.{Slots, count_at};
 ghost use Rattle.rpc.specs.declared.method.Method.TheVariants.{Execute, WaitExecution};
 ghost use Rattle.instance_view.specs.Shown.{visible_in, holders};
+ghost use Rattle.actions.specs.WalkReadings.{Reads};
 ghost use Rattle.instance_view.specs.Visible.{Blob};
+ghost use Rattle.tree_calls.specs.GetTree.{texts_seen};
 ghost use Rattle.instance_core.specs.Contents.{AreContentsInPool};
 ghost use Rattle.instance_core.specs.Carries.{Carries, contents_holders, executed_so, waited_so};
 
@@ -12,7 +14,10 @@ use crate::answer::Answer;
 use crate::contents::{Contents, Settings};
 use blob_pool::Pool;
 use cas_service::CallError;
-use execution::{ExecuteAnswer, WaitAnswer, execute, execute_asked, name_asked, wait};
+use actions::WalkReading;
+use execution::{
+    ExecuteAnswer, ExecuteCall, WaitAnswer, execute, execute_asked, name_asked, wait,
+};
 use instance_view::View;
 use std::alloc::Global;
 
@@ -37,16 +42,18 @@ fn wait_answer(answer: WaitAnswer) -> Answer
 }
 
 /// Answers an `Execute`: by the Operation of an execution that is done, or by that of a job that
-/// waits, which others follow.
+/// waits, which others follow. A walk through the inputs that is over is not made again.
 pub fn start_execution(
-    alloc: Global,
     settings: &Settings,
     contents: &mut Contents,
     parent: &View,
     pool: &mut Pool,
     message: &[u8],
+    read: Option<WalkReading>,
 ) -> Result<Answer, CallError>
     requires kept { AreContentsInPool settings.now pool.old contents.old }
+    requires reads { IfSome read (Reads (texts_seen
+        (visible_in pool.old contents.old.view ++ visible_in pool.old parent.now))) }
     requires beside { (k : ℕ) → contents_holders contents.old k + holders parent.now k
         ≤ count_at pool.old k }
     requires room { (k : ℕ) → count_at pool.old k + 2 ^ 64 < 2 ^ 127 }
@@ -54,6 +61,7 @@ pub fn start_execution(
     ensures carried { Carries Execute settings.now (visible_in pool.old parent.now) message.now
         pool.old contents.old result pool.new contents.new }
 {
+    let alloc = settings.alloc;
     let asked = execute_asked(alloc, &settings.name, message)?;
     let answer = execute(
         alloc,
@@ -62,7 +70,7 @@ pub fn start_execution(
         parent,
         pool,
         &mut contents.executions,
-        &asked,
+        ExecuteCall { asked, read },
     )?;
     Ok(execute_answer(answer))
 }

@@ -1,6 +1,6 @@
 //! One instance: its settings, what it keeps, and the calls in course.
 
-ghost use Rattle.std.specs.Prelude.{◌≡◌, ◌≤◌, ◌+◌, ◌^◌, ℕ, List, [], is_some, length, map, option_map, OnOk, OnErr, IfOk, IfSome};
+ghost use Rattle.std.specs.Prelude.{◌≡◌, ◌≤◌, ◌+◌, ◌^◌, ℕ, List, [], true, is_some, length, map, option_map, OnOk, OnErr, IfOk, IfSome};
 ghost use Rattle.std.specs.List.{AllByRecursion};
 ghost use Rattle.blob_pool.specs.Slots.{Slots, count_at};
 ghost use Rattle.blob_pool.specs.Moves.{Moves};
@@ -28,7 +28,7 @@ ghost use Rattle.instance_core.specs.Watching.{watched_numbers};
 ghost use Rattle.quota_evict.specs.Within.{most_stored_bytes};
 
 use crate::answers::{on_end, on_fault, on_head, on_message};
-use crate::call_reading::{CallReading, begin_reading};
+use crate::call_reading::{CallReading, begin_reading, reads_much};
 use crate::calls::Calls;
 use crate::contents::{Contents, InstanceSizes, Settings};
 use crate::counts::CallCounts;
@@ -280,19 +280,45 @@ impl Instance {
         }
     }
 
-    /// Begins to read what a call needs whose request is at its end, where its method may read
-    /// much. This reads no text.
+    /// Whether a call in course may read much once its request is at its end; `None` where there is
+    /// no such call. It is a hint.
+    pub fn reads_much(&self, id: CallId) -> Option<bool> {
+        Some(reads_much(self.calls.find(id)?.method()))
+    }
+
+    /// Begins to read what a call needs, before its request is at its end: that brings this
+    /// message, or none besides the one that came. This reads no text.
     pub fn begin_reading(
         &self,
         alloc: Global,
         pool: &Pool,
         id: CallId,
+        last: Option<&[u8]>,
     ) -> Result<Option<CallReading>, AllocError>
         ensures { (visible : List Blob) → IfOk result (λ begun. IfSome begun (IsRead visible)) }
     {
         match self.calls.find(id) {
-            Some(call) => begin_reading(alloc, &self.settings, pool, call),
+            Some(call) => {
+                let results = &self.contents.results;
+                begin_reading(alloc, &self.settings, results, pool, call, last)
+            }
             None => Ok(None),
+        }
+    }
+
+    /// Whether it is known of an event that it leaves all texts as they are: it is a message of a
+    /// call that is no `Write`, or of none in course.
+    pub fn leaves_texts(&self, event: &CallEvent) -> bool
+        ensures { result ≡ true → (p : Slots) (parent : List Blob)
+            → let s = seeing parent (state_in p self.now) in
+            seen (state_after s (event_shown event.now)) ≡ seen s }
+    {
+        let CallEvent::Message(id, _) = event else {
+            return false;
+        };
+        match self.calls.find(*id) {
+            Some(call) => call.leaves_texts(),
+            None => true,
         }
     }
 

@@ -11,7 +11,7 @@ ghost use Rattle.instance_core.specs.Carries.{Carries, CarriesTexts, contents_ho
 ghost use Rattle.instance_core.specs.Readings.{IsRead};
 
 use crate::answer::{Answer, one_message};
-use crate::call_reading::{CallReading, tree_of};
+use crate::call_reading::{CallReading, inputs_of, tree_of};
 use crate::capabilities::get_capabilities;
 use crate::contents::{Contents, Settings};
 use crate::executions::{start_execution, watch_execution};
@@ -172,7 +172,10 @@ pub fn carry_out(
         Method::GetCapabilities => tell_capabilities(alloc, settings, contents, message),
         Method::Read => read_range(alloc, settings, contents, parent, pool, message),
         Method::QueryWriteStatus => tell_status(alloc, settings, contents, message),
-        Method::Execute => start_execution(alloc, settings, contents, parent, pool, message),
+        Method::Execute => {
+            let read = inputs_of(read);
+            start_execution(settings, contents, parent, pool, message, read)
+        }
         Method::WaitExecution => watch_execution(alloc, contents, message),
         Method::Write => unreachable!(),
     }

@@ -147,6 +147,10 @@ impl<S: Sockets> Sockets for LoggedSockets<S> {
         self.sockets.may_read(socket)
     }
 
+    fn peek(&self, socket: Socket, room: &mut [u8]) -> io::Result<usize> {
+        self.sockets.peek(socket, room)
+    }
+
     fn accept(&mut self, socket: Socket) -> io::Result<()>
         ensures adds { Adds (logged self.old.log) (logged self.new.log)
             (accept_events socket result) }

@@ -719,3 +719,18 @@ recounted configs (Some s) (Some r) server m counts at = record {
   all = at.all;
   moment = at.moment;
 }
+
+-- ---- what a server keeps beside its value
+
+pub same_server : (configs : List ConfigValue) (sockets : Option (List SocketEvent)) (runs : Option (List RunEvent)) (a b : Counting) (m : ℕ) →
+    b.server ≡ a.server → b.cut ≡ a.cut → IsServing configs sockets runs a m → IsServing configs sockets runs b m
+same_server configs None runs a b m server cut at = tt
+same_server configs (Some s) None a b m server cut at = tt
+same_server configs (Some s) (Some r) a b m server cut at = record {
+  h = at.h;
+  together = at.together;
+  counted = subst (IsCount (cuts at.h)) (sym cut) at.counted;
+  parents = subst (HasParents configs) (sym server) at.parents;
+  all = subst (λ (v : ServerState). AllServing configs at.h v.instances) (sym server) at.all;
+  moment = at.moment;
+}

@@ -118,6 +118,12 @@ fn most_passed(count: usize, is_busy: bool, is_due: bool) -> usize
     if is_busy || is_due { count } else { 0 }
 }
 
+/// Whether a run is asked now that does this: nothing is to come of it while what is read for a call
+/// needs the texts of its instance as they are.
+fn takes(counting: &Counting, pace: &mut Pace, run: RunKey, doing: Doing) -> bool {
+    !counting.server.waits(run.instance) && pace.takes(run.instance, doing)
+}
+
 /// The same where it is asked now.
 fn ask_if<R: Runs, E: Write>(
     counting: &mut Counting,
@@ -170,7 +176,7 @@ fn ask_ended<S: Sockets, R: Runs, E: Write>(
             continue;
         };
         pace.leave_out(sockets.passed());
-        let is_asked = pace.takes(run.instance, Doing::Goes);
+        let is_asked = takes(counting, pace, run, Doing::Goes);
         let is_told = ask_if(counting, configs, runs, errors, moment, run, is_asked);
         pace.note_told(is_told);
         if is_asked && pace.note_asked(sockets, sockets.passed(), run.instance) {
@@ -215,7 +221,7 @@ pub(crate) fn ask_all<S: Sockets, R: Runs, E: Write>(
         let Some(run) = runs.next() else {
             break;
         };
-        let is_asked = pace.takes(run.instance, doing);
+        let is_asked = takes(counting, pace, run, doing);
         let is_told = ask_if(counting, configs, runs, errors, moment, run, is_asked);
         pace.note_told(is_told);
         if is_asked && pace.note_asked(sockets, sockets.passed(), run.instance) {

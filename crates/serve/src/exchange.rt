@@ -100,6 +100,86 @@ fn has_room(room: &mut Vec<u8>, size: usize) -> bool
     room.extend_from_slice(&BLANK[room.len()..size]).is_ok()
 }
 
+/// How many steps of what a call reads are taken in a turn at most.
+const MOST_STEPS: usize = 65_536;
+
+/// How much is taken now of what waits on a connection.
+#[derive(Clone, Copy, Debug)]
+struct Taking {
+    count: usize,
+    /// Whether something waits behind that, which is not taken yet.
+    is_cut: bool,
+}
+
+/// How much is taken now of what waits on a connection, where there is room for so much. Where a
+/// call of its instance may read much it is looked at before: nothing is taken of a request's end
+/// while that is read which its call needs, which goes on until the clock shows this.
+fn taking_of<S: Sockets>(
+    server: &mut Server,
+    sockets: &S,
+    socket: Socket,
+    room: &mut Vec<u8>,
+    until: u64,
+) -> Taking
+    requires room { 0 < length room.old.items }
+    ensures most { result.count ≤ length room.new.items }
+    ensures room { length room.new.items ≡ length room.old.items }
+    ensures same { server.new ≡ server.old }
+{
+    let all = Taking {
+        count: room.len(),
+        is_cut: false,
+    };
+    if !server.may_read_much(socket.instance) {
+        return all;
+    }
+    match sockets.peek(socket, room) {
+        Ok(shown) if shown > 0 => {
+            let count = taken_of(server, sockets, socket, &room[..shown], until);
+            Taking {
+                count,
+                is_cut: count < shown,
+            }
+        }
+        // Nor is the end of a connection, where another call's reading would begin anew.
+        Ok(_) if server.waits(socket.instance) => Taking {
+            count: 0,
+            is_cut: true,
+        },
+        _ => all,
+    }
+}
+
+/// How many of the bytes are taken now that wait on a connection: none, while that is read which a
+/// call needs whose request they end. That goes on until the clock shows this.
+fn taken_of<S: Sockets>(
+    server: &mut Server,
+    sockets: &S,
+    socket: Socket,
+    shown: &[u8],
+    until: u64,
+) -> usize
+    ensures most { result ≤ length shown.now }
+    ensures same { server.new ≡ server.old }
+{
+    let count = server.ready(socket.instance, socket.connection, shown);
+    if count > 0 {
+        return count;
+    }
+    for _ in 0..MOST_STEPS {
+        if sockets.passed() >= until {
+            break;
+        }
+        match server.read_on(socket.instance) {
+            Ok(true) => {}
+            Ok(false) => return server.ready(socket.instance, socket.connection, shown),
+            // The call reads for itself.
+            Err(_) => return shown.len(),
+        }
+    }
+    0
+}
+
 /// Tells the server the bytes that came, as many as there is room for.
 fn receive<S: Sockets, R: Runs>(
     alloc: Global,
@@ -140,7 +220,8 @@ fn receive<S: Sockets, R: Runs>(
 
 /// The same piece by piece, as long as they take little time: some frames are short, and each piece
 /// that is told has few. The room is made before anything is read: where memory is refused for it,
-/// the bytes wait at the socket.
+/// the bytes wait at the socket. So does the end of a request while that is read which its call
+/// needs, and whatever might change that: this counts as if it had moved.
 fn receive_all<S: Sockets, R: Runs>(
     alloc: Global,
     counting: &mut Counting,
@@ -176,12 +257,18 @@ fn receive_all<S: Sockets, R: Runs>(
         if !has_room(room, limit) {
             break;
         }
+        let server = &mut counting.server;
+        let taking = taking_of(server, sockets, opened.socket, room, rooms.until);
+        if taking.count == 0 {
+            return Tried::Moved;
+        }
+        room.truncate(taking.count);
         match receive(alloc, counting, sockets, runs, moment, opened, room) {
             Tried::Moved => tried = Tried::Moved,
             Tried::NotReady => break,
             Tried::Over => return Tried::Over,
         }
-        let is_all = opened.received().saturating_sub(before) < room.len() as u64;
+        let is_all = !taking.is_cut && opened.received().saturating_sub(before) < limit as u64;
         if is_all || opened.received() >= end || sockets.passed() >= rooms.until {
             break;
         }

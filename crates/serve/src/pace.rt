@@ -247,8 +247,17 @@ impl Pace {
         }
     }
 
-    /// Chooses the heavy instance whose turn it is, if it is that of one.
-    pub(crate) fn choose(&mut self) {
+    /// Whether an instance is one of the heavy ones, and does not rest.
+    fn is_ready(&self, instance: u32) -> bool {
+        match self.shares.get(instance as usize) {
+            Some(share) => share.is_heavy && !self.rests(instance),
+            None => false,
+        }
+    }
+
+    /// Chooses the heavy instance whose turn it is, if it is that of one. This one goes before others,
+    /// if any: its parent waits for it.
+    pub(crate) fn choose(&mut self, first: Option<u32>) {
         self.runs_first = !self.runs_first;
         // Mostly all are quick.
         if !self.has_heavy {
@@ -271,6 +280,11 @@ impl Pace {
         }
         if self.is_held(least) {
             chosen = None;
+        }
+        if let Some(number) = first {
+            if self.is_ready(number) {
+                chosen = first;
+            }
         }
         self.chosen = chosen;
         self.is_passed_over = self.passes_over();

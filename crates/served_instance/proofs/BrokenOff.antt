@@ -1,7 +1,7 @@
 -- An event was refused for want of memory, and what that breaks off is gone: what is left is what
 -- the definitions say.
 use Rattle.std.proofs.Common.{◌≡◌, refl, sym, ap, ◌∙◌, subst}
-use Rattle.std.specs.Prelude.{ℕ, Bool, true, false, cond, ◌==◌, List, [], ◌∷◌, map, Result, Ok, Err, OnErr}
+use Rattle.std.specs.Prelude.{ℕ, Bool, true, false, cond, ◌==◌, List, [], ◌∷◌, map, Result, Ok, Err, OnOk, OnErr}
 use Rattle.grpc_sending.proofs.Histories.{append-nil}
 use Rattle.grpc_sending.specs.StoredSending.{SourceTexts}
 use Rattle.blob_pool.specs.Slots.{text_at}
@@ -35,6 +35,10 @@ pub given_short : {T E : Type 0} (r : Result T E) (what : CallEventValue) (s t :
 given_short (Ok x) what s t e = tt
 given_short (Err x) what s t e =
     record { made = (answer s what).changes; left = []; front = sym (append-nil (answer s what).changes); so_far = e }
+
+pub ok_given : {T E A : Type 0} (r : Result T E) → A → OnOk r A
+ok_given (Ok x) a = a
+ok_given (Err x) a = tt
 
 pub on_err : {T E A : Type 0} (r : Result T E) → A → OnErr r A
 on_err (Ok x) a = tt

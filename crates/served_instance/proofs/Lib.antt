@@ -31,8 +31,7 @@ mod Cut
 mod Answered
 mod CutEvents
 mod BrokenOff
-mod Halts
-mod InCourse
+mod Texts
 pub mod Losses
 mod RoomLeft
 pub mod JobChanges

@@ -3,7 +3,7 @@ use Rattle.std.proofs.Common.{◌≡◌, ◌≤◌, ◌∙◌, ℕ, List, length
 use Rattle.std.proofs.lemmas.List.{length-map}
 use Rattle.blob_pool.specs.Slots.{Slots, text_at, count_at}
 use Rattle.conn_core.specs.Past.{with_pumped}
-use Rattle.instance_core.specs.Slots.{InstanceSlots}
+use Rattle.instance_core.specs.Slots.{InstanceSlots, state_in}
 use Rattle.served_instance.specs.declared.open_connection.OpenConnection.{OpenConnection}
 use Rattle.served_instance.specs.Connections.{LoneConnection, open_ones, at_all_open}
 use Rattle.served_instance.specs.Lone.{LoneInstance, after_pump}
@@ -24,6 +24,7 @@ pub record IsPumped (p q : Slots) (i : InstanceSlots) (os ns : List OpenConnecti
   pub stands : (l : LoneInstance) → StandsIn p (slots_of i os) l → StandsIn q (slots_of i ns) (after_pump l)
   pub tidy : AreTidy (map connection_shown ns)
   pub kept : IsServedInPool q (slots_of i ns)
+  pub same : state_in q i ≡ state_in p i
 
 -- the connections put all that can be put, and released what no range is left of
 pub record PumpsAll (p q : Slots) (os ns : List OpenConnection) : Type 0 where
@@ -47,6 +48,7 @@ is_pumped p q i os ns kept pumped = record {
   kept = release_keeps p q i i (map connection_shown os) (map connection_shown ns) kept pumped.releases (λ k. refl)
       (instance_after p q i (map connection_shown os) (map connection_shown ns) kept pumped.releases)
       (omega (arith, pumped.count, few_connections p (slots_of i os) kept, length-map os connection_shown, length-map ns connection_shown));
+  same = same_state p q i (map connection_shown os) (map connection_shown ns) kept pumped.releases;
 }
 
 -- through a slice: os were seen as xs, which became ns, and are zs now

@@ -3,7 +3,7 @@ use Rattle.std.proofs.Common.{◌≡◌, refl, sym, ap, ◌∙◌, subst, zero, 
 use Rattle.std.proofs.Math.ListN.{set}
 use Rattle.std.proofs.lemmas.Bool.Decides.{nat_tests}
 use Rattle.std.proofs.lemmas.List.{take_all}
-use Rattle.std.specs.Prelude.{ℕ, Bool, true, false, cond, if◌then◌else◌, ◌==◌, List, [], ◌∷◌, ◌++◌, map, length, position, Some}
+use Rattle.std.specs.Prelude.{ℕ, true, cond, ◌==◌, List, [], ◌∷◌, ◌++◌, map, length, position, Some}
 use Rattle.blob_pool.specs.Slots.{Slots, text_at, count_at}
 use Rattle.blob_pool.specs.Moves.{Moves, no_holders, one_at}
 use Rattle.blob_pool.proofs.Moves.{moves_none}
@@ -12,7 +12,6 @@ use Rattle.grpc_sending.specs.Sources.{count_of, sources_held}
 use Rattle.grpc_sending.specs.StoredSending.{SourceTexts, StoredSending, QueuesEndWithin, KeepsSources, sources_of}
 use Rattle.conn_core.specs.StandsFor.{ConnectionValue, Becomes}
 use Rattle.served_instance.specs.Connections.{LoneConnection}
-use Rattle.served_instance.specs.Cuts.{others_of}
 use Rattle.served_instance.specs.declared.open_connection.OpenConnection.{OpenConnection}
 use Rattle.served_instance.specs.StandsFor.{ServedConnection, AreServed}
 use Rattle.served_instance.specs.Ranges.{AllKeepRanges, IsTidy, AreTidy, Releases, sources_at, range_holders}
@@ -261,36 +260,6 @@ set_stands texts [] ls i d w lt h s = absurd (omega arith)
 set_stands texts (o ∷ os) [] i d w lt h s = absurd s
 set_stands texts (o ∷ os) (l ∷ ls) zero d w lt h s = (s.0, h texts l.past s.1, s.2)
 set_stands texts (o ∷ os) (l ∷ ls) (suc i) d w lt h s = (s.0, s.1, set_stands texts os ls i d w (omega arith) h s.2)
-
-others_by : (texts : SourceTexts) (b : Bool) (o : OpenConnection) (os xs ns ys : List OpenConnection) (ls : List LoneConnection) →
-    (AreServed texts (map connection_shown os) ls → AreServed texts (map connection_shown xs) ls) →
-    ((ks : List LoneConnection) → AreServed texts (map connection_shown ns) ks → AreServed texts (map connection_shown ys) ks) →
-    AreServed texts (map connection_shown (if b then os else o ∷ ns)) ls →
-    AreServed texts (map connection_shown (if b then xs else o ∷ ys)) ls
-others_by texts true o os xs ns ys ls whole part s = whole s
-others_by texts false o os xs ns ys [] whole part s = absurd s
-others_by texts false o os xs ns ys (l ∷ ls) whole part s = (s.0, s.1, part ls s.2)
-
-first_by : (texts : SourceTexts) (b : Bool) (o : OpenConnection) (w : ConnectionValue) (os ns : List OpenConnection)
-    (ls : List LoneConnection) → Becomes o.connection (λ p. p) w →
-    AreServed texts (map connection_shown (if b then os else o ∷ ns)) ls →
-    AreServed texts (map connection_shown (if b then os else record { number = o.number; connection = w } ∷ ns)) ls
-first_by texts true o w os ns ls h s = s
-first_by texts false o w os ns [] h s = absurd s
-first_by texts false o w os ns (l ∷ ls) h s = (s.0, h texts l.past s.1, s.2)
-
--- without one of a number
-pub set_others : (texts : SourceTexts) (c : ℕ) (os : List OpenConnection) (ls : List LoneConnection) (i : ℕ) (d : OpenConnection)
-    (w : ConnectionValue) → i < length os → Becomes (get_or os i d).connection (λ p. p) w →
-    AreServed texts (map connection_shown (others_of c os)) ls →
-    AreServed texts
-    (map connection_shown (others_of c (set os i (record { number = (get_or os i d).number; connection = w })))) ls
-set_others texts c [] ls i d w lt h s = absurd (omega arith)
-set_others texts c (o ∷ os) ls zero d w lt h s = first_by texts (o.number == c) o w os (others_of c os) ls h s
-set_others texts c (o ∷ os) ls (suc i) d w lt h s =
-    let xs = set os i (record { number = (get_or os i d).number; connection = w }) in
-    others_by texts (o.number == c) o os xs (others_of c os) (others_of c xs) ls (λ t. set_stands texts os ls i d w (omega arith) h t)
-    (λ ks t. set_others texts c os ks i d w (omega arith) h t) s
 
 -- those behind which no source waits are tidy, one after another
 pub tidy_more : (os : List OpenConnection) (i : ℕ) (d : OpenConnection) (w : ConnectionValue) → i < length os →

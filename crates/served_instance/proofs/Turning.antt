@@ -36,10 +36,7 @@ use Rattle.server_events.specs.Events.{received, tick, ended}
 use Rattle.served_instance.specs.declared.open_connection.OpenConnection.{OpenConnection}
 use Rattle.served_instance.specs.Acts.{ActsIn, FindAlike, IsDone, LentStands, StandsBy}
 use Rattle.served_instance.specs.Connections.{LoneConnection, open_ones}
-use Rattle.served_instance.specs.Courses.{FinishCut, FinishesOrHalts, StartsJobs, left_behind}
-use Rattle.instance_core.specs.declared.event.CallId.{CallId}
-use Rattle.served_instance.specs.declared.courses.Reached.TheVariants.{Ended}
-use Rattle.served_instance.specs.Cuts.{CutsShort, IsCut, KeepsApart}
+use Rattle.served_instance.specs.Cuts.{IsCut, KeepsApart}
 use Rattle.served_instance.specs.Events.{bytes_events}
 use Rattle.served_instance.specs.Lent.{LentValue, GoesOn, IsKept, IsLent, lent_slots, lent_state}
 use Rattle.served_instance.specs.Lone.{LoneInstance, after_bytes_on, after_call_event}
@@ -234,36 +231,6 @@ starts_done (Ok orders) c bytes a b d turn h ready t gives done same =
           ∙ ap (λ (t : InstanceState). map Some (orders_at t start_jobs)) came.state;
     }
 
--- whatever the bytes were
-pub starts_stand : {E : Type 0} (x : Result (Vec Order Global) E) (c : ℕ) (b d : LentValue) (turn : Turn) → IsLent b →
-    (let s = state_in b.pool b.instance in
-    IsReady b.pool s start_jobs (replies_on c (answer s start_jobs).replies) turn) → TakesTurn turn b d →
-    OnOk x (AreGiven turn.replies.items b.connections d.connections) →
-    OnOk x (state_in d.pool d.instance ≡ state_after_change (Settles (steps_shown turn.steps.items)) (state_in b.pool b.instance)) →
-    IfOk x (λ orders. orders ≡ turn.orders) → IfOk x (StartsJobs c b d)
-starts_stand (Err e) c b d turn lent ready t gives done same = tt
-starts_stand (Ok orders) c b d turn lent ready t gives done same = record {
-  stands = λ bytes l jobs rest came.
-      let s = state_in b.pool b.instance in
-      let m = after_bytes_on c bytes l in
-      let all : map (reply_shown b.pool) turn.replies.items ≡ (answer m.state start_jobs).replies =
-      ready.replies ∙ ap (λ (t : InstanceState). replies_on c (answer t start_jobs).replies) came.state
-      ∙ told_alone c bytes l jobs rest in
-      let own : state_in d.pool d.instance ≡ state_after s start_jobs =
-      done ∙ ap (λ (ys : List StepValue). state_after_change (Settles ys) s) ready.steps in
-      let after : lent_state d ≡ state_after m.state start_jobs =
-      beside_at b d (state_after s start_jobs) t.parent t.moves lent own
-      ∙ seeing_after (visible_in b.pool b.parent) s start_jobs refl
-      ∙ ap (λ (t : InstanceState). state_after t start_jobs) came.state in
-      turns start_jobs d.parent b.pool d.pool d.instance b.connections d.connections turn.replies.items m came.connections gives
-      t.texts all after;
-  are_those = λ bytes l came.
-      let s = state_in b.pool b.instance in
-      orders_are s start_jobs (steps_shown turn.steps.items) (state_in d.pool d.instance).jobs turn.orders orders same ready.orders
-      ready.steps (ap (λ (t : InstanceState). t.jobs) done)
-      ∙ ap (λ (t : InstanceState). map Some (orders_at t start_jobs)) came.state;
-}
-
 pub starts_cut : (c : ℕ) (bytes : List ℕ) (a b d : LentValue) → HaveCome c bytes a b → GoesOn b d → KeepsApart c a d →
     state_in d.pool d.instance ≡ state_in b.pool b.instance → IsCut (received c bytes) a d
 starts_cut c bytes a b d h goes apart same = record {
@@ -275,35 +242,6 @@ starts_cut c bytes a b d h goes apart same = record {
   others = apart.others;
   finds = apart.finds;
 }
-
--- the bytes came, and the jobs started
-pub whole_done : (c : ℕ) (bytes : List ℕ) (a b d : LentValue) (orders : Vec Order Global) → HaveCome c bytes a b → StartsJobs c b d orders →
-    IsDone (received c bytes) a d orders
-whole_done c bytes a b d orders h starts = record {
-  acts = λ l rest st.
-      let first : IsInstanceWithin l.state = subst IsInstanceWithin st.state (within_seeing a h.lent) in
-      starts.stands bytes l first.jobs rest (h.acts l st);
-  orders = λ l st. starts.are_those bytes l (h.acts l st);
-}
-
--- what was left of an event was done, and the jobs started
-pub finish_done : (id : CallId) (a b d : LentValue) (orders : Vec Order Global) →
-    ActsIn a b (left_behind id.connection id).makes → StartsJobs id.connection b d orders → FinishesOrHalts id a d (Ended orders)
-finish_done id a b d orders acts starts = λ bytes l k jobs rest st left.
-    let m : LentStands b (after_bytes_on id.connection bytes l) = subst (λ (x : LoneInstance). LentStands b x) left.makes (acts k st) in
-    (starts.stands bytes l jobs rest m, starts.are_those bytes l m)
-
-pub finish_cut : (id : CallId) (a b : LentValue) → CutsShort a b (left_behind id.connection id).brings → FinishCut id a b
-finish_cut id a b cut = λ bytes l k st left. left.cuts (lent_state b) (cut k st)
-
-pub finish_unstarted : (id : CallId) (a b d : LentValue) → IsLent b → ActsIn a b (left_behind id.connection id).makes → GoesOn b d →
-    state_in d.pool d.instance ≡ state_in b.pool b.instance → FinishCut id a d
-finish_unstarted id a b d lent acts goes same = λ bytes l k st left.
-    let c = id.connection in
-    let m : LentStands b (after_bytes_on c bytes l) = subst (λ (x : LoneInstance). LentStands b x) left.makes (acts k st) in
-    let still : lent_state d ≡ (after_bytes_on c bytes l).state =
-    beside_at b d (state_in b.pool b.instance) goes.parent goes.moves lent same ∙ m.state in
-    subst (λ (s : InstanceState). IsCutShort (bytes_events c bytes l) l.state s) (sym still) (all_done c bytes l)
 
 pub starts_within : {T E : Type 0} (x : Result T E) (s t : InstanceState) (ss : List StepValue) → IsInstanceWithin s →
     ss ≡ steps_at s start_jobs → OnOk x (t ≡ state_after_change (Settles ss) s) → OnErr x (t ≡ s) → IsInstanceWithin t

@@ -67,3 +67,7 @@ pub record LetsGo (a b : LentValue) : Type 0 where
       b.pool (map connection_shown b.connections)
   pub holders : (k : ℕ) → holders_of_instance b.instance k ≡ holders_of_instance a.instance k
   pub kept : (p : Slots) → IsInstanceInPool p a.instance → IsInstanceInPool p b.instance
+
+-- its own texts are those that they were
+abbrev pub SeesAlike : LentValue → LentValue → Type 0
+SeesAlike a b = (lent_state b).visible ≡ (lent_state a).visible

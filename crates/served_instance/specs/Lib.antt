@@ -19,7 +19,7 @@ pub mod Losses
 pub mod Room
 pub mod Cuts
 pub mod Turns
-pub mod Courses
+pub mod Ahead
 pub use Rattle.conn_core.specs.Writing
 pub use Rattle.conn_core.specs.History
 pub use Rattle.grpc_sending.specs.Bytes

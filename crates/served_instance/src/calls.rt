@@ -1,11 +1,12 @@
 //! What happens to the calls on an instance's connections.
 
-ghost use Rattle.std.specs.Prelude.{◌≡◌, ◌<◌, ◌≤◌, ℕ, List, [], false, IsTrue, IfOk, OnOk, OnErr, length, map};
+ghost use Rattle.std.specs.Prelude.{◌≡◌, ◌<◌, ◌≤◌, ℕ, List, [], false, IsTrue, IfOk, IfSome, OnOk, OnErr, length, map};
 ghost use Rattle.instance_core.specs.Calls.{IsShortEvent};
 ghost use Rattle.instance_core.specs.Apart.{calls_apart, IsCallOn};
 ghost use Rattle.instance_core.specs.Shown.{event_shown};
 ghost use Rattle.instance_core.specs.Visible.{Blob};
-ghost use Rattle.instance_core.specs.Readings.{BringsRead};
+ghost use Rattle.instance_core.specs.Answer.{state_after};
+ghost use Rattle.instance_core.specs.Readings.{BringsRead, IsReadAhead};
 ghost use Rattle.instance_core.specs.State.{seeing, seen};
 ghost use Rattle.instance_core.specs.Slots.{state_in, holders_of_instance, IsInstanceInPool};
 ghost use Rattle.blob_pool.specs.Slots.{Slots, count_at};
@@ -27,17 +28,19 @@ use crate::release::release_spent;
 use crate::replies::{call_event_on, give_all};
 use blob_pool::Pool;
 use conn_core::Connection;
-use instance_core::{CallEvent, CallId, Instance};
+use instance_core::{CallEvent, CallId, Instance, ReadAhead};
 use std::alloc::AllocError;
 
 impl<'a> Lent<'a> {
     /// Something happens to a call: the instance answers.
-    pub(crate) fn happen(&mut self, event: CallEvent) -> Result<(), AllocError>
+    fn happen(&mut self, event: CallEvent) -> Result<(), AllocError>
         requires short { IsShortEvent (event_shown event) }
         requires lent { IsLent (lent_value self.old) }
         requires read { BringsRead (seen (lent_state (lent_value self.old))) event }
         ensures happened { OnOk result (ActsIn (lent_value self.old) (lent_value self.new)
             (after_call_event (event_shown event))) }
+        ensures state { OnOk result (lent_state (lent_value self.new)
+            ≡ state_after (lent_state (lent_value self.old)) (event_shown event)) }
         ensures rest { OnOk result (Keeps self.old.connections.now.items
             self.new.connections.now.items) }
         ensures memory { OnErr result (IsMadeInPart (event_shown event)
@@ -52,10 +55,41 @@ impl<'a> Lent<'a> {
         give_all(self.pool, self.connections, replies)
     }
 
-    /// What is due on the connection, which stands at this place, happens.
-    fn give_due(&mut self, place: usize, number: u32) -> Result<(), AllocError>
+    /// The event of a call, with what was read for it, where its request ends. What was read is kept
+    /// for what comes behind the event, where that leaves all texts as they are.
+    fn with_read(&self, event: CallEvent, read: &mut Option<ReadAhead>) -> CallEvent
+        requires read { IfSome read.old (IsReadAhead (seen (lent_state (lent_value self.now)))) }
+        requires unread { BringsRead (seen (lent_state (lent_value self.now))) event }
+        ensures brings { BringsRead (seen (lent_state (lent_value self.now))) result }
+        ensures event { event_shown result ≡ event_shown event }
+        ensures kept { IfSome read.new (IsReadAhead
+            (seen (state_after (lent_state (lent_value self.now)) (event_shown event)))) }
+    {
+        let Some(ahead) = read.take() else {
+            return event;
+        };
+        if let CallEvent::End(call, None) = &event {
+            if *call == ahead.call {
+                return CallEvent::End(*call, Some(ahead.reading));
+            }
+        }
+        if self.instance.leaves_texts(&event) {
+            *read = Some(ahead);
+        }
+        event
+    }
+
+    /// What is due on the connection, which stands at this place, happens. This was read before for
+    /// one of its calls, if any.
+    fn give_due(
+        &mut self,
+        place: usize,
+        number: u32,
+        read: Option<ReadAhead>,
+    ) -> Result<(), AllocError>
         requires there { IsPlaceOf number place self.old.connections.now.items }
         requires lent { IsLent (lent_value self.old) }
+        requires read { IfSome read (IsReadAhead (seen (lent_state (lent_value self.old)))) }
         ensures due { OnOk result (ActsIn (lent_value self.old) (lent_value self.new)
             (after_due_on number)) }
         ensures unread { OnOk result (unread_at number self.new.connections.now.items
@@ -65,18 +99,26 @@ impl<'a> Lent<'a> {
         ensures went { GoesApart number (lent_value self.old) (lent_value self.new) }
         ensures same { IsSameLoan self.old self.new }
     {
+        let mut left = read;
         'events: while let Some(event) = pop_event(self.connections, place) {
             let event = call_event_on(number, event);
+            let event = self.with_read(event, &mut left);
             self.happen(event)?;
         }
         Ok(())
     }
 
     /// Reads the next whole frame of the connection, if there is one, and gives the instance what
-    /// it brings to calls.
-    fn read_next(&mut self, place: usize, number: u32) -> Result<bool, AllocError>
+    /// it brings to calls. This was read before for one of them, if any.
+    fn read_next(
+        &mut self,
+        place: usize,
+        number: u32,
+        read: Option<ReadAhead>,
+    ) -> Result<bool, AllocError>
         requires there { IsPlaceOf number place self.old.connections.now.items }
         requires lent { IsLent (lent_value self.old) }
+        requires read { IfSome read (IsReadAhead (seen (lent_state (lent_value self.old)))) }
         ensures reads { OnOk result (LeadsIn (lent_value self.old) (lent_value self.new)
             (after_rest_on number) (after_rest_on number)) }
         ensures ends { IfOk result (λ more. more ≡ false → ActsIn
@@ -92,7 +134,7 @@ impl<'a> Lent<'a> {
         ensures same { IsSameLoan self.old self.new }
     {
         if read_frame(self.connections, place)? {
-            self.give_due(place, number)?;
+            self.give_due(place, number, read)?;
             Ok(true)
         } else {
             Ok(false)
@@ -100,15 +142,17 @@ impl<'a> Lent<'a> {
     }
 
     /// Reads all whole frames, and gives the instance what each brings to calls before the next is
-    /// read.
+    /// read. This was read before for a call of the first, if any.
     pub(crate) fn receive(
         &mut self,
         place: usize,
         number: u32,
         bytes: Vec<u8>,
+        read: Option<ReadAhead>,
     ) -> Result<(), AllocError>
         requires there { IsPlaceOf number place self.old.connections.now.items }
         requires lent { IsLent (lent_value self.old) }
+        requires read { IfSome read (IsReadAhead (seen (lent_state (lent_value self.old)))) }
         ensures came { OnOk result (ActsIn (lent_value self.old) (lent_value self.new)
             (after_bytes_on number bytes.items)) }
         ensures memory { OnErr result (CutsShort (lent_value self.old) (lent_value self.new)
@@ -117,7 +161,8 @@ impl<'a> Lent<'a> {
         ensures same { IsSameLoan self.old self.new }
     {
         feed(self.connections, place, bytes)?;
-        'frames: while self.read_next(place, number)? {}
+        let mut left = read;
+        'frames: while self.read_next(place, number, left.take())? {}
         Ok(())
     }
 

@@ -1,6 +1,6 @@
 //! One instance and its connections.
 
-ghost use Rattle.std.specs.Prelude.{◌≡◌, ◌≢◌, ◌≤◌, ◌<◌, ◌^◌, ℕ, List, [], None, length, map, Option, option_map, string_bytes, IfSome, IfOk, OnOk, OnErr, IfErr, Err};
+ghost use Rattle.std.specs.Prelude.{◌≡◌, ◌≢◌, ◌≤◌, ◌<◌, ◌^◌, ◌++◌, ℕ, List, [], None, length, map, Option, option_map, string_bytes, IfSome, IfOk, OnOk, OnErr, IfErr, Err};
 ghost use Rattle.std.specs.Result.{result_err};
 ghost use Rattle.server_events.specs.LimitsShown.{limits_value};
 ghost use Rattle.server_events.specs.Shown.{event_value, what_value};
@@ -15,7 +15,8 @@ ghost use Rattle.served_instance.specs.StandsFor.{IsServedInstance, IsServedWith
 ghost use Rattle.served_instance.specs.Present.{IsPlaceFor, IsPlaceOf, refusal_by, refusal_by_what, refusal_to_open, unless_present, unless_running, refusal_to_take};
 ghost use Rattle.served_instance.specs.Short.{IsServedShort};
 ghost use Rattle.served_instance.specs.Cuts.{IsCut, LosesBroken};
-ghost use Rattle.served_instance.specs.Lent.{GoesOn, IsKept, IsLent, IsSameLoan, lent_value};
+ghost use Rattle.served_instance.specs.Ahead.{KeepsTexts};
+ghost use Rattle.served_instance.specs.Lent.{GoesOn, IsKept, IsLent, IsSameLoan, SeesAlike, lent_state, lent_value};
 ghost use Rattle.served_instance.specs.Shown.{connection_shown};
 ghost use Rattle.served_instance.specs.Acts.{Acts, IsDone, HoldAlike, slots_of};
 ghost use Rattle.grpc_sending.specs.StoredSending.{SourceTexts};
@@ -24,7 +25,8 @@ ghost use Rattle.execution.specs.InPool.{task_in};
 ghost use Rattle.execution.specs.Orders.{task_of};
 ghost use Rattle.instance_core.specs.Turns.{AreOrders};
 ghost use Rattle.served_instance.specs.Ranges.{AreTidy, HaveFewSources, RangesEndWithin, Releases, range_holders, sources_at};
-ghost use Rattle.instance_core.specs.State.{InstanceState};
+ghost use Rattle.instance_core.specs.Readings.{IsReadAhead};
+ghost use Rattle.instance_core.specs.State.{InstanceState, seen};
 ghost use Rattle.instance_core.specs.Slots.{state_in, holders_of_instance, IsInstanceInPool};
 ghost use Rattle.instance_core.specs.InstanceViewShown.{visible_in};
 ghost use Rattle.served_instance.specs.Slots.{served_state_in, holders_of, StandsIn, IsServedInPool, IsServedBeside, HasConnections};
@@ -32,6 +34,8 @@ ghost use Rattle.blob_pool.specs.Slots.{Slots, text_at, count_at};
 ghost use Rattle.blob_pool.specs.Moves.{Moves, no_holders};
 ghost use Rattle.blob_pool.specs.Alone.{bytes_alone, holders_at};
 ghost use Rattle.instance_core.specs.Within.{most_stored_bytes};
+
+mod ahead;
 
 use crate::broken::Broken;
 use crate::held::range_sources;
@@ -43,12 +47,14 @@ use crate::release::release_all;
 use blob_pool::Pool;
 use conn_core::Connection;
 use http2_frames::ErrorCode;
-use instance_core::{Instance, Order, Task};
+use instance_core::{Instance, Order, ReadAhead, Task};
 use instance_view::View;
 use keyed_maps::MapKey;
 use server_events::{Event, InstanceConfig, What};
 use std::alloc::{AllocError, Global};
 use std::marker::Model;
+
+pub use ahead::Ahead;
 
 /// The most connections that an instance has open at a time.
 pub const CONNECTION_LIMIT: usize = 64;
@@ -151,16 +157,20 @@ impl ServedInstance {
     /// that can be put on open connections is put. It gives the orders to whoever runs jobs. Where
     /// memory is refused a part of it was done, as `Short` says, and the event's connection is
     /// gone, or all are; the instance goes on from there. The texts of `parent` are read too, and
-    /// stay.
+    /// stay. What was read before for a call whose request ends with the first frame, if anything,
+    /// is not read again.
     pub fn step(
         &mut self,
         parent: &View,
         pool: &mut Pool,
         event: Event,
+        read: Option<ReadAhead>,
     ) -> Result<Vec<Order>, EventRefusal>
         requires kept { IsServedInPool pool.old self.old }
         requires beside { IsServedBeside pool.old parent.now self.old }
         requires tidy { AreTidy self.old.connections }
+        requires read { IfSome read (IsReadAhead
+            (visible_in pool.old self.old.instance.view ++ visible_in pool.old parent.now)) }
         ensures outcome { (l : LoneInstance) →
             IsServedInstance (served_state_in pool.old self.old) l
             → IsRefusalOutcome result (refusal_of (event_value event).lone l) }
@@ -188,6 +198,10 @@ impl ServedInstance {
             (lone_orders (visible_in pool.old parent.now) (event_value event).lone l)) }
         // No source is held of a range that is over.
         ensures tidy { AreTidy self.new.connections }
+        // Where time goes on, or bytes are taken, its texts stay as they are.
+        ensures texts { KeepsTexts (event_value event).lone.what
+            → visible_in pool.new self.new.instance.view
+            ≡ visible_in pool.old self.old.instance.view }
         ensures moves { Moves pool.old pool.new (holders_of self.old) (holders_of self.new) }
         ensures kept { IsServedInPool pool.new self.new }
     {
@@ -204,7 +218,7 @@ impl ServedInstance {
             instance: &mut self.instance,
             connections: &mut self.connections,
         };
-        match lent.act(place, event.what) {
+        match lent.act(place, event.what, read) {
             Err(_) => {
                 lent.break_off_by(broken);
                 Err(EventRefusal::NoMemory)
@@ -295,6 +309,7 @@ impl ServedInstance {
     /// Puts all that can be put, on each open connection, and releases what no range is left of.
     fn pump(&mut self, pool: &mut Pool)
         requires { IsServedInPool pool.old self.old }
+        ensures same { state_in pool.new self.new.instance ≡ state_in pool.old self.old.instance }
         ensures stands { (l : LoneInstance) → StandsIn pool.old self.old l
             → StandsIn pool.new self.new (after_pump l) }
         ensures tidy { AreTidy self.new.connections }
@@ -333,15 +348,24 @@ fn accept(
 }
 
 impl<'a> Lent<'a> {
-    /// Does what the event asks for. The connection that it is about stands at this place.
-    fn act(&mut self, place: usize, what: What) -> Result<Vec<Order>, AllocError>
+    /// Does what the event asks for. The connection that it is about stands at this place. This was
+    /// read before for a call of the first frame, if any.
+    fn act(
+        &mut self,
+        place: usize,
+        what: What,
+        read: Option<ReadAhead>,
+    ) -> Result<Vec<Order>, AllocError>
         requires place { IsPlaceFor (what_value what) place self.old.connections.now.items }
         requires accepted { refusal_by_what (what_value what) self.old.instance.now.jobs
             (map connection_shown self.old.connections.now.items)
             ≡ None }
         requires lent { IsLent (lent_value self.old) }
+        requires read { IfSome read (IsReadAhead (seen (lent_state (lent_value self.old)))) }
         ensures done { IfOk result (IsDone (what_value what)
             (lent_value self.old) (lent_value self.new)) }
+        ensures texts { KeepsTexts (what_value what)
+            → SeesAlike (lent_value self.old) (lent_value self.new) }
         ensures memory_free { OnErr result (NeedsNoMemory (what_value what) → ⊥) }
         ensures cut { OnErr result (IsCut (what_value what)
             (lent_value self.old) (lent_value self.new)) }
@@ -358,7 +382,7 @@ impl<'a> Lent<'a> {
                 )?;
                 Ok(Vec::new(self.alloc))
             }
-            What::Bytes(number, bytes) => self.receive_and_start(place, number, bytes),
+            What::Bytes(number, bytes) => self.receive_and_start(place, number, bytes, read),
             What::Took(_, count) => {
                 take(self.connections, place, count as usize);
                 Ok(Vec::new(self.alloc))

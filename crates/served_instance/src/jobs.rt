@@ -1,21 +1,23 @@
 //! What happens to an instance's jobs at the end of an event.
 
-ghost use Rattle.std.specs.Prelude.{◌≡◌, ℕ, IfOk, OnOk, OnErr, map};
+ghost use Rattle.std.specs.Prelude.{◌≡◌, ℕ, IfOk, IfSome, OnOk, OnErr, map};
 ghost use Rattle.std.specs.List.{AllByRecursion};
 ghost use Rattle.blob_pool.specs.Slots.{Slots};
 ghost use Rattle.grpc_sending.specs.StoredSending.{SourceTexts};
 ghost use Rattle.run_calls.specs.Shown.{outcome_shown};
 ghost use Rattle.execution.specs.Taking.{CanTake, steps_shown};
 ghost use Rattle.instance_core.specs.Changes.{Settles, state_after_change};
+ghost use Rattle.instance_core.specs.Readings.{IsReadAhead};
 ghost use Rattle.instance_core.specs.ReplyHolders.{replies_holders};
 ghost use Rattle.instance_core.specs.Replies.{IsShortReply};
 ghost use Rattle.instance_core.specs.Shown.{reply_shown};
 ghost use Rattle.instance_core.specs.Slots.{state_in};
+ghost use Rattle.instance_core.specs.State.{seen};
 ghost use Rattle.server_events.specs.Events.{received, tick, ended};
 ghost use Rattle.served_instance.specs.Acts.{IsDone};
 ghost use Rattle.served_instance.specs.Connections.{open_ones};
 ghost use Rattle.served_instance.specs.Cuts.{IsCut};
-ghost use Rattle.served_instance.specs.Lent.{GoesOn, IsKept, IsLent, IsSameLoan, lent_value};
+ghost use Rattle.served_instance.specs.Lent.{GoesOn, IsKept, IsLent, IsSameLoan, SeesAlike, lent_state, lent_value};
 ghost use Rattle.served_instance.specs.Lone.{LoneInstance, after_replies};
 ghost use Rattle.served_instance.specs.OwedReplies.{reply_by};
 ghost use Rattle.served_instance.specs.Present.{IsPlaceOf};
@@ -25,14 +27,14 @@ ghost use Rattle.served_instance.specs.Turns.{TakesTurn};
 
 use crate::lent::Lent;
 use crate::replies::give_all;
-use instance_core::{Order, Turn};
+use instance_core::{Order, ReadAhead, Turn};
 use server_events::Outcome;
 use std::alloc::AllocError;
 
 impl<'a> Lent<'a> {
     /// Carries out what was made ready: the replies are owed, and then all steps are taken, which
     /// takes no memory. For want of memory no step is taken.
-    pub(crate) fn settle(&mut self, turn: Turn) -> Result<Vec<Order>, AllocError>
+    fn settle(&mut self, turn: Turn) -> Result<Vec<Order>, AllocError>
         requires short { (p : Slots)
             → AllByRecursion IsShortReply (map (reply_shown p) turn.replies.items) }
         requires given { (k : ℕ) → replies_holders turn.replies.items k ≡ 0 }
@@ -65,15 +67,17 @@ impl<'a> Lent<'a> {
     }
 
     /// Bytes come on the connection at this place, and then the jobs start for which there is a
-    /// slot.
+    /// slot. This was read before for a call of the first frame, if any.
     pub(crate) fn receive_and_start(
         &mut self,
         place: usize,
         number: u32,
         bytes: Vec<u8>,
+        read: Option<ReadAhead>,
     ) -> Result<Vec<Order>, AllocError>
         requires there { IsPlaceOf number place self.old.connections.now.items }
         requires lent { IsLent (lent_value self.old) }
+        requires read { IfSome read (IsReadAhead (seen (lent_state (lent_value self.old)))) }
         ensures done { IfOk result (IsDone (received number bytes.items)
             (lent_value self.old) (lent_value self.new)) }
         ensures cut { OnErr result (IsCut (received number bytes.items)
@@ -81,7 +85,7 @@ impl<'a> Lent<'a> {
         ensures goes { GoesOn (lent_value self.old) (lent_value self.new) }
         ensures same { IsSameLoan self.old self.new }
     {
-        self.receive(place, number, bytes)?;
+        self.receive(place, number, bytes, read)?;
         let turn = self.instance.ready_starts(self.alloc, number)?;
         self.settle(turn)
     }
@@ -92,6 +96,7 @@ impl<'a> Lent<'a> {
         requires lent { IsLent (lent_value self.old) }
         ensures done { IfOk result (IsDone tick (lent_value self.old) (lent_value self.new)) }
         ensures cut { OnErr result (IsCut tick (lent_value self.old) (lent_value self.new)) }
+        ensures texts { SeesAlike (lent_value self.old) (lent_value self.new) }
         ensures goes { GoesOn (lent_value self.old) (lent_value self.new) }
         ensures same { IsSameLoan self.old self.new }
     {

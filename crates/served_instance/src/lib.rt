@@ -4,7 +4,6 @@
 
 mod broken;
 mod calls;
-mod courses;
 mod held;
 mod instance;
 mod jobs;
@@ -18,8 +17,8 @@ mod release;
 mod replies;
 
 pub use broken::Broken;
-pub use instance::{CONNECTION_LIMIT, ServedInstance};
-pub use instance_core::{Order, Step, Task};
+pub use instance::{Ahead, CONNECTION_LIMIT, ServedInstance};
+pub use instance_core::{CallId, Order, ReadAhead, Step, Task};
 pub use laws::{
     want_of_memory_keeps_jobs, want_of_memory_loses_blobs_for_room, want_of_memory_loses_by_rules,
 };

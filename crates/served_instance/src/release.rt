@@ -8,7 +8,6 @@ ghost use Rattle.grpc_sending.specs.SortedQueues.{AreSorted};
 ghost use Rattle.grpc_sending.specs.Sources.{count_of};
 ghost use Rattle.conn_core.specs.StandsFor.{Becomes};
 ghost use Rattle.served_instance.specs.Connections.{LoneConnection};
-ghost use Rattle.served_instance.specs.Cuts.{others_of};
 ghost use Rattle.served_instance.specs.Ranges.{AreTidy, Releases, range_holders};
 ghost use Rattle.served_instance.specs.Shown.{connection_shown};
 ghost use Rattle.served_instance.specs.StandsFor.{AreServed};
@@ -41,9 +40,6 @@ pub(crate) fn release_all(pool: &mut Pool, connections: &mut [OpenConnection])
     ensures stands { (texts : SourceTexts) (ls : List LoneConnection)
         → AreServed texts (map connection_shown connections.old) ls
         → AreServed texts (map connection_shown connections.new) ls }
-    ensures others { (texts : SourceTexts) (c : ℕ) (ls : List LoneConnection)
-        → AreServed texts (map connection_shown (others_of c connections.old)) ls
-        → AreServed texts (map connection_shown (others_of c connections.new)) ls }
     ensures tidy { AreTidy (map connection_shown connections.new) }
     ensures releases { Releases pool.old (map connection_shown connections.old)
         pool.new (map connection_shown connections.new) }

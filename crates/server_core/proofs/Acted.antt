@@ -7,7 +7,7 @@ use Rattle.std.specs.declared.alloc.Global.{Global}
 use Rattle.std.specs.declared.vec.Vec.{Vec}
 use Rattle.std.proofs.lemmas.Bool.Decides.{nat_tests}
 use Rattle.std.proofs.lemmas.List.{length-set}
-use Rattle.std.proofs.lemmas.Option.{slice_get-get_or}
+use Rattle.std.proofs.lemmas.Option.{slice_get-get_or, slice_get_within}
 use Rattle.std.proofs.lemmas.Result.{on_ok_weaker, IfOk-weaker}
 use Rattle.blob_pool.specs.Slots.{Slots}
 use Rattle.execution.specs.declared.orders.Order.{Order}
@@ -16,6 +16,7 @@ use Rattle.instance_view.specs.Shown.{ViewValue, ViewEntry, blobs_in, visible_in
 use Rattle.server_events.specs.Events.{LoneEvent}
 use Rattle.served_instance.specs.declared.refusal.EventRefusal.{EventRefusal}
 use Rattle.served_instance.specs.declared.refusal.EventRefusal.TheVariants.{NoMemory}
+use Rattle.served_instance.specs.Ahead.{KeepsTexts}
 use Rattle.served_instance.specs.Lone.{LoneInstance}
 use Rattle.served_instance.specs.Refusals.{refusal_of, lone_step, lone_orders, IsRefusalOutcome}
 use Rattle.served_instance.specs.Slots.{ServedSlots, served_state_in, IsServedBeside}
@@ -25,6 +26,7 @@ use Rattle.server_core.specs.Marked.{StandsShortAt}
 use Rattle.server_core.specs.Parents.{AreParentsOf, parent_at, texts_at, texts_of_one, parent_texts}
 use Rattle.server_core.specs.Shared.{all_in, IsServer}
 use Rattle.server_core.specs.StandsFor.{ServerState, OrdersStand, StandsAt, instance_at}
+use Rattle.server_core.proofs.Lists.{get-set_same}
 use Rattle.server_core.proofs.Others.{here, pair_le, within_at, others_after, server_after, stands_here, stands_after, orders_after, refused_after}
 
 -- ---- what is read
@@ -90,6 +92,12 @@ module _ (p q : Slots) (parent : List Blob) (xs ys : List ServedSlots) (n : ℕ)
       subst (λ (zs : List ServedSlots). OrdersStand n (all_in q zs) orders (lone_orders parent e l)) (sym h.is)
       (orders_after q xs n h.before h.after orders (lone_orders parent e l) h.at (given l (stood l s))))
       h.acted.orders
+
+  pub acted_texts : KeepsTexts e.what → texts_at n (all_in q ys) ≡ texts_at n (all_in p xs)
+  acted_texts keeps =
+      let there = subst (λ (zs : List ServedSlots). slice_get zs n ≡ Some h.after) (sym h.is)
+      (get-set_same xs n h.after (slice_get_within xs n h.before h.at)) in
+      texts_are q ys n h.after there ∙ h.acted.texts keeps ∙ sym (texts_are p xs n h.before h.at)
 
   pub acted_others : IsServer p xs → (j : ℕ) → j ≢ n → instance_at j (all_in q ys) ≡ instance_at j (all_in p xs)
   acted_others s j ne = subst (λ (zs : List ServedSlots). instance_at j (all_in q zs) ≡ instance_at j (all_in p xs)) (sym h.is)

@@ -17,3 +17,4 @@ mod Families
 mod Runs
 mod Marks
 mod SameTasks
+mod StillRead

@@ -8,10 +8,12 @@ use Rattle.blob_pool.specs.Moves.{Moves}
 use Rattle.execution.specs.declared.orders.Order.{Order}
 use Rattle.instance_core.specs.Slots.{state_in}
 use Rattle.instance_core.specs.Turns.{AreOrders}
+use Rattle.instance_core.specs.InstanceViewShown.{visible_in}
 use Rattle.instance_core.specs.Visible.{Blob}
 use Rattle.server_events.specs.Events.{LoneEvent}
 use Rattle.served_instance.specs.declared.refusal.EventRefusal.{EventRefusal}
 use Rattle.served_instance.specs.declared.refusal.EventRefusal.TheVariants.{NoMemory, NoSuchInstance}
+use Rattle.served_instance.specs.Ahead.{KeepsTexts}
 use Rattle.served_instance.specs.Lone.{LoneInstance}
 use Rattle.served_instance.specs.Ranges.{AreTidy}
 use Rattle.served_instance.specs.Refusals.{NeedsNoMemory, refusal_of, lone_step, lone_orders, IsRefusalOutcome}
@@ -38,6 +40,7 @@ pub record IsActed (p : Slots) (parent : List Blob) (a : ServedSlots) (q : Slots
   pub orders : IfOk result (λ orders. (l : LoneInstance)
       → IsServedInstance (served_state_in p a) l
       → AreOrders (state_in q b.instance).jobs orders.items (lone_orders parent e l))
+  pub texts : KeepsTexts e.what → visible_in q b.instance.view ≡ visible_in p a.instance.view
   pub moves : Moves p q (holders_of a) (holders_of b)
   pub kept : IsServedInPool q b
   pub tidy : AreTidy b.connections

@@ -14,6 +14,7 @@ pub mod Lent
 pub mod Shared
 pub mod Stored
 pub mod Acted
+pub mod Readings
 pub mod Pooled
 pub use Rattle.served_instance.specs.declared.refusal.EventRefusal
 pub use Rattle.served_instance.specs.Codes

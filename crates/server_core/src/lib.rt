@@ -5,6 +5,7 @@
 mod laws;
 mod orders;
 mod outputs;
+mod readings;
 mod record;
 mod server;
 mod whole_run;

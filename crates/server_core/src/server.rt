@@ -1,6 +1,6 @@
 //! The server, event by event.
 
-ghost use Rattle.std.specs.Prelude.{◌≡◌, ◌≢◌, ◌<◌, ◌≤◌, ◌↔◌, ℕ, List, [], length, Option, option_map, Some, None, IfSome, IfOk, IfErr, OnOk, Err};
+ghost use Rattle.std.specs.Prelude.{◌≡◌, ◌≢◌, ◌<◌, ◌≤◌, ◌↔◌, ◌++◌, ℕ, List, [], length, Option, option_map, Some, None, IfSome, IfOk, IfErr, OnOk, Err};
 ghost use Rattle.std.specs.List.{AllByRecursion, flat_map};
 ghost use Rattle.server_events.specs.Configs.{ConfigValue, parents_of};
 ghost use Rattle.server_events.specs.Faults.{AreParents};
@@ -15,11 +15,15 @@ ghost use Rattle.execution.specs.Orders.{task_of};
 ghost use Rattle.served_instance.specs.StandsFor.{ServedState};
 ghost use Rattle.served_instance.specs.Refusals.{NeedsNoMemory, refusal_of, lone_step, lone_orders, IsRefusalOutcome};
 ghost use Rattle.served_instance.specs.StandsFor.{IsServedWithin, AreSettled};
+ghost use Rattle.instance_core.specs.InstanceViewShown.{visible_in};
+ghost use Rattle.instance_core.specs.Readings.{IsReadAhead};
+ghost use Rattle.served_instance.specs.Ahead.{KeepsTexts};
 ghost use Rattle.served_instance.specs.Slots.{served_state_in};
 ghost use Rattle.server_core.specs.Acted.{HasActed};
 ghost use Rattle.server_core.specs.Lent.{lent_shown};
 ghost use Rattle.server_core.specs.LoneOutput.{config_at};
 ghost use Rattle.server_core.specs.Parents.{AreParentsOf, parent_at, texts_at, texts_of_one, parent_texts};
+ghost use Rattle.server_core.specs.Readings.{AreRead, seen_at};
 ghost use Rattle.server_core.specs.Shared.{all_in, IsServer};
 ghost use Rattle.server_core.specs.StandsFor.{AllStand, OrdersStand, StandsAt, instance_at};
 ghost use Rattle.server_core.specs.Marked.{StandsShortAt};
@@ -28,13 +32,18 @@ ghost use Rattle.server_core.specs.Pooled.{IsPoolOf};
 ghost use Rattle.blob_pool.specs.Slots.{Slots, text_at};
 ghost use Rattle.served_instance.specs.Ranges.{RangesEndWithin};
 
+use crate::readings::Readings;
 use blob_pool::Pool;
+use instance_view::View;
 use keyed_maps::MapKey;
-use served_instance::{EventRefusal, Order, ServedInstance, Task};
+use served_instance::{Ahead, EventRefusal, Order, ReadAhead, ServedInstance, Task};
 use server_events::{Configs, Event, InstanceConfig, Limits};
 use std::alloc::{AllocError, Global};
 use std::marker::Model;
 use std::mem::swap;
+
+/// So many bytes of texts are read in one piece: that takes some milliseconds at most.
+const MUCH: u64 = 65_536;
 
 /// The task of a job that runs, and the pool in which its texts lie.
 #[derive(Clone, Copy)]
@@ -65,6 +74,8 @@ pub struct Server {
     instances: Vec<ServedInstance>,
     /// The number of each one's parent, if it has one.
     parents: Vec<Option<usize>>,
+    /// What is read for a call of each before its request is at its end. Nothing else depends on it.
+    readings: Readings,
 }
 
 // Written out, so that each exit of a function that owns it has one call in place of one for each
@@ -76,17 +87,20 @@ impl Drop for Server {
             spare,
             instances,
             parents,
+            readings,
         } = self;
         drop(pool);
         drop(spare);
         drop(instances);
         drop(parents);
+        drop(readings);
     }
 }
 
 impl Model for Server {
     ghost use Rattle.std.specs.Prelude.{◌≡◌, [], length};
     ghost use Rattle.server_core.specs.Parents.{AreParentsOf};
+    ghost use Rattle.server_core.specs.Readings.{AreRead};
     ghost use Rattle.server_core.specs.Shared.{all_in, IsServer};
     ghost use Rattle.server_core.specs.StandsFor.{ServerState};
 
@@ -97,7 +111,10 @@ impl Model for Server {
 
     ghost invariant = { λ s. IsServer s.pool s.instances.items
         × (s.spare.instance.view.entries ≡ [])
-        × AreParentsOf (length s.instances.items) s.parents.items };
+        × AreParentsOf (length s.instances.items) s.parents.items
+        × (length s.readings ≡ length s.instances.items)
+        × AreRead (record { instances = all_in s.pool s.instances.items;
+        parents = s.parents.items }) s.readings };
 }
 
 impl Server {
@@ -121,18 +138,21 @@ impl Server {
             let served = ServedInstance::new(alloc, key, config)?;
             instances.push(served)?;
         }
+        let readings = Readings::new(alloc, instances.len())?;
         Ok(Server {
             pool,
             spare,
             instances,
             parents,
+            readings,
         })
     }
 
     /// Takes an event. It is refused for the first reason that stands, and then nothing is changed;
     /// or its instance does what it would do by itself beside the texts that its parent has, and
     /// gives the orders to whoever runs jobs; or memory is refused, and its instance did a part of
-    /// it (`Short`) and goes on from there. No other instance changes, its parent neither.
+    /// it (`Short`) and goes on from there. No other instance changes, its parent neither. What was
+    /// read ahead for a call that ends with the event's first frame is not read again.
     pub fn step(&mut self, event: Event) -> Result<Vec<Order>, EventRefusal>
         // The event's instance does what it would do by itself beside the texts of its parent,
         // which is nothing where it refuses.
@@ -173,13 +193,110 @@ impl Server {
         // Each instance builds on the one that it built on.
         ensures parents { self.new.parents ≡ self.old.parents }
     {
+        let read = self.readings.take_for(&self.parents, &event);
         step_one(
             &mut self.pool,
             &mut self.spare,
             &mut self.instances,
             &self.parents,
             event,
+            read,
         )
+    }
+
+    /// Whether a call of an instance may read much before it is answered, or what is read for
+    /// another call needs the instance's texts as they are: then it is to be asked how much is
+    /// `ready`.
+    pub fn may_read_much(&self, instance: u32) -> bool {
+        let number = instance as usize;
+        self.waits(instance) || self.seen_bytes(number) >= MUCH
+    }
+
+    /// How many bytes of texts an instance sees.
+    fn seen_bytes(&self, number: usize) -> u64 {
+        let own = match self.instances.get(number) {
+            Some(served) => served.view().total(),
+            None => 0,
+        };
+        let parent = match self.parents.get(number) {
+            Some(Some(place)) => match self.instances.get(*place) {
+                Some(parent) => parent.view().total(),
+                None => 0,
+            },
+            _ => 0,
+        };
+        own.saturating_add(parent)
+    }
+
+    /// Whether what is read for a call needs the texts of an instance as they are: nothing is to
+    /// happen meanwhile that changes them.
+    pub fn waits(&self, instance: u32) -> bool {
+        self.readings.need(&self.parents, instance as usize)
+    }
+
+    /// An instance for a call of which something is read and which builds on another one, if any:
+    /// that waits for it.
+    pub fn holds_its_parent(&self) -> Option<u32> {
+        self.readings.beside_a_parent(&self.parents)
+    }
+
+    /// How many of these bytes may be received now, which wait on a connection: those that stand
+    /// before a frame which ends the request of a call that reads much; or that frame, once it is
+    /// read; and none before, nor while what is read for another call needs the instance's texts.
+    /// Where memory is refused all may. Nothing is received by this, and what is read changes
+    /// nothing.
+    pub fn ready(&mut self, instance: u32, connection: u32, bytes: &[u8]) -> usize
+        ensures most { result ≤ length bytes.now }
+        ensures same { self.new ≡ self.old }
+    {
+        let number = instance as usize;
+        if let Some(ahead) = self.readings.get(number) {
+            if ahead.call.connection == connection && ahead.reading.is_over() {
+                return ahead.rest.min(bytes.len());
+            }
+        }
+        if self.waits(instance) {
+            return 0;
+        }
+        if number >= self.instances.len() {
+            return bytes.len();
+        }
+        let alloc = *self.instances.allocator();
+        match self.instances[number].look_ahead(alloc, &self.pool, connection, bytes) {
+            Ok(Ahead::Nothing(count)) => count.min(bytes.len()),
+            Ok(Ahead::Reads(ahead)) => {
+                self.readings.put(number, ahead);
+                0
+            }
+            Err(_) => bytes.len(),
+        }
+    }
+
+    /// Goes on with what is read for a call of an instance, by one step, and says whether it goes on
+    /// still. Where memory is refused it is let go of. It changes nothing.
+    pub fn read_on(&mut self, instance: u32) -> Result<bool, AllocError>
+        ensures same { self.new ≡ self.old }
+    {
+        let number = instance as usize;
+        let Some(ahead) = self.readings.take(number) else {
+            return Ok(false);
+        };
+        if ahead.reading.is_over() {
+            self.readings.put(number, ahead);
+            return Ok(false);
+        }
+        let alloc = *self.instances.allocator();
+        let ahead = read_one(
+            alloc,
+            &self.pool,
+            &self.spare,
+            &self.instances,
+            &self.parents,
+            number,
+            ahead,
+        )?;
+        self.readings.put(number, ahead);
+        Ok(true)
     }
 
     /// The bytes that were put on an open connection and not taken.
@@ -312,6 +429,47 @@ fn new_parents(alloc: Global, configs: &Configs) -> Result<Vec<Option<usize>>, A
     Ok(parents)
 }
 
+/// What an instance reads of its parent's; of the spare one where it has no parent.
+fn parent_view<'a>(
+    spare: &'a ServedInstance,
+    instances: &'a [ServedInstance],
+    parents: &[Option<usize>],
+    number: usize,
+) -> &'a View
+    requires parents { AreParentsOf (length instances.now) parents.now }
+    requires there { number < length instances.now }
+    requires spare { spare.now.instance.view.entries ≡ [] }
+    ensures { (p : Slots) → visible_in p result.now
+        ≡ texts_of_one (parent_at number parents.now) (all_in p instances.now) }
+{
+    match parents[number] {
+        Some(place) => instances[place].view(),
+        None => spare.view(),
+    }
+}
+
+/// Goes on with what is read for a call of the instance of a number, by one step.
+fn read_one(
+    alloc: Global,
+    pool: &Pool,
+    spare: &ServedInstance,
+    instances: &[ServedInstance],
+    parents: &[Option<usize>],
+    number: usize,
+    ahead: ReadAhead,
+) -> Result<ReadAhead, AllocError>
+    requires parents { AreParentsOf (length instances.now) parents.now }
+    requires there { number < length instances.now }
+    requires spare { spare.now.instance.view.entries ≡ [] }
+    requires read { IsReadAhead (seen_at number (record
+        { instances = all_in pool.now instances.now; parents = parents.now })) ahead }
+    ensures read { IfOk result (IsReadAhead (seen_at number (record
+        { instances = all_in pool.now instances.now; parents = parents.now }))) }
+{
+    let parent = parent_view(spare, instances, parents, number);
+    instances[number].read_on(alloc, parent, pool, ahead)
+}
+
 /// Gives the event to the instance that it names, which reads what its parent has.
 fn step_one(
     pool: &mut Pool,
@@ -319,10 +477,16 @@ fn step_one(
     instances: &mut [ServedInstance],
     parents: &[Option<usize>],
     event: Event,
+    read: Option<ReadAhead>,
 ) -> Result<Vec<Order>, EventRefusal>
     requires server { IsServer pool.old instances.old }
     requires parents { AreParentsOf (length instances.old) parents.now }
     requires spare { spare.old.instance.view.entries ≡ [] }
+    requires read { IfSome read (IsReadAhead (seen_at event.instance
+        (record { instances = all_in pool.old instances.old; parents = parents.now }))) }
+    ensures texts { KeepsTexts (event_value event).lone.what
+        → texts_at event.instance (all_in pool.new instances.new)
+        ≡ texts_at event.instance (all_in pool.old instances.old) }
     ensures own { result ≢ Err EventRefusal.NoMemory → (l : LoneInstance)
         → StandsAt event.instance (all_in pool.old instances.old) l
         → StandsAt event.instance (all_in pool.new instances.new)
@@ -362,7 +526,7 @@ fn step_one(
         return Err(EventRefusal::NoSuchInstance);
     }
     let parent = parents[number];
-    step_at(pool, spare, instances, number, parent, event)
+    step_at(pool, spare, instances, number, parent, event, read)
 }
 
 /// Gives the event to the instance of a number, which reads what its parent has, if it has one.
@@ -373,18 +537,21 @@ fn step_at(
     number: usize,
     parent: Option<usize>,
     event: Event,
+    read: Option<ReadAhead>,
 ) -> Result<Vec<Order>, EventRefusal>
     requires server { IsServer pool.old instances.old }
     requires there { number < length instances.old }
     requires parent { IfSome parent (λ p. (p < length instances.old) × (p ≢ number)) }
     requires spare { spare.old.instance.view.entries ≡ [] }
+    requires read { IfSome read (IsReadAhead (texts_at number (all_in pool.old instances.old)
+        ++ texts_of_one parent (all_in pool.old instances.old))) }
     ensures acted { HasActed pool.old (texts_of_one parent (all_in pool.old instances.old))
         instances.old pool.new instances.new number (event_value event).lone result }
     ensures spare { spare.new ≡ spare.old }
 {
     match parent {
-        None => instances[number].step(spare.view(), pool, event),
-        Some(place) => step_beside(pool, spare, instances, number, place, event),
+        None => instances[number].step(spare.view(), pool, event, read),
+        Some(place) => step_beside(pool, spare, instances, number, place, event, read),
     }
 }
 
@@ -397,18 +564,21 @@ fn step_beside(
     number: usize,
     place: usize,
     event: Event,
+    read: Option<ReadAhead>,
 ) -> Result<Vec<Order>, EventRefusal>
     requires server { IsServer pool.old instances.old }
     requires there { number < length instances.old }
     requires place { place < length instances.old }
     requires apart { place ≢ number }
+    requires read { IfSome read (IsReadAhead (texts_at number (all_in pool.old instances.old)
+        ++ texts_at place (all_in pool.old instances.old))) }
     ensures acted { HasActed pool.old (texts_at place (all_in pool.old instances.old))
         instances.old pool.new instances.new number (event_value event).lone result }
     ensures spare { spare.new ≡ spare.old }
 {
     swap(&mut instances[number], spare);
     let parent = instances[place].view();
-    let outcome = spare.step(parent, pool, event);
+    let outcome = spare.step(parent, pool, event, read);
     swap(&mut instances[number], spare);
     outcome
 }

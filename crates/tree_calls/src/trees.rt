@@ -12,7 +12,7 @@ ghost use Rattle.input_tree.specs.TreeReadings.{Reads};
 ghost use Rattle.tree_calls.specs.GetTree.{tree_refusal, texts_seen, get_tree_replies, get_tree_changes};
 ghost use Rattle.tree_calls.specs.TreeErrors.{tree_error};
 
-use crate::asking::tree_asked;
+use crate::asking::{TreeAsked, tree_asked};
 use blob_pool::Pool;
 use cas_service::CallError;
 use input_tree::{GetTreeError, PageAsked, TreeReading, TreeRefusal};
@@ -42,7 +42,19 @@ fn tree_error(error: GetTreeError) -> CallError
     }
 }
 
-/// Begins to list the tree that a request asks for, where it asks for one. This reads no text.
+/// The page that a request asks for.
+fn page_asked(asked: TreeAsked<'_>) -> PageAsked<'_>
+    ensures { result ≡ record
+        { root = asked.root; size = asked.page_size; token = asked.page_token } }
+{
+    PageAsked {
+        root: asked.root,
+        size: asked.page_size,
+        token: asked.page_token,
+    }
+}
+
+/// Begins to make what a request asks for, where it asks for a tree. This reads no text.
 pub fn begin_tree(
     alloc: Global,
     own: &str,
@@ -53,7 +65,11 @@ pub fn begin_tree(
         IfOk result (λ begun. IfSome begun (Reads (texts_seen visible))) }
 {
     match tree_asked(alloc, own, message) {
-        Ok(asked) => Ok(Some(TreeReading::begin(alloc, pool.key(), &asked.root, Work::new()))),
+        Ok(asked) => {
+            let work = Work::new();
+            let begun = TreeReading::begin(alloc, pool.key(), page_asked(asked), work)?;
+            Ok(Some(begun))
+        }
         Err(CallError::Refused(_)) => Ok(None),
         Err(CallError::NoMemory) => Err(AllocError),
     }
@@ -61,7 +77,7 @@ pub fn begin_tree(
 
 /// Answers `GetTree`: the pages of the root's tree, as messages in order, from the place that the
 /// token says on. Each directory of the list is then used, in order, where it is the instance's
-/// own. A refused call changes nothing. What was read of the list before is not read again.
+/// own. A refused call changes nothing. What was made before is not made again.
 ///
 /// After the message, the instance name, the digest function and the root's digest these are
 /// tested in this order: that the root is there (`NOT_FOUND`), that it is a directory that is taken
@@ -94,11 +110,7 @@ pub fn get_tree(
     ensures limit { view.new.limit ≡ view.old.limit }
 {
     let asked = tree_asked(alloc, own, message)?;
-    let page = PageAsked {
-        root: asked.root,
-        size: asked.page_size,
-        token: asked.page_token,
-    };
+    let page = page_asked(asked);
     let mut work = Work::new();
     match input_tree::get_tree(alloc, view, parent, pool, page, read, &mut work) {
         Ok(pages) => Ok(pages),

@@ -35,6 +35,12 @@ pub trait Wire: Drop {
         ensures adds { Adds (happened self.old) (happened self.new)
             (read_events result room.new) };
 
+    /// Shows the first of the bytes that came and were not taken, and says how many. Nothing is
+    /// taken by it, and no promise is made of what it shows.
+    fn peek(&self, room: &mut [u8]) -> io::Result<usize>
+        requires room { 0 < length room.old }
+        ensures bound { ReadsAtMost result room.new };
+
     /// Sends the first of these bytes, and says how many.
     fn write(&mut self, bytes: &[u8]) -> io::Result<usize>
         ensures bound { WritesAtMost result bytes.now }

@@ -209,6 +209,15 @@ impl<'a> Sockets for Fake<'a> {
         true
     }
 
+    /// All that a client has still to send waits.
+    fn peek(&self, socket: Socket, room: &mut [u8]) -> io::Result<usize> {
+        let place = self.place_of(socket)?;
+        let unsent = self.unsent(place);
+        let count = unsent.len().min(room.len());
+        room[..count].copy_from_slice(&unsent[..count]);
+        Ok(count)
+    }
+
     /// The server is never without a processor.
     fn processor(&self) -> ProcessorTime {
         ProcessorTime {

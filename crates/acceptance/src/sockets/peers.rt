@@ -78,6 +78,10 @@ impl<'a> Sockets for WithPeers<'a> {
         self.sockets.may_read(socket)
     }
 
+    fn peek(&self, socket: Socket, room: &mut [u8]) -> io::Result<usize> {
+        self.sockets.peek(socket, room)
+    }
+
     fn accept(&mut self, socket: Socket) -> io::Result<()> {
         self.sockets.accept(socket)
     }

@@ -33,7 +33,8 @@ impl Serving {
                 moved = true;
             }
         }
-        self.pace.choose();
+        let first = self.counting.server.holds_its_parent();
+        self.pace.choose(first);
         moved
     }
 

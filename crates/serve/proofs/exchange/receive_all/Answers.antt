@@ -1,5 +1,6 @@
-use Rattle.std.proofs.Common.{◌<◌, ◌∙◌, sym, subst, length}
+use Rattle.std.proofs.Common.{◌<◌, ◌∙◌, refl, sym, subst, length}
 use Rattle.serve.specs.declared.sockets.Socket.{Socket}
+use Rattle.serve.proofs.Keeps.{same_server}
 use Rattle.serve.proofs.exchange.receive_all.Goals as goal
 
 pub returns-in-Over-clause-stays : goal.returns-in-Over-clause-stays
@@ -24,7 +25,8 @@ pub loop-preserved : goal.loop-preserved
 loop-preserved g c = record {
   serving = λ configs lt at.
       c.receive.ensures.serving configs (subst (λ (s : Socket). s.instance < length configs) (sym c.loop.invariant.socket) lt)
-      (c.loop.invariant.serving configs lt at);
+      (same_server configs _ _ c.loop.counting (record c.loop.counting { server = c.taking_of-taking.new.server }) _
+      c.taking_of-taking.ensures.same refl (c.loop.invariant.serving configs lt at));
   stays = λ count before after next has.
       c.receive.ensures.stays count before after next (c.loop.invariant.stays count before after next has);
   no_fault = c.receive.ensures.no_fault ∙ c.loop.invariant.no_fault;

@@ -1,6 +1,6 @@
 use Rattle.std.proofs.Common.{map, arith, add-one}
 use Rattle.served_instance.specs.Shown.{connection_shown}
-use Rattle.served_instance.proofs.Releasing.{releases_trans, releases_at, spent_few, set_others, set_stands, tidy_more, tidy_all}
+use Rattle.served_instance.proofs.Releasing.{releases_trans, releases_at, spent_few, set_stands, tidy_more, tidy_all}
 use Rattle.served_instance.proofs.release.release_all.Goals as goal
 
 pub release_spent-requires : goal.release_spent-requires
@@ -23,8 +23,6 @@ loop-kept-preserved c =
     record {
       stands = λ texts ls s. set_stands texts ns ls i c.kept-item.result c.release_spent.new.connection
           (omega arith) c.release_spent.ensures.stands (c.loop-kept.invariant.stands texts ls s);
-      others = λ texts n ls s. set_others texts n ns ls i c.kept-item.result c.release_spent.new.connection
-          (omega arith) c.release_spent.ensures.stands (c.loop-kept.invariant.others texts n ls s);
       releases = releases_trans c.args.pool.now c.loop-kept.pool c.release_spent.new.pool (map connection_shown os)
           (map connection_shown ns) _ c.loop-kept.invariant.releases
           (releases_at c.loop-kept.pool c.release_spent.new.pool ns i c.kept-item.result c.release_spent.new.connection

@@ -1,7 +1,6 @@
-use Rattle.std.proofs.Common.{ℕ, List, map, take}
+use Rattle.std.proofs.Common.{List, map, take}
 use Rattle.grpc_sending.specs.StoredSending.{SourceTexts}
 use Rattle.served_instance.specs.Connections.{LoneConnection}
-use Rattle.served_instance.specs.Cuts.{others_of}
 use Rattle.served_instance.specs.Ranges.{AreTidy, Releases}
 use Rattle.served_instance.specs.Shown.{connection_shown}
 use Rattle.served_instance.specs.StandsFor.{AreServed}
@@ -11,9 +10,6 @@ abbrev pub invariant-loop-kept : goal.invariant-loop-kept
 invariant-loop-kept l = record {
   stands : (texts : SourceTexts) (ls : List LoneConnection) → AreServed texts (map connection_shown l.fn.connections) ls →
       AreServed texts (map connection_shown l.connections) ls;
-  others : (texts : SourceTexts) (c : ℕ) (ls : List LoneConnection) →
-      AreServed texts (map connection_shown (others_of c l.fn.connections)) ls →
-      AreServed texts (map connection_shown (others_of c l.connections)) ls;
   releases : Releases l.fn.pool (map connection_shown l.fn.connections) l.pool (map connection_shown l.connections);
   tidy : AreTidy (map connection_shown (take l.kept-index l.connections));
 }

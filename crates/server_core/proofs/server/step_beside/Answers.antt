@@ -1,6 +1,9 @@
 use Rattle.std.proofs.Common.{◌≡◌, ◌<◌, Some, length, get_or, set, set-set, sym, ap, subst, ◌∙◌, arith}
 use Rattle.std.proofs.lemmas.List.{length-set}
 use Rattle.std.proofs.lemmas.Option.{slice_get-get_or, same_Some}
+use Rattle.std.specs.Prelude.{◌++◌, IfSome, List}
+use Rattle.instance_core.specs.Readings.{IsReadAhead}
+use Rattle.instance_core.specs.Visible.{Blob}
 use Rattle.instance_view.specs.Shown.{ViewValue, visible_in}
 use Rattle.server_events.specs.Shown.{event_value}
 use Rattle.served_instance.specs.Slots.{IsServedBeside}
@@ -29,6 +32,13 @@ step-outcome-requires c =
       tidy = tidy_at p xs n x old c.requires.server;
       beside = subst (λ (v : ViewValue). IsServedBeside p v x) (sym c.view-parent.ensures)
           (beside_other p xs n m x (get_or ys m d) c.requires.apart old there c.requires.server);
+      read =
+          let vs = all_in p xs in
+          let theirs : visible_in p c.view-parent.result.now ≡ texts_at m vs =
+          ap (visible_in p) c.view-parent.ensures ∙ sym (texts_are p xs m (get_or ys m d) there) in
+          subst (λ (bs : List Blob). IfSome c.args.read (IsReadAhead (bs ++ visible_in p c.view-parent.result.now)))
+          (texts_are p xs n x old)
+          (subst (λ (bs : List Blob). IfSome c.args.read (IsReadAhead (texts_at n vs ++ bs))) (sym theirs) c.requires.read);
     }
 
 pub returns-clause-acted : goal.returns-clause-acted
@@ -66,6 +76,7 @@ returns-clause-acted c =
         orders = c.step-outcome.ensures.orders;
         moves = c.step-outcome.ensures.moves;
         kept = c.step-outcome.ensures.kept;
+        texts = c.step-outcome.ensures.texts;
         tidy = c.step-outcome.ensures.tidy;
       });
     }

@@ -8,5 +8,5 @@ returns c = record {
   reads = λ look.
       let root = ap (named_in_tree look) (sym c.begin.ensures.root) in
       let named = ap (length {A = Digest}) (c.begin.ensures.named look ∙ root) in
-      (c.begin.ensures.leads look, omega (arith, named));
+      (c.begin.ensures.root, c.begin.ensures.leads look, omega (arith, named));
 }

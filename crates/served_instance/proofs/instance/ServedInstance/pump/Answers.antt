@@ -1,6 +1,7 @@
 use Rattle.std.proofs.Common.{◌≤◌, List, map, sym, subst, arith, ap, ◌∙◌, length}
 use Rattle.std.proofs.lemmas.Grind.{common_steps}
 use Rattle.blob_pool.specs.Slots.{text_at, count_at}
+use Rattle.instance_core.specs.Slots.{state_in}
 use Rattle.served_instance.specs.declared.open_connection.OpenConnection.{OpenConnection}
 use Rattle.served_instance.specs.Ranges.{RangesEndWithin, range_holders}
 use Rattle.served_instance.specs.Shown.{connection_shown}
@@ -77,3 +78,21 @@ returns-clause-tidy c =
           c.pump_all.ensures.count;
     }) in
     done.tidy
+
+pub returns-clause-same : goal.returns-clause-same
+returns-clause-same c =
+    let p = c.args.pool.now in
+    let i = c.self.inside.instance in
+    let all = c.self.inside.connections in
+    let ns = c.pump_all.new.connections in
+    let Q : ServedSlots → Type 0 = λ v. IsServedInPool p v in
+    let done = pumped_written p c.pump_all.new.pool i all.items c.deref_mut.result.now ns _ c.deref_mut.ensures.value
+    (written_back all.len ns all.items (c.pump_all.ensures.count ∙ ap length c.deref_mut.ensures.value) (grind (arith, common_steps)))
+    (subst Q (sym c.self.view_is) c.requires) (record {
+      stands = c.pump_all.ensures.stands;
+      tidy = c.pump_all.ensures.tidy;
+      releases = c.pump_all.ensures.releases;
+      count =
+          c.pump_all.ensures.count;
+    }) in
+    done.same ∙ ap (λ (v : ServedSlots). state_in p v.instance) c.self.view_is

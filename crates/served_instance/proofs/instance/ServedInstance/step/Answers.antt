@@ -1,8 +1,12 @@
 use Rattle.std.proofs.Common.{◌≡◌, List, ap, ◌∙◌, subst, sym, arith, rules}
 use Rattle.std.proofs.lemmas.Grind.{common_steps}
-use Rattle.std.specs.Prelude.{None, Some}
+use Rattle.std.specs.Prelude.{◌++◌, IfSome, None, Some}
 use Rattle.blob_pool.specs.Slots.{Slots}
 use Rattle.instance_core.specs.InstanceViewShown.{visible_in}
+use Rattle.instance_core.specs.Readings.{IsReadAhead}
+use Rattle.instance_core.specs.Slots.{state_in}
+use Rattle.instance_core.specs.State.{InstanceState}
+use Rattle.instance_core.specs.Visible.{Blob}
 use Rattle.server_events.specs.Shown.{event_value}
 use Rattle.served_instance.specs.declared.broken.Broken.{Broken}
 use Rattle.served_instance.specs.declared.open_connection.OpenConnection.{OpenConnection}
@@ -16,6 +20,7 @@ use Rattle.served_instance.specs.Slots.{ServedSlots, IsServedInPool, served_stat
 use Rattle.served_instance.proofs.BrokenOff.{IsBroken, still_tidy}
 use Rattle.served_instance.proofs.Carried.{IsPumped, Pumps, broken_short, done_orders, done_settled, done_stands, is_taken, lends, moment_lent, still_accepted}
 use Rattle.served_instance.proofs.Refuses.{kept_at_refusal, no_reason, not_elsewhere, not_for_memory, refused_outcome, seen_refusal}
+use Rattle.served_instance.proofs.Texts.{moment_sees, visible_without}
 use Rattle.served_instance.proofs.instance.ServedInstance.step.Goals as goal
 
 -- ---- it is refused for a reason
@@ -61,6 +66,9 @@ act-requires c =
       accepted = still_accepted e v i a taken;
       lent = moment_lent v i a c.self.view_is c.requires.kept c.requires.beside c.set_moment.ensures.holders
           (c.set_moment.ensures.kept a.pool);
+      read = subst (λ (bs : List Blob). IfSome c.args.read (IsReadAhead (bs ++ visible_in a.pool a.parent)))
+          (sym (moment_sees a.pool e.moment i v.instance a.instance (ap (λ (x : ServedSlots). x.instance) c.self.view_is)
+          (c.set_moment.ensures.changed a.pool))) c.requires.read;
     }
 
 pub pump-requires : goal.pump-requires
@@ -95,6 +103,12 @@ returns-in-Ok-act c =
       settled = λ l s. done_settled e v i a b c.in-Ok-act.orders l taken c.in-Ok-act.ensures.done s;
       orders = λ l s. done_orders e v i a b c.in-Ok-act.orders q w l taken c.in-Ok-act.ensures.done pumped s;
       tidy = first_of (search rules, grind (arith, common_steps));
+      texts = λ keeps.
+          let same : state_in q w.instance ≡ state_in b.pool b.instance =
+          subst (λ (p : Slots). state_in q w.instance ≡ state_in p b.instance) (search rules) c.pump.ensures.same in
+          ap (λ (s : InstanceState). s.visible) same ∙ c.act.ensures.texts keeps
+          ∙ moment_sees a.pool e.moment i v.instance a.instance (ap (λ (x : ServedSlots). x.instance) c.self.view_is)
+          (c.set_moment.ensures.changed a.pool);
       moves = first_of (search rules, grind (arith, common_steps));
       kept = first_of (search rules, grind (arith, common_steps));
     }
@@ -137,3 +151,19 @@ returns-in-Err-act-clause-tidy c =
     let xs = (lent_value c.break_off_by.new.self).connections in
     let left = c.break_off_by.ensures.lost.left ∙ ap (λ (b : Broken). others_by b ns) c.by-broken.ensures in
     still_tidy e.what os ns xs left c.in-Err-act.ensures.cut.others (subst T (sym c.self.view_is) c.requires.tidy)
+
+pub returns-in-Err-act-clause-texts : goal.returns-in-Err-act-clause-texts
+returns-in-Err-act-clause-texts c = λ keeps.
+    let e = (event_value c.args.event).lone in
+    let v = c.args.self.now in
+    let i = c.self.inside.instance in
+    let a = lends c.args.parent.now c.args.pool.now c.set_moment.new.self c.self.inside.connections.items in
+    let b = lent_value c.act.new.self in
+    let d = lent_value c.break_off_by.new.self in
+    let lost : visible_in d.pool d.instance.view ≡ visible_in b.pool b.instance.view =
+    ap (λ (s : InstanceState). s.visible) c.break_off_by.ensures.lost.forgotten
+    ∙ visible_without c.by-broken.result (state_in b.pool b.instance) in
+    subst (λ (q : Slots). visible_in q d.instance.view ≡ visible_in a.pool v.instance.view) (search rules)
+    (lost ∙ c.act.ensures.texts keeps
+    ∙ moment_sees a.pool e.moment i v.instance a.instance (ap (λ (x : ServedSlots). x.instance) c.self.view_is)
+    (c.set_moment.ensures.changed a.pool))

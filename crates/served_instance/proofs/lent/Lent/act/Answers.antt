@@ -11,6 +11,7 @@ use Rattle.server_events.specs.Events.{opened, received, took, closed, tick, end
 use Rattle.server_events.specs.Shown.{what_value}
 use Rattle.served_instance.specs.declared.open_connection.OpenConnection.{OpenConnection}
 use Rattle.served_instance.specs.Acts.{BecomesAt, TakesStep, present_at}
+use Rattle.served_instance.specs.Ahead.{KeepsTexts}
 use Rattle.served_instance.specs.Lent.{lent_state, lent_value}
 use Rattle.served_instance.specs.Lone.{after_closing}
 use Rattle.served_instance.specs.Present.{IsPlaceFor, IsPlaceOf, refusal_by_what}
@@ -113,7 +114,7 @@ returns-in-Closed-clause-goes c = gone_goes (lent_value c.args.self.now) (lent_v
 pub receive_and_start-requires : goal.receive_and_start-requires
 receive_and_start-requires c =
     let S : What → Type 0 = λ w. IsPlaceFor (what_value w) c.args.place c.args.self.now.connections.now.items in
-    record { there = subst S c.in-Bytes.is c.requires.place; lent = c.requires.lent }
+    record { there = subst S c.in-Bytes.is c.requires.place; lent = c.requires.lent; read = c.requires.read }
 
 pub returns-in-Bytes-clause-done : goal.returns-in-Bytes-clause-done
 returns-in-Bytes-clause-done c = done_as c.receive_and_start.result (lent_value c.args.self.now) (lent_value c.receive_and_start.new.self)
@@ -138,3 +139,29 @@ returns-in-Outcome-clause-done c = done_as c.end_run.result (lent_value c.args.s
 pub returns-in-Outcome-clause-cut : goal.returns-in-Outcome-clause-cut
 returns-in-Outcome-clause-cut c = cut_as c.end_run.result (lent_value c.args.self.now) (lent_value c.end_run.new.self)
     (what_value c.args.what) (ended c.in-Outcome.job (outcome_shown c.in-Outcome.outcome)) (ap what_value c.in-Outcome.is) c.end_run.ensures.cut
+
+-- ---- which leave all texts
+
+keeps : (c : What) (d : What) → c ≡ d → KeepsTexts (what_value c) → KeepsTexts (what_value d)
+keeps c d is h = subst (λ (w : What). KeepsTexts (what_value w)) is h
+
+pub returns-in_ok-open-in-Open-clause-texts : goal.returns-in_ok-open-in-Open-clause-texts
+returns-in_ok-open-in-Open-clause-texts c = λ h. refl
+
+pub returns-in_err-open-in-Open-clause-texts : goal.returns-in_err-open-in-Open-clause-texts
+returns-in_err-open-in-Open-clause-texts c = λ h. refl
+
+pub returns-in-Took-clause-texts : goal.returns-in-Took-clause-texts
+returns-in-Took-clause-texts c = λ h. refl
+
+pub returns-in-Closed-clause-texts : goal.returns-in-Closed-clause-texts
+returns-in-Closed-clause-texts c = λ h. absurd (keeps _ _ c.in-Closed.is h)
+
+pub returns-in-Bytes-clause-texts : goal.returns-in-Bytes-clause-texts
+returns-in-Bytes-clause-texts c = λ h. absurd (keeps _ _ c.in-Bytes.is h)
+
+pub returns-in-Tick-clause-texts : goal.returns-in-Tick-clause-texts
+returns-in-Tick-clause-texts c = λ h. c.pass_time.ensures.texts
+
+pub returns-in-Outcome-clause-texts : goal.returns-in-Outcome-clause-texts
+returns-in-Outcome-clause-texts c = λ h. absurd (keeps _ _ c.in-Outcome.is h)

@@ -1,12 +1,13 @@
 use Rattle.std.proofs.Common.{◌<◌, ◌∙◌, sym, subst, refl, ℕ, List, length, arith}
 use Rattle.std.proofs.lemmas.Grind.{common_steps}
-use Rattle.std.specs.Prelude.{Option, Some, None}
+use Rattle.std.specs.Prelude.{IfSome, Option, Some, None}
 use Rattle.conn_core.specs.declared.event.CallEvent.{CallEvent}
 use Rattle.blob_pool.specs.Slots.{text_at}
 use Rattle.instance_core.specs.Apart.{IsCallOn}
-use Rattle.instance_core.specs.Calls.{CallEventValue}
+use Rattle.instance_core.specs.Calls.{CallEventValue, IsShortEvent}
+use Rattle.instance_core.specs.Readings.{IsReadAhead}
 use Rattle.instance_core.specs.Shown.{event_shown}
-use Rattle.instance_core.specs.State.{seen}
+use Rattle.instance_core.specs.State.{InstanceState, seen}
 use Rattle.served_instance.specs.declared.open_connection.OpenConnection.{OpenConnection}
 use Rattle.served_instance.specs.Acts.{BecomesAt, Pops, due_count}
 use Rattle.served_instance.specs.Events.{due_events}
@@ -32,6 +33,7 @@ events-init c =
       unread = refl;
       cuts = cut_leads_here (text_at a.pool) (lent_state a) a.connections (due_events n);
       went = went_here n a c.requires.lent.kept;
+      read = c.requires.read;
     }
 
 pub pop_event-requires : goal.pop_event-requires
@@ -40,6 +42,13 @@ pop_event-requires c =
     let d = lent_value c.events.self in
     subst (λ (ys : List OpenConnection). c.args.place < length ys) (sym c.deref_mut.ensures.value)
     (place_within n c.args.place d.connections (c.events.invariant.went.apart.places n ∙ c.requires.there))
+
+pub with_read-event-requires : goal.with_read-event-requires
+with_read-event-requires c =
+    record {
+      read = c.events.invariant.read;
+      unread = c.call_event_on-event.ensures.unread (seen (lent_state (lent_value c.events.self)));
+    }
 
 pub happen-requires : goal.happen-requires
 happen-requires c =
@@ -52,9 +61,9 @@ happen-requires c =
     c.deref_mut.ensures.value (grind (arith, common_steps)) c.pop_event.auto.connections c.pop_event.ensures.steps
     (c.in-Some.ensures.event n) c.events.invariant.went c.requires.there in
     record {
-      short = c.call_event_on-event.ensures.short;
+      short = subst IsShortEvent (sym c.with_read-event.ensures.event) c.call_event_on-event.ensures.short;
       lent = still_lent a f c.requires.lent popped.went.goes;
-      read = c.call_event_on-event.ensures.unread (seen (lent_state f));
+      read = c.with_read-event.ensures.brings;
     }
 
 pub events-smaller : goal.events-smaller
@@ -82,23 +91,25 @@ events-preserved c =
     let popped = stepped_through n c.args.place all.len (Pops (Some c.in-Some.event)) a d c.deref_mut.result.now c.pop_event.new.connections
     c.deref_mut.ensures.value (grind (arith, common_steps)) c.pop_event.auto.connections c.pop_event.ensures.steps
     (c.in-Some.ensures.event n) c.events.invariant.went c.requires.there in
-    let on : IsCallOn n (event_shown c.call_event_on-event.result) =
-    subst (λ (e : CallEventValue). IsCallOn n e) (sym c.call_event_on-event.ensures.event) (event_on n c.in-Some.event) in
+    let on : IsCallOn n (event_shown c.with_read-event.result) =
+    subst (λ (e : CallEventValue). IsCallOn n e) (sym (c.with_read-event.ensures.event ∙ c.call_event_on-event.ensures.event)) (event_on n c.in-Some.event) in
     let g = lent_value c.happen.new.self in
-    let what = event_shown c.call_event_on-event.result in
+    let what = event_shown c.with_read-event.result in
     let s = c.events.invariant.same in
     let t = c.happen.ensures.same in
     record {
       same = record { pool = t.pool ∙ s.pool; instance = t.instance ∙ s.instance; connections = t.connections ∙ s.connections };
       leads = due_leads (text_at a.pool) (text_at d.pool) (text_at g.pool) n (lent_state a) (lent_state d) (lent_state g) a.connections
           d.connections f.connections g.connections c.in-Some.event what c.events.invariant.leads popped.becomes popped.there
-          c.call_event_on-event.ensures.event c.in_ok-happen.ensures.happened;
+          (c.with_read-event.ensures.event ∙ c.call_event_on-event.ensures.event) c.in_ok-happen.ensures.happened;
       unread = keeps_unread n f.connections g.connections c.in_ok-happen.ensures.rest
           ∙ popped_unread n d.connections f.connections (Some c.in-Some.event) popped.becomes ∙ c.events.invariant.unread;
       cuts = due_answered (text_at a.pool) (text_at d.pool) (text_at g.pool) n (lent_state a) (lent_state d) (lent_state g) a.connections
           d.connections f.connections g.connections c.in-Some.event what c.events.invariant.cuts popped.becomes popped.there
-          c.call_event_on-event.ensures.event c.in_ok-happen.ensures.happened;
+          (c.with_read-event.ensures.event ∙ c.call_event_on-event.ensures.event) c.in_ok-happen.ensures.happened;
       went = went_trans n a f g popped.went (c.happen.ensures.went n on);
+      read = subst (λ (t : InstanceState). IfSome c.with_read-event.new.read (IsReadAhead (seen t))) (sym c.in_ok-happen.ensures.state)
+          c.with_read-event.ensures.kept;
     }
 
 pub returns : goal.returns
@@ -136,8 +147,8 @@ returns-in_err-happen-clause-memory c =
     (c.in-Some.ensures.event n) c.events.invariant.went c.requires.there in
     on_err c.from_residual.result
     (due_refused (text_at a.pool) (text_at d.pool) n (lent_state a) (lent_state d) (lent_state (lent_value c.happen.new.self)) a.connections
-    d.connections f.connections c.in-Some.event (event_shown c.call_event_on-event.result) c.events.invariant.cuts popped.becomes popped.there
-    c.call_event_on-event.ensures.event c.in_err-happen.ensures.memory)
+    d.connections f.connections c.in-Some.event (event_shown c.with_read-event.result) c.events.invariant.cuts popped.becomes popped.there
+    (c.with_read-event.ensures.event ∙ c.call_event_on-event.ensures.event) c.in_err-happen.ensures.memory)
 
 pub returns-in_err-happen-clause-went : goal.returns-in_err-happen-clause-went
 returns-in_err-happen-clause-went c =
@@ -149,6 +160,6 @@ returns-in_err-happen-clause-went c =
     let popped = stepped_through n c.args.place all.len (Pops (Some c.in-Some.event)) a d c.deref_mut.result.now c.pop_event.new.connections
     c.deref_mut.ensures.value (grind (arith, common_steps)) c.pop_event.auto.connections c.pop_event.ensures.steps
     (c.in-Some.ensures.event n) c.events.invariant.went c.requires.there in
-    let on : IsCallOn n (event_shown c.call_event_on-event.result) =
-    subst (λ (e : CallEventValue). IsCallOn n e) (sym c.call_event_on-event.ensures.event) (event_on n c.in-Some.event) in
+    let on : IsCallOn n (event_shown c.with_read-event.result) =
+    subst (λ (e : CallEventValue). IsCallOn n e) (sym (c.with_read-event.ensures.event ∙ c.call_event_on-event.ensures.event)) (event_on n c.in-Some.event) in
     went_trans n a f (lent_value c.happen.new.self) popped.went (c.happen.ensures.went n on)

@@ -10,7 +10,7 @@ use Rattle.served_instance.specs.Lent.{LentValue, lent_slots, lent_state, lent_v
 use Rattle.served_instance.specs.OwedReplies.{RepliesEndWithin}
 use Rattle.served_instance.specs.Shown.{connection_shown}
 use Rattle.served_instance.proofs.Besides.{instance_beside}
-use Rattle.served_instance.proofs.BrokenOff.{given_short}
+use Rattle.served_instance.proofs.BrokenOff.{given_short, ok_given}
 use Rattle.served_instance.proofs.Cut.{others_agree, finds_trans}
 use Rattle.served_instance.proofs.Gives.{HaveGiven}
 use Rattle.served_instance.proofs.Happens.{replies_owed, answered_beside, answered_goes, answers_given, asked_finds, happens, refused_goes, taken_finds}
@@ -76,6 +76,10 @@ returns c =
     record {
       happened = happens c.give_all.result a.parent p q r a.instance j a.connections b.connections what rs answered
           c.requires.lent.beside c.in_ok-replies.ensures.replies c.in_ok-replies.ensures.changed through_all.given;
+      state = ok_given c.give_all.result
+          (answered_beside (replies_holders rs) (RepliesEndWithin rs) a.parent p q r a.instance j
+          (map connection_shown a.connections) (map connection_shown b.connections) answered c.requires.lent.beside
+          ∙ c.in_ok-replies.ensures.changed);
       rest = through_all.rest;
       memory = given_short c.give_all.result what (lent_state a) (lent_state b)
           (answered_beside (replies_holders rs) (RepliesEndWithin rs) a.parent p q r a.instance j

@@ -1,10 +1,11 @@
-use Rattle.std.proofs.Common.{refl}
+use Rattle.std.proofs.Common.{◌∙◌, refl}
 use Rattle.execution.specs.Taking.{steps_shown}
 use Rattle.instance_core.specs.Slots.{state_in}
 use Rattle.served_instance.specs.Lent.{lent_slots, lent_value}
 use Rattle.served_instance.proofs.BrokenOff.{on_err, err_map}
 use Rattle.served_instance.proofs.Kept.{instance_kept}
 use Rattle.served_instance.proofs.Lends.{goes_here, goes_trans}
+use Rattle.served_instance.proofs.Texts.{settled_sees, ticked_sees}
 use Rattle.served_instance.proofs.Turning.{HasTicked, late_ends_can, late_ends_cut, late_ends_done, late_ends_within, ticked_goes, turn_goes, with_instance}
 use Rattle.served_instance.proofs.lent.Lent.pass_time.Goals as goal
 
@@ -93,3 +94,17 @@ returns-in_err-turn-clause-goes c =
     let own = c.tick.ensures.kept a.pool (instance_kept a.pool here here refl c.requires.lent.kept) in
     let goes = ticked_goes a j c.tick.ensures.holders own c.requires.lent.kept in
     goes
+
+pub returns-clause-texts : goal.returns-clause-texts
+returns-clause-texts c =
+    let a = lent_value c.args.self.now in
+    let d = lent_value c.settle.new.self in
+    let j = c.tick.new.self in
+    settled_sees c.settle.result (steps_shown c.in_ok-turn.turn.steps.items) (state_in a.pool j) (state_in d.pool d.instance)
+    c.settle.ensures.settled c.settle.ensures.err
+    ∙ ticked_sees a.pool a.instance j (c.tick.ensures.changed a.pool)
+
+pub returns-in_err-turn-clause-texts : goal.returns-in_err-turn-clause-texts
+returns-in_err-turn-clause-texts c =
+    let a = lent_value c.args.self.now in
+    ticked_sees a.pool a.instance c.tick.new.self (c.tick.ensures.changed a.pool)

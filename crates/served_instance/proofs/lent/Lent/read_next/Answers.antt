@@ -29,7 +29,11 @@ give_due-requires c =
     let f = with_connections a (written all.len all.items ns) in
     let went = went_through n c.args.place all.len a c.deref_mut.result.now ns c.deref_mut.ensures.value (grind (arith, common_steps))
     c.read_frame.auto.connections c.read_frame.ensures.steps c.requires.there c.requires.lent.kept in
-    record { there = went.apart.places n ∙ c.requires.there; lent = still_lent a f c.requires.lent went.goes }
+    record {
+      there = went.apart.places n ∙ c.requires.there;
+      lent = still_lent a f c.requires.lent went.goes;
+      read = c.requires.read;
+    }
 
 pub returns-in_ok-give_due : goal.returns-in_ok-give_due
 returns-in_ok-give_due c =

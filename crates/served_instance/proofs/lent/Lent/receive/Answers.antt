@@ -43,6 +43,7 @@ frames-init c =
         λ u cut. cut,
       );
       went = fed.went;
+      read = c.requires.read;
     }
 
 pub returns-in_err-feed-clause-memory : goal.returns-in_err-feed-clause-memory
@@ -61,6 +62,7 @@ read_next-requires c =
     record {
       there = c.frames.invariant.went.apart.places c.args.number ∙ c.requires.there;
       lent = still_lent (lent_value c.args.self.now) (lent_value c.frames.self) c.requires.lent c.frames.invariant.went.goes;
+      read = c.frames.invariant.read;
     }
 
 pub frames-smaller : goal.frames-smaller
@@ -86,6 +88,7 @@ frames-preserved c =
           a.connections d.connections g.connections (bytes_events n bytes) (rest_events n) (rest_events n) c.frames.invariant.cuts
           c.in_ok-read_next.ensures.cuts;
       went = went_trans n a d g c.frames.invariant.went c.read_next.ensures.went;
+      read = tt;
     }
 
 pub returns : goal.returns

@@ -1,5 +1,5 @@
 #!/usr/bin/env python3
-"""broken_peers.py PROGRAM [--calls N] [--silent] [--halves]: a caller beside 62 broken peers of the same instance.
+"""broken_peers.py PROGRAM [--calls N] [--silent] [--halves | --idle]: a caller beside 62 broken peers of the same instance.
 
 PROGRAM is the built `remoted`. The caller makes N calls (2,000) of FindMissingBlobs one after another, alone and then
 beside 62 peers of each of these kinds in turn:
@@ -9,13 +9,16 @@ beside 62 peers of each of these kinds in turn:
 The 99th percentile of its times has to stay below four times what it is alone. With --silent there are 64 peers in
 the end that say nothing at all, and a caller has to be let in after 60 seconds, or a few more. With --halves there are
 four other instances instead, of each of which a program sleeps, and over 60 connections 6,000 calls wait of which five bytes
-came: a minute later the caller's 99th percentile stays below four times what it is beside the programs alone. A line for
-each kind; it ends with status 1 where one is wrong.
+came: a minute later the caller's 99th percentile stays below four times what it is beside the programs alone. With --idle
+there are 255 other instances with 4 connections each on which nothing moves, and then 128 with 62: a call takes no more of
+the server's processor time than 1.7 times what it takes without them, and a tenth of the time that it takes by the clock.
+A line for each kind; it ends with status 1 where one is wrong.
 """
 
 import argparse
 import hashlib
 import multiprocessing
+import resource
 import time
 
 import messages as m
@@ -25,6 +28,7 @@ from server import Server
 
 PEERS = 62
 BLOB = bytes(1000) * 1000
+IDLE = [(255, 4), (128, 62)]
 
 
 def dripped(place):
@@ -136,15 +140,64 @@ def beside_halves(program, calls):
         raise SystemExit(f"halves: that is {found / alone:.1f} times as long")
 
 
+def microseconds(server, connection, calls=100):
+    """How long a call takes by the clock, and the server's processor time of it."""
+    request, begun, used = m.find_missing("", [m.digest(b"not there")]), time.perf_counter(), server.cpu_seconds()
+    for _ in range(calls):
+        connection.call(m.FIND_MISSING, [request])
+    return [seconds / calls * 1e6 for seconds in (time.perf_counter() - begun, server.cpu_seconds() - used)]
+
+
+def idle_connections(server, each):
+    """So many connections of each instance but the last, which all have been let in."""
+    opened = []
+    for _ in range(each):
+        opened += [connect(port) for port in server.ports[:-1]]
+        time.sleep(0.004)
+    for one in opened:
+        one.sendall(PREFACE + WINDOWS)
+    end = time.monotonic() + 60
+    while server.open_sockets() < len(opened) + len(server.ports):
+        if time.monotonic() > end:
+            raise SystemExit(f"idle: the server has {server.open_sockets()} sockets")
+        time.sleep(0.2)
+    return opened
+
+
+def beside_idle(program, teams, each):
+    """A caller beside so many instances with idle connections, and by turns one of a server without them."""
+    others = [(f"team{number}", 10**6) for number in range(teams)]
+    with Server(program, [("main", 10**8)]) as alone, Server(program, [*others, ("main", 10**8)]) as beside:
+        servers = [(server, Connection(server.ports[-1])) for server in (alone, beside)]
+        opened = idle_connections(beside, each)
+        rounds = [[microseconds(*server) for server in servers] for _ in range(20)]
+        for one in opened:
+            one.close()
+    usual = min(used for (_, used), _ in rounds)
+    # That in which least else went on.
+    clock, used = min(found for _, found in rounds)
+    is_well = used <= 1.7 * usual + 0.1 * clock
+    told = f"a call takes {used:.0f} us of the server's in {clock:.0f}, {usual:.0f} without them"
+    print(f"{'ok' if is_well else 'FAULT'} {teams} instances of {each} idle connections: {told}", flush=True)
+    return is_well
+
+
 def main():
     parser = argparse.ArgumentParser()
     parser.add_argument("program")
     parser.add_argument("--calls", type=int, default=2000)
     parser.add_argument("--silent", action="store_true")
     parser.add_argument("--halves", action="store_true")
+    parser.add_argument("--idle", action="store_true")
     words = parser.parse_args()
     if words.halves:
         beside_halves(words.program, words.calls)
+        return
+    if words.idle:
+        most = resource.getrlimit(resource.RLIMIT_NOFILE)[1]
+        resource.setrlimit(resource.RLIMIT_NOFILE, (most, most))
+        if not all([beside_idle(words.program, *kind) for kind in IDLE]):
+            raise SystemExit(1)
         return
     with Server(words.program, [("main", 10**8)]) as server:
         port = server.ports[0]

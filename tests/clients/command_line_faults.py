@@ -324,14 +324,14 @@ def what_is_lacking(checks):
     checks.ends(checks.serve("lacking", cache), 0, checks.begun(cache), listening, preexec_fn=ignoring)
     few = lambda count: lambda: resource.setrlimit(resource.RLIMIT_NOFILE, (count, count))
     told = (
-        "remoted: {} files may be open, and up to 201 are needed: raise the limit (ulimit -n 201, or LimitNOFILE=201)\n"
+        "remoted: {} files may be open, and up to 204 are needed: raise the limit (ulimit -n 204, or LimitNOFILE=204)\n"
     )
     words, begun = checks.serve("lacking", runner), checks.begun(runner)
     checks.ends(words, 0, told.format(60) + begun, listening, preexec_fn=few(60))
     fewer = "remoted: 33 files may be open, and at least 34 are needed to begin: raise the limit "
-    fewer += "(ulimit -n 201, or LimitNOFILE=201)\n"
+    fewer += "(ulimit -n 204, or LimitNOFILE=204)\n"
     checks.ends(words, 1, fewer, preexec_fn=few(33))
-    checks.ends(words, 0, begun, listening, preexec_fn=few(201))
+    checks.ends(words, 0, begun, listening, preexec_fn=few(204))
     small = lambda: resource.setrlimit(resource.RLIMIT_FSIZE, (5000, 5000))
     told = "remoted: files may have 5000 bytes, and writing more would end the server by SIGXFSZ: raise the limit "
     told += "(ulimit -f unlimited, or LimitFSIZE=infinity), or start it by env --ignore-signal=XFSZ remoted\n"

@@ -3,6 +3,7 @@
 It shares nothing with `launchers/sandbox-filters` and libseccomp, which make the filters.
 """
 
+import ctypes
 import os
 import re
 import shutil
@@ -149,3 +150,15 @@ def together(first, second, call):
     earlier, later = first.verdict(call), second.verdict(call)
     hardness = lambda answer: struct.unpack("<i", struct.pack("<I", answer & 0xFFFF0000))[0]
     return earlier if hardness(earlier) < hardness(later) else later
+
+
+class Steps(ctypes.Structure):
+    _fields_ = [("count", ctypes.c_ushort), ("steps", ctypes.c_void_p)]
+
+
+def put_in_place(text):
+    """Has the kernel ask a filter about each call of this process and of its children. Whether it took the filter."""
+    kernel = ctypes.CDLL(None, use_errno=True)
+    held = ctypes.create_string_buffer(text, len(text))
+    steps = Steps(len(text) // 8, ctypes.cast(held, ctypes.c_void_p))
+    return kernel.prctl(38, 1, 0, 0, 0) == 0 and kernel.prctl(22, 2, ctypes.byref(steps)) == 0

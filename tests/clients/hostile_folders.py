@@ -39,13 +39,16 @@ signal.signal(signal.SIGIO, signal.SIG_IGN)
 with open("o", "wb") as file:
     file.write(b"leased")
 file = os.open("o", os.O_RDONLY)
+read, write = os.pipe()
 if os.fork():
-    time.sleep(0.3)
+    os.close(write)
+    os.read(read, 1)
     os._exit(0)
 os.setsid()
 if os.fork():
     os._exit(0)
 fcntl.fcntl(file, fcntl.F_SETLEASE, getattr(fcntl, sys.argv[1]))
+os.write(write, b".")
 time.sleep(60)
 """
 
@@ -270,19 +273,26 @@ def removal_exchanged(stage):
 def leased(stage):
     """Daemons hold leases on outputs, which keep whoever opens those waiting, where the system has leases."""
     waiting = 13 if has_leases() and not stage.way.launcher else 0
-    with stage.serve(slots=(8, 2)) as (server, red):
+    longest = {"F_WRLCK": [], "F_RDLCK": []}
+    with stage.serve(slots=(16, 2)) as (server, red):
         expect(server.said(), [], "what is said at the start")
-        for kind, code in [("F_WRLCK", waiting), ("F_RDLCK", 0)]:
-            numbers = [red.start(stage.action(python(LEASING, kind), files=["o"])) for _ in range(8)]
-            stage.blue_runs(server)
+        for kind, code in [("F_WRLCK", waiting), ("F_RDLCK", 0)] * 3:
+            numbers = [red.start(stage.action(python(LEASING, kind), files=["o"])) for _ in range(16)]
+            took, end = [], time.monotonic() + stage.slow
+            while time.monotonic() < end:
+                took.append(stage.blue_runs(server))
+            longest[kind].append(max(took))
             for number in numbers:
                 expect(red.operations(number)[-1].status.code, code, f"status at {kind}")
-        stage.end_programs()
+            stage.end_programs()
         stage.blue_runs(server)
         stage.nothing_left(server)
+    beside, usual = (1000 * min(each) for each in longest.values())
+    waited = f"blue's actions take {beside:.0f} ms at most, {usual:.0f} where nobody waits"
+    expect(beside < usual + 100 * stage.slow, True, waited)
     if stage.way.launcher:
         return "they end before the outputs are opened, and nobody waits"
-    return "a run whose output has a write lease fails, and nobody waits" if waiting else "the system has no leases"
+    return f"a run whose output has a write lease fails, and {waited}" if waiting else "the system has no leases"
 
 
 def starved(stage):

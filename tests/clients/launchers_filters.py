@@ -22,7 +22,7 @@ import subprocess
 import sys
 import tempfile
 
-from filters import ALLOW, ARCHITECTURES, ERRNO, OTHERS, X32, Call, Filter, calls, lacking, together
+from filters import ALLOW, ARCHITECTURES, ERRNO, OTHERS, X32, Call, Filter, calls, lacking, put_in_place, together
 
 HERE = os.path.dirname(os.path.abspath(__file__))
 LAUNCHERS = os.path.realpath(os.path.join(HERE, "..", "..", "launchers"))
@@ -226,22 +226,14 @@ TRIED = {
 }
 
 
-class Steps(ctypes.Structure):
-    _fields_ = [("count", ctypes.c_ushort), ("steps", ctypes.c_void_p)]
-
-
 def answers(folder, machine):
     """What the kernel answers where both filters are in place, for this process from now on."""
     kernel = ctypes.CDLL(None, use_errno=True)
     kernel.syscall.restype = ctypes.c_long
-    kernel.prctl(38, 1, 0, 0, 0)
     for name in ("allowed", "refused"):
         with open(os.path.join(folder, machine, f"sandbox.{name}"), "rb") as file:
-            text = file.read()
-        held = ctypes.create_string_buffer(text, len(text))
-        steps = Steps(len(text) // 8, ctypes.cast(held, ctypes.c_void_p))
-        if kernel.prctl(22, 2, ctypes.byref(steps)):
-            return [f"the kernel does not take the filter: {ctypes.get_errno()}"]
+            if not put_in_place(file.read()):
+                return [f"the kernel does not take the filter: {ctypes.get_errno()}"]
     wrong = []
     for name, (numbers, arguments, wanted) in TRIED.items():
         if machine in numbers:

@@ -165,16 +165,15 @@ class Server:
         return sum(os.readlink(name).startswith("socket:") for name in names)
 
     def cpu_seconds(self):
-        return self._ticks(11, 12)
+        """Its processor time so far, to the nanosecond: it has one thread."""
+        with open(self._proc("schedstat")) as file:
+            return int(file.read().split()[0]) / 1e9
 
     def children_seconds(self):
         """Processor time of the programs that have ended."""
-        return self._ticks(13, 14)
-
-    def _ticks(self, *places):
         with open(self._proc("stat")) as stat:
             words = stat.read().rpartition(")")[2].split()
-        return sum(int(words[place]) for place in places) / os.sysconf("SC_CLK_TCK")
+        return (int(words[13]) + int(words[14])) / os.sysconf("SC_CLK_TCK")
 
     def peak_megabytes(self):
         return self._status_megabytes("VmHWM")

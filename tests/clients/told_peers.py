@@ -10,10 +10,14 @@ after a read found nothing. So here is what might be lost between the two, each 
   slow     a client that takes nothing for a second takes all of 3,000,000 bytes then, while others are answered
   crowd    64 connections at one time
   refused  connections that the server has no descriptor for are answered when others are closed
+  untold   where epoll can watch no more than some clients, as when a program of the server's user has used that up, 62
+           clients of each of five teams are answered within 250 milliseconds, and so is a sixth team's
 A line for each; it ends with status 1 where one is wrong.
 """
 
+import errno
 import hashlib
+import platform
 import random
 import resource
 import socket
@@ -22,11 +26,21 @@ import sys
 import time
 
 import messages as m
+from filters import ALLOW, ERRNO, put_in_place
 from raw import PREFACE, WINDOWS, Connection, block, connect, frame
 from server import Server
 
 BLOB = random.Random(7).randbytes(3_000_000)
 HELLO = PREFACE + WINDOWS
+MOST_WAIT = 0.25
+
+# From which descriptor on epoll says that it can watch no more, and the number of its call on some processors. These are
+# the steps of a filter: its number, what it is to do (to add one), and with which descriptor.
+FIRST_UNWATCHED = 48
+EPOLL_CTL = {"x86_64": 233, "aarch64": 21}
+STEPS = [(0x20, 0, 0, 0), (0x15, 0, 5, EPOLL_CTL.get(platform.machine(), 0))]
+STEPS += [(0x20, 0, 0, 24), (0x15, 0, 3, 1), (0x20, 0, 0, 32), (0x35, 0, 1, FIRST_UNWATCHED)]
+STEPS += [(0x06, 0, 0, ERRNO | errno.ENOSPC), (0x06, 0, 0, ALLOW)]
 
 
 def asked(path, message, stream=1):
@@ -169,11 +183,36 @@ def refused(server):
     return f"each was answered; {used * 200:.0f} % of a processor while they waited"
 
 
+def untold(program):
+    if platform.machine() not in EPOLL_CTL:
+        return "not tried on this processor"
+    filtered = lambda: put_in_place(b"".join(struct.pack("=HBBI", *step) for step in STEPS))
+    teams = [(f"team{number}", 10**6) for number in range(6)]
+    with Server(program, teams, preexec_fn=filtered) as server:
+        # The last team has one client, which comes when all others are there.
+        peers = [Connection(port) for port in server.ports[:-1] for _ in range(62)] + [Connection(server.ports[-1])]
+        time.sleep(1)
+        longest = 0.0
+        for place, peer in enumerate(peers * 2):
+            peer.socket.settimeout(5)
+            begun = time.monotonic()
+            try:
+                peer.call(m.CAPABILITIES, [b""])
+            except TimeoutError:
+                raise SystemExit(f"FAULT untold: client {place} is not answered") from None
+            longest = max(longest, time.monotonic() - begun)
+        for peer in peers:
+            peer.close()
+    expect(longest < MOST_WAIT, f"untold: a client waited for {longest:.3f} s")
+    return f"{len(peers)} clients are answered within {longest * 1000:.0f} ms"
+
+
 def main():
     with Server(sys.argv[1], [("main", 10**8), ("other", 10**8)]) as server:
         for part in [burst, drip, halves, resets, slow, crowd, refused]:
             time.sleep(2.5)
             print(f"ok {part.__name__}: {part(server)}", flush=True)
+    print(f"ok untold: {untold(sys.argv[1])}", flush=True)
 
 
 if __name__ == "__main__":

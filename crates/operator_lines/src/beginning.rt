@@ -15,8 +15,9 @@ const MOST_CONNECTIONS: u64 = 64;
 /// its launcher says to one.
 const FILES_OF_RUN: u64 = 3;
 
-/// How many are open for an instance that runs actions: the pipes of what removes their folders.
-const FILES_OF_REMOVAL: u64 = 2;
+/// How many are open for an instance that runs actions: the pipes of what removes their folders and
+/// of what opens their outputs, and the directory of an output.
+const FILES_OF_SHELLS: u64 = 5;
 
 /// How many more a server has open beside these and connections, at most and at least.
 const OTHER_FILES: u64 = 64;
@@ -82,13 +83,13 @@ pub fn slots_of(instances: &Instances) -> usize {
 /// How many files may be open for what runs, at most.
 fn most_of_runs(instances: &Instances) -> u64 {
     let runs = FILES_OF_RUN.saturating_mul(slots_of(instances) as u64);
-    let mut removals: u64 = 0;
+    let mut shells: u64 = 0;
     for config in instances.configs.instances() {
         if config.slots > 0 {
-            removals = removals.saturating_add(FILES_OF_REMOVAL);
+            shells = shells.saturating_add(FILES_OF_SHELLS);
         }
     }
-    runs.saturating_add(removals)
+    runs.saturating_add(shells)
 }
 
 /// Whether the instances can be served at all, where this many files may be open. Where these are

@@ -195,9 +195,9 @@ impl<'a> Sockets for Fake<'a> {
         self.moment
     }
 
-    /// The clock is read in each turn.
+    /// The clock is read in each turn, as 50 milliseconds pass.
     fn passed(&self) -> u64 {
-        self.moment.saturating_add(1).saturating_mul(1_000)
+        self.moment.saturating_add(1).saturating_mul(50_000)
     }
 
     /// Something may have come in each millisecond.

@@ -27,6 +27,17 @@ pub(crate) fn has_any(sizes: &[Option<u64>]) -> bool {
     sizes.iter().any(|size| size.is_some())
 }
 
+/// Whether there is one at a place.
+fn is_at(sizes: &[Option<u64>], place: usize) -> bool {
+    matches!(sizes.get(place), Some(Some(_)))
+}
+
+/// Whether each of them is at one of these places, which rise.
+pub(crate) fn are_found(places: &[usize], sizes: &[Option<u64>]) -> bool {
+    let found = places.iter().filter(|place| is_at(sizes, **place)).count();
+    found == sizes.iter().filter(|size| size.is_some()).count()
+}
+
 /// Whether the first of these is marked.
 fn is_first(marks: &[bool]) -> bool
     ensures { result ≡ get_or marks.now 0 false }

@@ -6,7 +6,7 @@ pub loop-left-preserved : goal.loop-left-preserved
 loop-left-preserved c = λ more.
     c.loop-left.invariant (many_more _ c.loop-left.sizes_left.now _ c.loop-left.left.now _ c.first-item.result _
     (first_and_rest c.loop-left.left.now c.first-item.result c.in-len1-up.len_at_least c.first-item.is) c.first_size.ensures
-    c.sizes_behind.ensures (c.in_ok-has_many_files.ensures c.if-not-has_many_files.false) more)
+    c.sizes_behind.ensures (c.in_ok-has_many_files.ensures c.if-not-branch.false) more)
 
 pub returns : goal.returns
 returns c = λ yes.

@@ -6,6 +6,6 @@ pub returns : goal.returns
 returns g c = record {
   read = read_with _ _ c.in-Some.read c.in_ok-sizes.sizes.items _ _ (g.F.Folder.whole c.args.runner.now.folder c.args.run.instance) _
       (search rules) c.in_ok-sizes.ensures c.deref.ensures.value c.deref-2.ensures.value c.in_ok-have_many_files.ensures
-      c.if-not-have_many_files.false;
+      c.if-not-branch.false;
   numbers = search rules;
 }

@@ -57,6 +57,13 @@ fn marks_behind(marks: &[bool]) -> &[bool]
     }
 }
 
+/// Whether a directory is marked just if it was made before.
+fn is_that(is_marked: bool, size: Option<u64>) -> bool
+    ensures { result ≡ true → is_marked ≡ is_some size }
+{
+    is_marked == size.is_some()
+}
+
 /// Whether just the directories are marked that were made before.
 pub(crate) fn are_those(marks: &[bool], sizes: &[Option<u64>]) -> bool
     ensures { result ≡ true → (at : ℕ) → get_or marks.now at false
@@ -64,8 +71,8 @@ pub(crate) fn are_those(marks: &[bool], sizes: &[Option<u64>]) -> bool
 {
     let mut marks_left = marks;
     let mut left = sizes;
-    while let [first, rest @ ..] = left {
-        if is_first(marks_left) != first.is_some() {
+    while let [_, rest @ ..] = left {
+        if !is_that(is_first(marks_left), first_size(left)) {
             return false;
         }
         marks_left = marks_behind(marks_left);

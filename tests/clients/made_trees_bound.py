@@ -90,6 +90,33 @@ def naming(what):
         raise type(fault)(f"{what}: {fault}") from fault
 
 
+def around_a_whole_one(stage):
+    """A directory is a tree already, and what an action has beside it, above it or in its way is new."""
+    tree, few = {"lib": flat(stage.folder, 80), "f": b""}, flat(0, 3)
+    above = {"b": {"tc": tree, **flat(1, 64)}}
+    kinds = [
+        ("an output in it", {"tc": tree}, {"files": ["tc/out"]}, ["tc/lib"]),
+        ("an output above it", {"a": {"tc": tree}}, {"directories": ["a"]}, []),
+        ("the working directory in it", {"tc": tree}, {"folder": "tc/lib"}, []),
+        ("it stands at three places", {"a": tree, "b": {"c": tree, **few}, "d": tree}, {}, ["a", "b/c", "d"]),
+        ("an output in one of them", {"a": tree, "b": {"c": tree, "n": b""}}, {"files": ["a/o"]}, ["a/lib", "b/c"]),
+        ("few files beside it", {"a": {"b": few, "tc": tree}, "z": few}, {}, ["a/tc"]),
+        ("many files beside it", {"a": flat(2, 70), "tc": tree, "z": flat(3, 70)}, {}, ["tc"]),
+        ("its files in the root", tree, {}, ["lib"]),
+        ("above it for the first time", above, {}, ["b/tc"]),
+        ("above it for the second time", above, {}, ["b"]),
+        ("above it for the third time", above, {}, ["b"]),
+        ("a place above that one", {"x": above, "n": few}, {}, ["x/b"]),
+    ]
+    with stage.serve() as (server, red):
+        stage.made(red, {"tc": tree})
+        for what, inputs, more, places in kinds:
+            with naming(what):
+                expect(stage.looked(red, inputs, **more), stage.bound(*places), "what is bound")
+        stage.blue_runs(server)
+    return f"{len(kinds)} kinds of inputs around it: each is there as it is wanted"
+
+
 def odd_places(stage):
     """Trees stand below odd names, and a link in the inputs leads to one."""
     tree = flat(stage.folder, 70)
@@ -262,6 +289,7 @@ def too_large(stage):
 CASES = [
     bound_by_the_second,
     which_are_taken,
+    around_a_whole_one,
     odd_places,
     deep_place,
     many_candidates,

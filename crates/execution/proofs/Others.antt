@@ -1,6 +1,6 @@
 -- Nodes of a task but for those in directories that are passed over, and the files in these.
-use Rattle.std.proofs.Common.{◌≡◌, ◌≤◌, ℕ, Bool, false, List, ◌∷◌, drop, Option, Some, None, option_map, Ok, Err, ap, ◌∙◌}
-use Rattle.std.specs.Prelude.{IfSome}
+use Rattle.std.proofs.Common.{◌≡◌, ◌≤◌, ℕ, Bool, false, List, ◌∷◌, drop, Option, Some, None, Result, option_map, Ok, Err, ap, ◌∙◌}
+use Rattle.std.specs.Prelude.{IfOk, IfSome}
 use Rattle.digest.specs.declared.Digest.{Digest}
 use Rattle.instance_view.specs.Visible.{Blob}
 use Rattle.input_tree.specs.Listing.{Lookup}
@@ -16,7 +16,7 @@ met_by (Ok ns) nodes h = let same : ns ≡ nodes = cc in ap (λ (xs : List PlanN
 met_by (Err e) nodes h = absurd (cc)
 
 -- what a walk meets that does not find directories which are known
-pub others_are : {A : Type 0} (shown : A → List PlanNodeValue) (found : Option A) (look : Lookup) (is_known : Digest → Bool)
+others_are : {A : Type 0} (shown : A → List PlanNodeValue) (found : Option A) (look : Lookup) (is_known : Digest → Bool)
     (root : Digest) (nodes : List PlanNodeValue) → nodes_or_none (nodes_met look root) ≡ Some nodes → is_known root ≡ false →
     option_map shown found ≡ nodes_or_none (nodes_met (without is_known look) root) →
     IfSome found (λ x. shown x ≡ nodes_around is_known nodes)
@@ -25,6 +25,14 @@ others_are shown (Some x) look is_known root nodes h apart walked =
     let around = walked_around is_known look root nodes (met_by (nodes_met look root) nodes h) apart in
     let same : Some (shown x) ≡ Some (nodes_around is_known nodes) = walked ∙ ap nodes_or_none around in
     cc
+
+pub others_answered : {A E : Type 0} (shown : A → List PlanNodeValue) (r : Result (Option A) E) (look : Lookup) (is_known : Digest → Bool)
+    (root : Digest) (nodes : List PlanNodeValue) → nodes_or_none (nodes_met look root) ≡ Some nodes → is_known root ≡ false →
+    IfOk r (λ found. option_map shown found ≡ nodes_or_none (nodes_met (without is_known look) root)) →
+    IfOk r (λ found. IfSome found (λ x. shown x ≡ nodes_around is_known nodes))
+others_answered shown (Ok found) look is_known root nodes h apart walked =
+    others_are shown found look is_known root nodes h apart walked
+others_answered shown (Err e) look is_known root nodes h apart walked = tt
 
 among_files : (texts : List Blob) (a : Option ActionTaken) (nodes : List PlanNodeValue) (at : ℕ) (n : PlanNodeValue)
     (behind : List PlanNodeValue) (d : Digest) (count : ℕ) → nodes_among texts a ≡ Some nodes → drop at nodes ≡ n ∷ behind →

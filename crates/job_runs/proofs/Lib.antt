@@ -6,6 +6,7 @@ mod Numbering
 mod MadeTrees
 mod Spread
 mod TaskOf
+mod Whole
 mod Parts
 mod Spans
 mod Ran

@@ -93,14 +93,19 @@ AreSame marks sizes = (at : ℕ) → get_or marks at false ≡ is_some (get_or s
 abbrev pub SameBehind : List Bool → List (Option ℕ) → List Bool → List (Option ℕ) → Type 0
 SameBehind marks sizes marks_left sizes_left = AreSame marks_left sizes_left → AreSame marks sizes
 
-pub same_more : (marks marks_left : List Bool) (sizes sizes_left rest : List (Option ℕ)) (first : Option ℕ) →
+pub same_more : (marks marks_left marks_rest : List Bool) (sizes sizes_left rest : List (Option ℕ)) (first : Option ℕ) →
     SameBehind marks sizes marks_left sizes_left → sizes_left ≡ first ∷ rest → get_or marks_left 0 false ≡ is_some first →
-    SameBehind marks sizes (drop 1 marks_left) rest
-same_more marks marks_left sizes sizes_left rest first behind is here same = behind all where
+    marks_rest ≡ drop 1 marks_left → SameBehind marks sizes marks_rest rest
+same_more marks marks_left marks_rest sizes sizes_left rest first behind is here rest_is same = behind all where
   all : (at : ℕ) → get_or marks_left at false ≡ is_some (get_or sizes_left at None)
   all zero = here ∙ sym (ap (λ (s : List (Option ℕ)). is_some (get_or s 0 None)) is)
   all (suc at) =
-      sym (get_behind marks_left false at) ∙ same at ∙ sym (ap (λ (s : List (Option ℕ)). is_some (get_or s (suc at) None)) is)
+      sym (ap (λ (m : List Bool). get_or m at false) rest_is ∙ get_behind marks_left false at) ∙ same at
+      ∙ sym (ap (λ (s : List (Option ℕ)). is_some (get_or s (suc at) None)) is)
+
+pub first_of : (sizes : List (Option ℕ)) → get_or sizes 0 None ≡ get_or sizes 0 (get_or sizes 0 None)
+first_of [] = refl
+first_of (s ∷ sizes) = refl
 
 pub same_all : (marks marks_left : List Bool) (sizes sizes_left : List (Option ℕ)) → SameBehind marks sizes marks_left sizes_left →
     sizes_left ≡ [] → marks_left ≡ [] → AreSame marks sizes

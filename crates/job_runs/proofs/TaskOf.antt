@@ -164,6 +164,18 @@ around_task (Ok run) p task read sizes c command texts nodes marks is c_is comma
     (λ at yes. subst (λ (ns : List PlanNode). is_free_at c (nodes_shown ns) at ≡ true) nodes_is (free at yes))
     (made ∙ ap (λ (ns : List PlanNode). nodes_with marks (kept_digests texts) (nodes_shown ns)) nodes_is)) function
 
+-- what holds where marks stand, of the same nodes and marks
+pub carried : (P : List PlanNode → ℕ → Type 0) (looked nodes : List PlanNode) (made marks : List Bool) → looked ≡ nodes → marks ≡ made →
+    ((at : ℕ) → get_or made at false ≡ true → P looked at) → (at : ℕ) → get_or marks at false ≡ true → P nodes at
+carried P looked nodes made marks same marks_are h at yes =
+    subst (λ (ns : List PlanNode). P ns at) same (h at (ap (λ (m : List Bool). get_or m at false) (sym marks_are) ∙ yes))
+
+pub same_marks : (looked marks : List Bool) (slice sizes : List (Option ℕ)) → marks ≡ looked → slice ≡ sizes →
+    ((at : ℕ) → get_or looked at false ≡ is_some (get_or slice at None)) → (at : ℕ) →
+    get_or marks at false ≡ is_some (get_or sizes at None)
+same_marks looked marks slice sizes marks_are sizes_are h at =
+    ap (λ (m : List Bool). get_or m at false) marks_are ∙ h at ∙ ap (λ (s : List (Option ℕ)). is_some (get_or s at None)) sizes_are
+
 -- no marks
 pub none_marked : (marks : List Bool) (P : ℕ → Type 0) → marks ≡ [] → (at : ℕ) → get_or marks at false ≡ true → P at
 none_marked marks P is at yes = let no : false ≡ true = ap (λ (m : List Bool). get_or m at false) (sym is) ∙ yes in absurd (cc)

@@ -1,6 +1,6 @@
 //! The begin of a job's run.
 
-ghost use Rattle.std.specs.Prelude.{◌≡◌, ℕ, [], Bool, true, false, get_or, slice_set, IfOk, IfSome, OnErr, OnOk};
+ghost use Rattle.std.specs.Prelude.{◌≡◌, ℕ, Bool, true, false, get_or, slice_set, IfOk, IfSome, OnErr, OnOk};
 ghost use Rattle.std.specs.List.{list_all};
 ghost use Rattle.actions.specs.Shown.{nodes_shown};
 ghost use Rattle.execution_messages.specs.Actions.{command_shown};
@@ -14,9 +14,9 @@ ghost use Rattle.job_runs.specs.Tasks.{IsTaskOf};
 ghost use Rattle.job_runs.specs.Runs.{IsBegun};
 
 use crate::commands::command_for;
-use crate::sizes::are_those;
 use crate::tasks::task_with;
-use crate::trees::find_trees;
+use crate::sizes::{are_found, are_those};
+use crate::trees::{FoundTrees, find_trees};
 use crate::whole::{ReadAround, read_around};
 use actions::{Plan, PlanNode};
 use execution::read_task;
@@ -61,34 +61,30 @@ fn marked(
     Ok(made)
 }
 
-/// At which places of a plan directories stand that were made before, and are kept for a run from
-/// now on. There is none beyond the last. In a node of which a size is there nothing stands here: it
-/// is whole already.
+/// At which of so many places of a plan directories stand that were made before, and are kept for a
+/// run from now on: of these, which are asked for. There is none beyond the last.
 ///
 /// Err: a request for memory was refused.
 fn claimed<F: Folder + Drop, P: Programs + Drop>(
     alloc: Global,
     runner: &mut Runner<F, P>,
     run: RunKey,
-    nodes: &[PlanNode],
-    sizes: &[Option<u64>],
-    command: &CommandMessage<'_>,
+    count: usize,
+    found: &FoundTrees,
 ) -> Result<Vec<bool>, AllocError>
-    ensures free { IfOk result (λ made. (at : ℕ) → get_or made.items at false ≡ true
-        → is_free_at (command_shown command.now) (nodes_shown nodes.now) at ≡ true) }
-    ensures large { sizes.now ≡ [] → IfOk result (λ made. (at : ℕ)
-        → get_or made.items at false ≡ true → is_large_at (nodes_shown nodes.now) at ≡ true) }
+    ensures made { IfOk result (λ made. (may : ℕ → Bool)
+        → list_all may found.now.places.items ≡ true → (at : ℕ)
+        → get_or made.items at false ≡ true → may at ≡ true) }
     ensures runs { runner.new.runs ≡ runner.old.runs }
     ensures programs { runner.new.programs ≡ runner.old.programs }
     ensures asked { F.asked runner.new.folder ≡ F.asked runner.old.folder }
     ensures failures { F.failures runner.new.folder ≡ F.failures runner.old.folder }
 {
-    let found = find_trees(alloc, nodes, sizes, command)?;
     if found.trees.is_empty() {
         return Ok(Vec::new(alloc));
     }
     let are_bound = runner.claim(run, &found.trees)?;
-    marked(alloc, nodes.len(), &found.places, &are_bound)
+    marked(alloc, count, &found.places, &are_bound)
 }
 
 /// The nodes of a task's plan. There are none where its texts have no plan.
@@ -135,19 +131,14 @@ fn claimed_task<F: Folder + Drop, P: Programs + Drop>(
     let read = read_task(alloc, task.pool, task.task)?;
     let command = command_for(alloc, &read.command)?;
     let nodes = nodes_of(alloc, read.plan);
-    let made = claimed(alloc, runner, run, &nodes, &[], &command)?;
-    task_with(
-        alloc,
-        &task.task.texts,
-        &read.numbers,
-        &nodes,
-        &command,
-        &made,
-    )
+    let found = find_trees(alloc, &nodes, &[], &command)?;
+    let made = claimed(alloc, runner, run, nodes.len(), &found)?;
+    task_with(alloc, &task.task.texts, &read.numbers, &nodes, &command, &made)
 }
 
 /// The same, where what stands in directories that were made before was not read. Each of these has
-/// to be claimed as such. Where one was not, all of the task is read.
+/// to be claimed. Where one may not be, as it holds an output, all of the task is read before others
+/// are. Where one is not bound, as in a directory that is made for this run, all is read then.
 fn task_around<F: Folder + Drop, P: Programs + Drop>(
     alloc: Global,
     runner: &mut Runner<F, P>,
@@ -168,7 +159,11 @@ fn task_around<F: Folder + Drop, P: Programs + Drop>(
 {
     let read = &around.read;
     let command = command_for(alloc, &read.command)?;
-    let made = claimed(alloc, runner, run, &read.nodes, &around.sizes, &command)?;
+    let found = find_trees(alloc, &read.nodes, &around.sizes, &command)?;
+    if !are_found(&found.places, &around.sizes) {
+        return claimed_task(alloc, runner, run, task);
+    }
+    let made = claimed(alloc, runner, run, read.nodes.len(), &found)?;
     if !are_those(&made, &around.sizes) {
         return copied_task(alloc, task);
     }

@@ -27,6 +27,17 @@ pub(crate) fn has_any(sizes: &[Option<u64>]) -> bool {
     sizes.iter().any(|size| size.is_some())
 }
 
+/// Whether there is one at a place.
+fn is_at(sizes: &[Option<u64>], place: usize) -> bool {
+    matches!(sizes.get(place), Some(Some(_)))
+}
+
+/// Whether each of them is at one of these places, which rise.
+pub(crate) fn are_found(places: &[usize], sizes: &[Option<u64>]) -> bool {
+    let found = places.iter().filter(|place| is_at(sizes, **place)).count();
+    found == sizes.iter().filter(|size| size.is_some()).count()
+}
+
 /// Whether the first of these is marked.
 fn is_first(marks: &[bool]) -> bool
     ensures { result ≡ get_or marks.now 0 false }
@@ -46,6 +57,13 @@ fn marks_behind(marks: &[bool]) -> &[bool]
     }
 }
 
+/// Whether a directory is marked just if it was made before.
+fn is_that(is_marked: bool, size: Option<u64>) -> bool
+    ensures { result ≡ true → is_marked ≡ is_some size }
+{
+    is_marked == size.is_some()
+}
+
 /// Whether just the directories are marked that were made before.
 pub(crate) fn are_those(marks: &[bool], sizes: &[Option<u64>]) -> bool
     ensures { result ≡ true → (at : ℕ) → get_or marks.now at false
@@ -53,8 +71,8 @@ pub(crate) fn are_those(marks: &[bool], sizes: &[Option<u64>]) -> bool
 {
     let mut marks_left = marks;
     let mut left = sizes;
-    while let [first, rest @ ..] = left {
-        if is_first(marks_left) != first.is_some() {
+    while let [_, rest @ ..] = left {
+        if !is_that(is_first(marks_left), first_size(left)) {
             return false;
         }
         marks_left = marks_behind(marks_left);

@@ -1,6 +1,6 @@
 //! What a task says, but for what stands in directories that were made before.
 
-ghost use Rattle.std.specs.Prelude.{◌≡◌, IfOk, IfSome, true};
+ghost use Rattle.std.specs.Prelude.{◌≡◌, IfOk, IfSome, is_some, true};
 ghost use Rattle.actions.specs.Shown.{node_shown, nodes_shown};
 ghost use Rattle.execution.specs.Keeping.{kept_entries};
 ghost use Rattle.execution.specs.Numbers.{AreNumbers, kept_digests};
@@ -76,19 +76,23 @@ fn sizes_of<F: Folder + Drop, P: Programs + Drop>(
     Ok(sizes)
 }
 
-/// Whether a directory has so many files in its own tree that it may be made, as far as that is
-/// seen early.
+/// Whether a node has so many files in its own tree that it may be made, as far as that is seen
+/// early, if it is a directory that was made before: one of a size.
 fn has_many_files(
     alloc: Global,
     task: LentTask<'_>,
     read: &TaskAround,
+    size: Option<u64>,
     node: &PlanNode,
 ) -> Result<bool, AllocError>
     requires { AreNumbers (kept_digests task.entry.task.now.texts.items) read.now.numbers.entries }
-    ensures { IfOk result (λ has. has ≡ true → HasManyFiles
+    ensures { IfOk result (λ has. has ≡ true → is_some size ≡ true → HasManyFiles
         (look_kept (blobs_in task.entry.pool.now (kept_entries task.entry.task.now.texts.items)))
         (node_shown node.now).kind) }
 {
+    if size.is_none() {
+        return Ok(true);
+    }
     let NodeKind::Directory { text } = &node.kind else {
         return Ok(true);
     };
@@ -102,7 +106,7 @@ fn has_many_files(
     )
 }
 
-/// The same of each directory that was made before.
+/// The same of each node.
 fn have_many_files(
     alloc: Global,
     task: LentTask<'_>,
@@ -117,7 +121,7 @@ fn have_many_files(
     let mut sizes_left = sizes;
     let mut left = read.nodes.as_slice();
     while let [first, rest @ ..] = left {
-        if first_size(sizes_left).is_some() && !has_many_files(alloc, task, read, first)? {
+        if !has_many_files(alloc, task, read, first_size(sizes_left), first)? {
             return Ok(false);
         }
         sizes_left = sizes_behind(sizes_left);

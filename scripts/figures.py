@@ -2,8 +2,8 @@
 """figures.py ROUNDS NAME=PROGRAM ..: processor time of a small call at one and at 100 streams, of an upload, a download, /bin/true and
 an idle server, of each program by turns; the least of the rounds counts."""
 import sys, os, subprocess, time, tempfile, hashlib, resource
-sys.path.insert(0, "/dev/shm/mt/tests/clients"); sys.dont_write_bytecode = True
-os.environ.setdefault("TMPDIR", "/dev/shm/tt")
+sys.path.insert(0, "/dev/shm/t/tests/clients"); sys.dont_write_bytecode = True
+os.environ.setdefault("TMPDIR", "/dev/shm/tmp")
 import messages as m
 from executing import Action, Peer, EXECUTE
 from raw import Connection

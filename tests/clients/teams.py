@@ -216,8 +216,8 @@ class Stage:
 
     def waits(self, holds, seconds, what):
         """Waits until something holds."""
-        programs.settled(lambda: not holds(), seconds * self.slow)
-        expect(bool(holds()), True, what)
+        lacking = programs.settled(lambda: not holds(), seconds * self.slow)
+        expect(not lacking, True, what)
 
     def helper(self, server, word):
         """The number of the server's helper whose command line has the word, once there is one."""

@@ -135,6 +135,8 @@ impl InstanceCounts {
 #[derive(Drop, Debug)]
 pub struct ServeCounts {
     instances: Vec<InstanceCounts>,
+    /// Of each how often a job began or ended, side by side, as each turn asks for all.
+    job_changes: Vec<u64>,
 }
 
 impl ServeCounts {
@@ -142,6 +144,7 @@ impl ServeCounts {
     pub(crate) fn new(alloc: Global, instances: usize) -> Result<ServeCounts, AllocError> {
         Ok(ServeCounts {
             instances: vec![in alloc; InstanceCounts::new(); instances]?,
+            job_changes: vec![in alloc; 0; instances]?,
         })
     }
 
@@ -152,17 +155,21 @@ impl ServeCounts {
 
     /// How often a job of an instance began or ended, or it may have; from 0 on again behind 2^64 - 1.
     pub(crate) fn job_changes(&self, instance: u32) -> u64 {
-        match self.instances.get(instance as usize) {
-            Some(counts) => counts.job_changes(),
+        match self.job_changes.get(instance as usize) {
+            Some(changes) => *changes,
             None => 0,
         }
     }
 
     /// One more thing happened at an instance.
     pub(crate) fn add(&mut self, instance: u32, occurrence: Occurrence) {
-        if let Some(counts) = self.instances.get_mut(instance as usize) {
-            let count = counts.count_of(occurrence);
-            *count = count.saturating_add(1);
+        let Some(counts) = self.instances.get_mut(instance as usize) else {
+            return;
+        };
+        let count = counts.count_of(occurrence);
+        *count = count.saturating_add(1);
+        if let Some(changes) = self.job_changes.get_mut(instance as usize) {
+            *changes = counts.job_changes();
         }
     }
 }

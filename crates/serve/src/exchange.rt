@@ -73,7 +73,7 @@ pub(crate) struct Rooms {
     payload: Vec<u8>,
     /// When the clock shows so many microseconds no further piece is read.
     pub(crate) until: u64,
-    /// Whether the instance is known for long pieces, so that none has more than one frame.
+    /// Whether the instance is known for long pieces, so that in none two calls end that name texts.
     pub(crate) is_long: bool,
 }
 

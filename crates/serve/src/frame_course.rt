@@ -1,7 +1,7 @@
 //! How far the frame reaches that comes in on a connection.
 
-ghost use Rattle.std.specs.Prelude.{◌≡◌, ◌<◌, ◌≤◌, true};
-ghost use Rattle.serve.specs.Reads.{frame_rest};
+ghost use Rattle.std.specs.Prelude.{◌≡◌, ◌+◌, ◌<◌, ◌≤◌};
+ghost use Rattle.serve.specs.Reads.{call_front, frame_rest};
 
 /// The most bytes that are read from a connection at a time.
 pub(crate) const READ_LIMIT: usize = 16_384;
@@ -9,6 +9,10 @@ pub(crate) const READ_LIMIT: usize = 16_384;
 /// The most that are read where a frame begins: few calls fit in them, and what is read is carried
 /// out in one piece.
 pub(crate) const FRONT_LIMIT: usize = 512;
+
+/// How many bytes are read beyond the rest of a frame at most where no two calls that name texts are
+/// to end in one piece: each of them has more, since a digest has as many digits.
+const CALL_FRONT: usize = 64;
 
 /// How many bytes a client's preface has.
 const PREFACE_LENGTH: u32 = 24;
@@ -18,6 +22,17 @@ const PREFACE_LENGTH: u32 = 24;
 const LENGTH_BYTES: u8 = 3;
 
 const HEAD_BYTES: u8 = 9;
+
+/// What may end in one piece.
+#[derive(Clone, Copy, PartialEq, Eq)]
+pub(crate) enum Piece {
+    /// A frame, or a head of one.
+    Frame,
+    /// A call that names texts, where none other waits for few bytes.
+    Call,
+    /// Few calls.
+    Calls,
+}
 
 /// Where in a frame what came ends. Only how much is read goes by it. What the bytes mean is the
 /// server's to say.
@@ -46,20 +61,32 @@ impl FrameCourse {
         self.left > 0
     }
 
-    /// How many bytes are read now at most: the rest of a payload, or a short piece; or no more
-    /// than the head of a frame, so that no two calls end in one piece.
-    pub(crate) fn read_limit(&self, is_by_frames: bool) -> usize
+    /// How many bytes are left of the payload, of the preface, or of a head.
+    fn rest(&self) -> usize
         ensures some { 0 < result }
-        ensures bound { result ≤ 16384 }
-        ensures by_frames { is_by_frames ≡ true → result ≤ frame_rest self.now }
+        ensures most { result ≤ frame_rest self.now }
     {
         if self.left > 0 {
-            READ_LIMIT.min(self.left as usize)
-        } else if is_by_frames {
-            HEAD_BYTES.saturating_sub(self.head).max(1) as usize
+            self.left as usize
         } else {
-            FRONT_LIMIT
+            HEAD_BYTES.saturating_sub(self.head).max(1) as usize
         }
+    }
+
+    /// How many bytes are read now at most, so that no more than this ends in one piece.
+    pub(crate) fn read_limit(&self, piece: Piece) -> usize
+        ensures some { 0 < result }
+        ensures bound { result ≤ 16384 }
+        ensures frame { piece ≡ Piece.Frame → result ≤ frame_rest self.now }
+        ensures call { piece ≡ Piece.Call → result ≤ frame_rest self.now + call_front }
+    {
+        let most = match piece {
+            Piece::Frame => self.rest(),
+            Piece::Call => self.rest().saturating_add(CALL_FRONT),
+            Piece::Calls if self.left > 0 => self.rest(),
+            Piece::Calls => FRONT_LIMIT,
+        };
+        READ_LIMIT.min(most)
     }
 
     /// One more byte of a head came.

@@ -5,11 +5,11 @@ ghost use Rattle.served_instance.specs.Lone.{LoneInstance};
 ghost use Rattle.server_core.specs.StandsFor.{StandsAt};
 ghost use Rattle.serve.specs.Closings.{silence_limit};
 ghost use Rattle.serve.specs.KeepsServing.{most_counted};
-ghost use Rattle.serve.specs.Reads.{HasSeveralHalves, frame_rest};
+ghost use Rattle.serve.specs.Reads.{HasSeveralHalves, call_front, frame_rest};
 ghost use Rattle.serve.specs.Silence.{MayMakeRoom, IsLongestSilent};
 
 use crate::counts::ServeCounts;
-use crate::frame_course::FrameCourse;
+use crate::frame_course::{FrameCourse, Piece};
 use crate::sockets::{Socket, Sockets};
 use server_core::Server;
 
@@ -96,23 +96,30 @@ impl OpenSocket {
 
     /// How many bytes may come next that are worth room beside those that came now.
     pub(crate) fn awaited(&self) -> usize {
-        self.course.read_limit(false)
+        self.course.read_limit(Piece::Calls)
     }
 
-    /// How many bytes are read from it now at most: of no more than one frame where its instance is
-    /// known for long pieces, or few bytes may end several calls.
+    /// How many bytes are read from it now at most: of no more than one frame where few bytes may end
+    /// several calls, and of no more than one call that names texts where its instance is known for
+    /// long pieces.
     pub(crate) fn read_limit(&self, server: &Server, is_long: bool) -> usize
         ensures some { 0 < result }
         ensures bound { result ≤ 16384 }
-        ensures long { is_long ≡ true → result ≤ frame_rest self.now.course }
+        ensures long { is_long ≡ true → result ≤ frame_rest self.now.course + call_front }
         ensures apart { (l : LoneInstance)
             → StandsAt self.now.socket.instance server.now.instances l
             → HasSeveralHalves self.now.socket.connection l
             → result ≤ frame_rest self.now.course }
     {
-        // Of a payload no more than the rest is read in any case.
-        let is_by_frames = is_long || self.is_in_frame() || has_several_halves(server, self.socket);
-        self.course.read_limit(is_by_frames)
+        let has_more = !is_long && self.is_in_frame();
+        let piece = if has_more || has_several_halves(server, self.socket) {
+            Piece::Frame
+        } else if is_long {
+            Piece::Call
+        } else {
+            Piece::Calls
+        };
+        self.course.read_limit(piece)
     }
 
     /// These bytes came.

@@ -42,6 +42,10 @@ const CALM_TIME: u64 = 5;
 /// For how many microseconds that is.
 const CALM_AFTER: u64 = 64_000;
 
+/// After how many microseconds it is asked again what the server had of processors, where nothing
+/// moves.
+const LOOK_TIME: u64 = 1_000_000;
+
 /// For how many microseconds of a turn runs are asked.
 const MOST_ASKED: u64 = 1_000;
 
@@ -62,6 +66,8 @@ pub(crate) struct Pace {
     passed: u64,
     /// What the server had of processors when that was asked last, and what was charged since.
     processor: ProcessorTime,
+    /// When it was asked at a turn's begin last.
+    looked: Option<u64>,
     /// The heavy instance that has its slice in this turn.
     chosen: Option<u32>,
     /// Whether an instance is heavy in this turn.
@@ -109,6 +115,7 @@ impl Pace {
             turn: 0,
             passed: 0,
             processor: ProcessorTime { had: 0, lacked: 0 },
+            looked: None,
             chosen: None,
             has_heavy: false,
             is_passed_over: false,
@@ -131,13 +138,13 @@ impl Pace {
     }
 
     /// The next turn begins, for the quick ones at first; and those runs are asked that wait, or
-    /// not. So often it is asked, too, what the server had of processors.
+    /// not. So often it is asked, too, what the server had of processors, while anything moves.
     pub(crate) fn begin<S: Sockets>(&mut self, sockets: &S, is_due: bool) {
         let had_turn = self.chosen;
         self.turn = self.turn.wrapping_add(1);
         self.passed = sockets.passed();
         if is_due {
-            self.processor = sockets.processor();
+            self.look(sockets);
             self.idle_runs = None;
         }
         self.chosen = None;
@@ -166,6 +173,21 @@ impl Pace {
             self.full_ended = self.passed;
             self.full_took = most.min(MOST_REST);
         }
+    }
+
+    /// Asks what the server had of processors. Where nothing moved for some time that is hardly more
+    /// than it was, so it is asked once a second.
+    fn look<S: Sockets>(&mut self, sockets: &S) {
+        let is_calm = self.passed.saturating_sub(self.moved) >= CALM_AFTER;
+        let is_known = match self.looked {
+            Some(looked) => self.passed.saturating_sub(looked) < LOOK_TIME,
+            None => false,
+        };
+        if is_calm && is_known {
+            return;
+        }
+        self.processor = sockets.processor();
+        self.looked = Some(self.passed);
     }
 
     /// What the active instance had that had least, of all or of those that are quick and for which

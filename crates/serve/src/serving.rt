@@ -312,8 +312,9 @@ pub struct Beginning {
 /// whoever used them up has them next as one of those that did, by turns, who had least first, and
 /// where nothing moved for others, or they had more. For as long as the last such turn took it
 /// waits for one that had less, and for which something moved just before. Of an instance for which
-/// a piece of work took a millisecond no piece has more than a frame, for a minute, and none of a
-/// connection on which few bytes may end two calls or more. A piece of ten milliseconds ends the turn.
+/// a piece of work took a millisecond no two calls that name texts end in a piece, for a minute; and
+/// of a connection on which few bytes may end two calls or more none has more than a frame. A piece
+/// of ten milliseconds ends the turn.
 /// Where another one was active within a second its instance rests then for as long as that took,
 /// or until nothing moved for a quarter of that. A connection on which nothing moved for 20
 /// milliseconds is tried once a millisecond, until something moves on it again. A connection is

@@ -1,6 +1,7 @@
 //! A walk for one call, which is carried out in steps.
 
 ghost use Rattle.std.specs.Prelude.{◌≡◌, true, IfOk, IfSome};
+ghost use Rattle.blob_pool.specs.Slots.{Slots};
 ghost use Rattle.input_tree.specs.Listing.{Lookup};
 ghost use Rattle.actions.specs.Shown.{nodes_shown};
 ghost use Rattle.actions.specs.Walk.{walk};
@@ -11,7 +12,7 @@ ghost use Rattle.actions.specs.WalkReadings.{Reads};
 use crate::fault::TreeFault;
 use crate::finding::Finds;
 use crate::tree_walk::TreeWalk;
-use crate::walking::{Plan, walk};
+use crate::walking::{Plan, planned, walk};
 use blob_pool::Pool;
 use digest::Digest;
 use keyed_maps::MapKey;
@@ -26,13 +27,17 @@ pub enum WalkReading {
 }
 
 /// What a walk came to that met all nodes.
-fn ended(walk: TreeWalk) -> Result<WalkReading, AllocError>
+fn ended<F: Finds>(
+    alloc: Global,
+    view: &F,
+    walk: TreeWalk,
+) -> Result<WalkReading, AllocError>
     requires over { is_over walk ≡ true }
-    ensures reads { (look : Lookup) → Reads look (WalkReading.Going walk) →
-        IfOk result (Reads look) }
+    ensures reads { (p : Slots) → Reads (F.found_in p view.now) (WalkReading.Going walk) →
+        IfOk result (Reads (F.found_in p view.now)) }
 {
     let root = walk.root();
-    match walk.end() {
+    match planned(alloc, view, &root, walk.into_nodes()) {
         Ok(plan) => Ok(WalkReading::Over(root, Ok(plan))),
         Err(fault) => faulty(root, fault),
     }
@@ -61,7 +66,7 @@ fn gone_on<F: Finds>(
     ensures reads { IfOk result (Reads (F.found_in pool.now view.now)) }
 {
     if walk.is_over() {
-        return ended(walk);
+        return ended(alloc, view, walk);
     }
     let root = walk.root();
     let mut walk = walk;

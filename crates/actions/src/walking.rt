@@ -1,6 +1,6 @@
 //! The walk.
 
-ghost use Rattle.std.specs.Prelude.{◌≡◌, ◌++◌, [], ◌∷◌, true, IfOk, IfErr, OnOk};
+ghost use Rattle.std.specs.Prelude.{◌≡◌, ◌++◌, [], ◌∷◌, true, Ok, IfOk, IfErr, OnOk};
 ghost use Rattle.std.specs.List.{filter_map};
 ghost use Rattle.blob_pool.specs.Slots.{Slots};
 ghost use Rattle.actions.specs.Shown.{node_shown, nodes_shown};
@@ -114,6 +114,25 @@ fn missing_among<F: Finds>(
     Ok(missing)
 }
 
+/// What a walk through the tree of a root comes to that met these nodes.
+pub(crate) fn planned<F: Finds>(
+    alloc: Global,
+    view: &F,
+    root: &Digest,
+    nodes: Vec<PlanNode>,
+) -> Result<Plan, TreeFault>
+    ensures { (p : Slots) →
+        nodes_met (F.found_in p view.now) root.now ≡ Ok (nodes_shown nodes.items) →
+        Answers (λ plan. nodes_shown plan.nodes.items) result
+            (walk (F.found_in p view.now) root.now) }
+{
+    let missing = missing_among(alloc, view, root, &nodes)?;
+    if missing.is_empty() {
+        return Ok(Plan { nodes });
+    }
+    Err(TreeFault::Missing(missing))
+}
+
 /// Walks through the tree of a root: of each directory first the files, then the symbolic links,
 /// then each directory with what is in it.
 ///
@@ -130,9 +149,5 @@ pub fn walk<F: Finds>(
         (walk (F.found_in pool.now view.now) root.now) }
 {
     let nodes = nodes_met(alloc, view, pool, root)?;
-    let missing = missing_among(alloc, view, root, &nodes)?;
-    if missing.is_empty() {
-        return Ok(Plan { nodes });
-    }
-    Err(TreeFault::Missing(missing))
+    planned(alloc, view, root, nodes)
 }

@@ -14,6 +14,7 @@ use instance_view::{Sight, Texts, Work};
 use numerals::decimal;
 use protobuf_wire::{Message, Writer};
 use std::alloc::{AllocError, Global};
+use std::marker::Model;
 use tree_messages::GetTreeResponse;
 
 /// The most bytes that the records of a page's directories take, unless there is only one.

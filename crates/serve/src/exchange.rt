@@ -75,6 +75,9 @@ pub(crate) struct Rooms {
     pub(crate) until: u64,
     /// Whether the instance is known for long pieces, so that in none two calls end that name texts.
     pub(crate) is_long: bool,
+    /// Whether a request's end was taken for which others may have waited: what its call needs was
+    /// read in earlier turns.
+    pub(crate) was_awaited: bool,
 }
 
 impl Rooms {
@@ -84,6 +87,7 @@ impl Rooms {
             payload: Vec::with_capacity(alloc, READ_LIMIT)?,
             until: 0,
             is_long: false,
+            was_awaited: false,
         })
     }
 }
@@ -221,7 +225,8 @@ fn receive<S: Sockets, R: Runs>(
 /// The same piece by piece, as long as they take little time: some frames are short, and each piece
 /// that is told has few. The room is made before anything is read: where memory is refused for it,
 /// the bytes wait at the socket. So does the end of a request while that is read which its call
-/// needs, and whatever might change that: this counts as if it had moved.
+/// needs, and whatever might change that: this counts as if it had moved. Behind such an end whoever
+/// waited for it comes first.
 fn receive_all<S: Sockets, R: Runs>(
     alloc: Global,
     counting: &mut Counting,
@@ -240,10 +245,12 @@ fn receive_all<S: Sockets, R: Runs>(
     ensures over { result ≡ Tried.Over → IsGoneAt opened.old.socket (S.happened sockets.new) }
     ensures socket { opened.new.socket ≡ opened.old.socket }
 {
+    rooms.was_awaited = false;
     // To find out how much may be read takes longer than to find that nothing came.
     if !sockets.may_read(opened.socket) {
         return Tried::NotReady;
     }
+    let is_read = counting.server.waits(opened.socket.instance);
     let mut tried = Tried::NotReady;
     let end = opened.received().saturating_add(MOST_READ);
     for _ in 0..MOST_PIECES {
@@ -268,8 +275,9 @@ fn receive_all<S: Sockets, R: Runs>(
             Tried::NotReady => break,
             Tried::Over => return Tried::Over,
         }
+        rooms.was_awaited = is_read;
         let is_all = !taking.is_cut && opened.received().saturating_sub(before) < limit as u64;
-        if is_all || opened.received() >= end || sockets.passed() >= rooms.until {
+        if is_all || is_read || opened.received() >= end || sockets.passed() >= rooms.until {
             break;
         }
     }

@@ -151,7 +151,7 @@ fn page_for(
 
 /// The page with one more directory, or a new one with it alone, once the response of the full one
 /// was added; and how many bytes its records take.
-#[tactic(auto, using(crate::proofs::Paging::none_yet))]
+#[tactic(auto, using(crate::proofs::PagesLeft::none_yet))]
 fn page_with(
     alloc: Global,
     full: &mut Vec<Vec<u8>>,

@@ -1,7 +1,7 @@
 use Rattle.std.proofs.Common.{◌≡◌, ◌+◌, ℕ, List, ◌∷◌, [], ◌++◌, map, length, is_some, refl, rules, sym, ap, ◌∙◌}
 use Rattle.std.proofs.lemmas.List.{map-append, length-map}
 use Rattle.input_tree.specs.Pages.{page_before, page_bytes, page_from, takes, takes_more}
-use Rattle.input_tree.proofs.Paging.{bytes_kept, taken}
+use Rattle.input_tree.proofs.PagesLeft.{bytes_kept, taken}
 use Rattle.input_tree.proofs.pages.page_with.Goals as goal
 
 pub returns : goal.returns

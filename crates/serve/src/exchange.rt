@@ -77,6 +77,9 @@ pub(crate) struct Rooms {
     pub(crate) is_long: bool,
     /// What is looked at before it is read.
     shown: [u8; SHOWN_LIMIT],
+    /// Whether a request's end was taken for which others may have waited: what its call needs was
+    /// read in earlier turns.
+    pub(crate) was_awaited: bool,
 }
 
 impl Rooms {
@@ -87,6 +90,7 @@ impl Rooms {
             until: 0,
             is_long: false,
             shown: [0; SHOWN_LIMIT],
+            was_awaited: false,
         })
     }
 }
@@ -211,7 +215,8 @@ fn receive<S: Sockets, R: Runs>(
 /// The same piece by piece, as long as they take little time: some frames are short, and each piece
 /// that is told has few. The room is made before anything is read: where memory is refused for it,
 /// the bytes wait at the socket. So does the end of a request while that is read which its call
-/// needs, and whatever might change that: this counts as if it had moved.
+/// needs, and whatever might change that: this counts as if it had moved. Behind such an end whoever
+/// waited for it comes first.
 fn receive_all<S: Sockets, R: Runs>(
     alloc: Global,
     counting: &mut Counting,
@@ -230,10 +235,12 @@ fn receive_all<S: Sockets, R: Runs>(
     ensures over { result ≡ Tried.Over → IsGoneAt opened.old.socket (S.happened sockets.new) }
     ensures socket { opened.new.socket ≡ opened.old.socket }
 {
+    rooms.was_awaited = false;
     // To find out how much may be read takes longer than to find that nothing came.
     if !sockets.may_read(opened.socket) {
         return Tried::NotReady;
     }
+    let is_read = counting.server.waits(opened.socket.instance);
     let mut tried = Tried::NotReady;
     let end = opened.received().saturating_add(MOST_READ);
     let mut clear = 0;
@@ -259,8 +266,9 @@ fn receive_all<S: Sockets, R: Runs>(
             Tried::NotReady => break,
             Tried::Over => return Tried::Over,
         }
+        rooms.was_awaited = is_read;
         clear = clear.saturating_sub(opened.received().saturating_sub(before) as usize);
-        if opened.received() >= end || sockets.passed() >= rooms.until {
+        if is_read || opened.received() >= end || sockets.passed() >= rooms.until {
             break;
         }
     }

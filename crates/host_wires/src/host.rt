@@ -3,8 +3,9 @@
 //! What is believed of sockets is here. Of these types no history is known, so nothing checks that
 //! their calls do what the traits say of them: that the bytes which count as read came on this very
 //! connection, that those which count as sent went to it and to no other, that who is let in came to
-//! this very port, and that it was opened where it was asked for. These are some forty lines:
-//! `HostWire`, `HostDoor`, and `open` of `ThisHost`.
+//! this very port, and that it was opened where it was asked for. These are some sixty lines:
+//! `HostWire`, which takes bytes from the system before they are asked for (`BufReader`), `HostDoor`,
+//! and `open` of `ThisHost`.
 //!
 //! That the system tells all that came is believed of some twenty more: what registers, `look`,
 //! `news` and the tokens. Where they are wrong somebody waits, and nothing goes to another.
@@ -58,8 +59,9 @@ const AHEAD_LIMIT: usize = 4_096;
 /// A connection of this host.
 #[derive(Drop)]
 pub struct HostWire {
+    /// What a look shows is kept here until it is read.
     stream: RefCell<BufReader<TcpStream>>,
-    /// Whether a look found nothing, and nothing was asked for since.
+    /// Whether a look found nothing, and nothing was read since: whatever comes is told of.
     is_dry: Cell<bool>,
     /// Of its door.
     place: usize,
@@ -106,7 +108,6 @@ impl Wire for HostWire {
                 return Err(io::Error::from(ErrorKind::WouldBlock));
             }
         }
-        // Whatever came since is told of.
         if self.is_dry.replace(false) {
             return Err(io::Error::from(ErrorKind::WouldBlock));
         }
@@ -118,17 +119,10 @@ impl Wire for HostWire {
         let Ok(mut stream) = self.stream.try_borrow_mut() else {
             return Err(io::Error::from(ErrorKind::ResourceBusy));
         };
-        match stream.fill_buf() {
-            Ok(shown) => {
-                let count = shown.len().min(room.len());
-                room[..count].copy_from_slice(&shown[..count]);
-                Ok(count)
-            }
-            Err(error) => {
-                self.is_dry.set(error.kind() == ErrorKind::WouldBlock);
-                Err(error)
-            }
-        }
+        let shown = stream.fill_buf();
+        self.is_dry.set(matches!(&shown, Err(error) if error.kind() == ErrorKind::WouldBlock));
+        let mut shown = shown?;
+        shown.read(room)
     }
 
     fn write(&mut self, bytes: &[u8]) -> io::Result<usize> {

@@ -1,6 +1,6 @@
 //! What is read for calls before their requests are at an end, by the numbers of their instances.
 
-ghost use Rattle.std.specs.Prelude.{◌≡◌, ◌<◌, ◌≤◌, ℕ, List, Some, true, false, IfOk, IfSome, is_some, length, slice_set};
+ghost use Rattle.std.specs.Prelude.{◌≡◌, ◌<◌, ℕ, List, Some, true, false, IfOk, IfSome, is_some, length, slice_set};
 ghost use Rattle.std.specs.List.{list_any};
 ghost use Rattle.server_events.specs.Shown.{event_value, what_value};
 ghost use Rattle.served_instance.specs.Ahead.{FindsReading, KeepsTexts};
@@ -119,27 +119,26 @@ impl Readings {
         self.has_any = true;
     }
 
-    /// Keeps what was found to be read for a call of an instance; and says how many bytes may be
-    /// received now, of so many.
+    /// Keeps what was found to be read for a call of an instance by a look at so many bytes; and says
+    /// how many may be received now.
     pub(crate) fn note(
         &mut self,
         number: usize,
         found: Result<Ahead, AllocError>,
-        count: usize,
+        shown: usize,
     ) -> usize
         requires there { number < length self.old }
         requires found { (visible : List Blob) → IfOk found (FindsReading visible) }
-        ensures most { result ≤ count }
         ensures read { (s : ServerState) → AreRead s self.old → AreRead s self.new }
         ensures count { length self.new ≡ length self.old }
     {
         match found {
-            Ok(Ahead::Nothing(most)) => most.min(count),
+            Ok(Ahead::Nothing(count)) => count,
             Ok(Ahead::Reads(ahead)) => {
                 self.put(number, ahead);
                 0
             }
-            Err(_) => count,
+            Err(_) => shown,
         }
     }
 

@@ -36,7 +36,7 @@ use crate::readings::Readings;
 use blob_pool::Pool;
 use instance_view::View;
 use keyed_maps::MapKey;
-use served_instance::{Ahead, EventRefusal, Order, ReadAhead, ServedInstance, Task};
+use served_instance::{EventRefusal, Order, ReadAhead, ServedInstance, Task};
 use server_events::{Configs, Event, InstanceConfig, Limits};
 use std::alloc::{AllocError, Global};
 use std::marker::Model;
@@ -269,14 +269,8 @@ impl Server {
         }
         let alloc = *self.instances.allocator();
         let served = &self.instances[number];
-        match served.look_ahead(alloc, &self.pool, connection, bytes, are_apart) {
-            Ok(Ahead::Nothing(count)) => count,
-            Ok(Ahead::Reads(ahead)) => {
-                self.readings.put(number, ahead);
-                0
-            }
-            Err(_) => bytes.len(),
-        }
+        let found = served.look_ahead(alloc, &self.pool, connection, bytes, are_apart);
+        self.readings.note(number, found, bytes.len())
     }
 
     /// Goes on with what is read for a call of an instance, by one step, and says whether it goes on
@@ -285,13 +279,12 @@ impl Server {
         ensures same { self.new ≡ self.old }
     {
         let number = instance as usize;
+        if !self.readings.goes_on(number) {
+            return Ok(false);
+        }
         let Some(ahead) = self.readings.take(number) else {
             return Ok(false);
         };
-        if ahead.reading.is_over() {
-            self.readings.put(number, ahead);
-            return Ok(false);
-        }
         let alloc = *self.instances.allocator();
         let ahead = read_one(
             alloc,
@@ -440,18 +433,16 @@ fn new_parents(alloc: Global, configs: &Configs) -> Result<Vec<Option<usize>>, A
 fn parent_view<'a>(
     spare: &'a ServedInstance,
     instances: &'a [ServedInstance],
-    parents: &[Option<usize>],
-    number: usize,
+    parent: Option<usize>,
 ) -> &'a View
-    requires parents { AreParentsOf (length instances.now) parents.now }
-    requires there { number < length instances.now }
+    requires there { IfSome parent (λ p. p < length instances.now) }
     requires spare { spare.now.instance.view.entries ≡ [] }
     ensures { (p : Slots) → visible_in p result.now
-        ≡ texts_of_one (parent_at number parents.now) (all_in p instances.now) }
+        ≡ texts_of_one parent (all_in p instances.now) }
 {
-    match parents[number] {
-        Some(place) => instances[place].view(),
+    match parent {
         None => spare.view(),
+        Some(place) => instances[place].view(),
     }
 }
 
@@ -470,11 +461,12 @@ fn read_one(
     requires spare { spare.now.instance.view.entries ≡ [] }
     requires read { IsReadAhead (seen_at number (record
         { instances = all_in pool.now instances.now; parents = parents.now })) ahead }
-    ensures read { IfOk result (IsReadAhead (seen_at number (record
+    ensures { IfOk result (IsReadAhead (seen_at number (record
         { instances = all_in pool.now instances.now; parents = parents.now }))) }
 {
-    let parent = parent_view(spare, instances, parents, number);
-    instances[number].read_on(alloc, parent, pool, ahead)
+    let parent = parents[number];
+    let view = parent_view(spare, instances, parent);
+    instances[number].read_on(alloc, view, pool, ahead)
 }
 
 /// Gives the event to the instance that it names, which reads what its parent has.

@@ -240,13 +240,19 @@ impl Server {
         self.readings.beside_a_parent(&self.parents)
     }
 
-    /// How many of these bytes may be received now, which wait on a connection: those that stand
-    /// before a frame which ends the request of a call that reads much; or that frame, once it is
-    /// read; and none before, nor while what is read for another call needs the instance's texts.
-    /// Where memory is refused all may. Nothing is received by this, and what is read changes
-    /// nothing.
-    pub fn ready(&mut self, instance: u32, connection: u32, bytes: &[u8]) -> usize
-        ensures most { result ≤ length bytes.now }
+    /// How many bytes may be received now of those that wait on a connection, of which these are the
+    /// first: those that stand before a frame which ends the request of a call that reads much; or
+    /// that frame, once it is read; and none before, nor while what is read for another call needs
+    /// the instance's texts. Where calls that name much are to come apart, those up to the end of
+    /// one. Where memory is refused all of these may. Nothing is received by this, and what is read
+    /// changes nothing.
+    pub fn ready(
+        &mut self,
+        instance: u32,
+        connection: u32,
+        bytes: &[u8],
+        are_apart: bool,
+    ) -> usize
         ensures same { self.new ≡ self.old }
     {
         let number = instance as usize;
@@ -262,8 +268,9 @@ impl Server {
             return bytes.len();
         }
         let alloc = *self.instances.allocator();
-        match self.instances[number].look_ahead(alloc, &self.pool, connection, bytes) {
-            Ok(Ahead::Nothing(count)) => count.min(bytes.len()),
+        let served = &self.instances[number];
+        match served.look_ahead(alloc, &self.pool, connection, bytes, are_apart) {
+            Ok(Ahead::Nothing(count)) => count,
             Ok(Ahead::Reads(ahead)) => {
                 self.readings.put(number, ahead);
                 0

@@ -116,17 +116,22 @@ const MOST_STEPS: usize = 65_536;
 /// How many bytes are taken from a connection of which nothing has to be looked at before.
 const UNSEEN: usize = 1 << 30;
 
-/// How many of the bytes that wait on a connection are taken now before it is looked at again. Where
-/// a call of its instance may read much they are looked at first: nothing is taken of a request's
-/// end while that is read which its call needs, which goes on until the clock shows this.
+/// How many of the bytes that wait on a connection are taken now before it is looked at again, which
+/// it is where none are left of the last look. Where a call of its instance may read much they are
+/// looked at first: nothing is taken of a request's end while that is read which its call needs,
+/// which goes on until the clock shows this.
 fn clear_on<S: Sockets>(
     server: &mut Server,
     sockets: &S,
     socket: Socket,
     rooms: &mut Rooms,
+    left: usize,
 ) -> usize
     ensures same { server.new ≡ server.old }
 {
+    if left > 0 {
+        return left;
+    }
     if !rooms.is_long && !server.may_read_much(socket.instance) {
         return UNSEEN;
     }
@@ -243,12 +248,10 @@ fn receive_all<S: Sockets, R: Runs>(
     let is_read = counting.server.waits(opened.socket.instance);
     let mut tried = Tried::NotReady;
     let end = opened.received().saturating_add(MOST_READ);
-    let mut clear = 0;
+    let mut left = 0;
     for _ in 0..MOST_PIECES {
         let before = opened.received();
-        if clear == 0 {
-            clear = clear_on(&mut counting.server, sockets, opened.socket, rooms);
-        }
+        let clear = clear_on(&mut counting.server, sockets, opened.socket, rooms, left);
         if clear == 0 {
             return Tried::Moved;
         }
@@ -267,7 +270,7 @@ fn receive_all<S: Sockets, R: Runs>(
             Tried::Over => return Tried::Over,
         }
         rooms.was_awaited = is_read;
-        clear = clear.saturating_sub(opened.received().saturating_sub(before) as usize);
+        left = clear.saturating_sub(opened.received().saturating_sub(before) as usize);
         if is_read || opened.received() >= end || sockets.passed() >= rooms.until {
             break;
         }

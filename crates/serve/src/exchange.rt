@@ -113,13 +113,12 @@ fn has_room(room: &mut Vec<u8>, size: usize) -> bool
 /// How many steps of what a call reads are taken in a turn at most.
 const MOST_STEPS: usize = 65_536;
 
-/// How many bytes are taken from a connection of which nothing has to be looked at before.
+/// How many bytes are taken from a connection on which nothing is seen.
 const UNSEEN: usize = 1 << 30;
 
 /// How many of the bytes that wait on a connection are taken now before it is looked at again, which
-/// it is where none are left of the last look. Where a call of its instance may read much they are
-/// looked at first: nothing is taken of a request's end while that is read which its call needs,
-/// which goes on until the clock shows this.
+/// it is where none are left of the last look. Nothing is taken of a request's end while that is
+/// read which its call needs, which goes on until the clock shows this.
 fn clear_on<S: Sockets>(
     server: &mut Server,
     sockets: &S,
@@ -131,9 +130,6 @@ fn clear_on<S: Sockets>(
 {
     if left > 0 {
         return left;
-    }
-    if !rooms.is_long && !server.may_read_much(socket.instance) {
-        return UNSEEN;
     }
     match sockets.peek(socket, &mut rooms.shown) {
         Ok(shown) if shown > 0 => {

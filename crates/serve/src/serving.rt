@@ -325,8 +325,7 @@ pub struct Beginning {
 /// its client sent whole, from which no byte came for 60 seconds, or for 10 where the preface is
 /// not whole. For ten seconds behind an absence of the server of two or more none makes room.
 ///
-/// Where a call of an instance may read much, the bytes that wait are looked at before they are
-/// taken. The frame that ends such a call's request is taken once all is read that it needs, a share
+/// The bytes that wait are looked at before they are taken. Where a call may read much, the frame that ends such a call's request is taken once all is read that it needs, a share
 /// of it in each turn; nothing else is taken meanwhile that would change what is read, nor are the
 /// runs asked of which it would come. Behind the end of one that took several turns its instance
 /// has no more of the turn: whoever waited comes before the next such call.

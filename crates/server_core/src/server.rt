@@ -42,9 +42,6 @@ use std::alloc::{AllocError, Global};
 use std::marker::Model;
 use std::mem::swap;
 
-/// So many bytes of texts are read in one piece: that takes some milliseconds at most.
-const MUCH: u64 = 65_536;
-
 /// The task of a job that runs, and the pool in which its texts lie.
 #[derive(Clone, Copy)]
 pub struct LentTask<'a> {
@@ -202,30 +199,6 @@ impl Server {
             event,
             read,
         )
-    }
-
-    /// Whether a call of an instance may read much before it is answered, or what is read for
-    /// another call needs the instance's texts as they are: then it is to be asked how much is
-    /// `ready`.
-    pub fn may_read_much(&self, instance: u32) -> bool {
-        let number = instance as usize;
-        self.waits(instance) || self.seen_bytes(number) >= MUCH
-    }
-
-    /// How many bytes of texts an instance sees.
-    fn seen_bytes(&self, number: usize) -> u64 {
-        let own = match self.instances.get(number) {
-            Some(served) => served.view().total(),
-            None => 0,
-        };
-        let parent = match self.parents.get(number) {
-            Some(Some(place)) => match self.instances.get(*place) {
-                Some(parent) => parent.view().total(),
-                None => 0,
-            },
-            _ => 0,
-        };
-        own.saturating_add(parent)
     }
 
     /// Whether what is read for a call needs the texts of an instance as they are: nothing is to

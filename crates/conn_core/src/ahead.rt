@@ -50,6 +50,18 @@ impl<'a> EndsAhead<'a> {
         None
     }
 
+    /// Where the frame ends that is not whole, behind all others, if its head is; and how it ends a
+    /// request, if it does.
+    pub fn cut(&self) -> Option<(usize, Option<EndAhead>)> {
+        let frame = self.frames.begun()?;
+        let until = self.frames.fed_until(&frame);
+        if frame.ends_request() {
+            Some((until, Some(self.end(frame))))
+        } else {
+            Some((until, None))
+        }
+    }
+
     /// A request may begin with this frame.
     fn begin(&mut self, frame: &FrameAhead) {
         self.begun = None;

@@ -3,8 +3,9 @@
 //! What is believed of sockets is here. Of these types no history is known, so nothing checks that
 //! their calls do what the traits say of them: that the bytes which count as read came on this very
 //! connection, that those which count as sent went to it and to no other, that who is let in came to
-//! this very port, and that it was opened where it was asked for. These are some forty lines:
-//! `HostWire`, `HostDoor`, and `open` of `ThisHost`.
+//! this very port, and that it was opened where it was asked for. These are some sixty lines:
+//! `HostWire`, which takes bytes from the system before they are asked for (`BufReader`), `HostDoor`,
+//! and `open` of `ThisHost`.
 //!
 //! That the system tells all that came is believed of some twenty more: what registers, `look`,
 //! `news` and the tokens. Where they are wrong somebody waits, and nothing goes to another.
@@ -16,7 +17,9 @@ use crate::untold::Untold;
 use mio::event::Event;
 use mio::net::{TcpListener, TcpStream};
 use mio::{Events, Interest, Poll, Registry, Token};
-use std::io::{self, ErrorKind, Read, Write};
+use std::alloc::Global;
+use std::cell::{Cell, RefCell};
+use std::io::{self, BufRead, BufReader, ErrorKind, Read, Write};
 use std::net::{Shutdown, SocketAddr};
 use std::rc::Rc;
 use std::time::{Duration, Instant};
@@ -50,10 +53,16 @@ fn told_of(event: &Event) -> News {
     news_of(event.token().0, may_read, may_write)
 }
 
+/// How many bytes are taken from the system before they are asked for.
+const AHEAD_LIMIT: usize = 4_096;
+
 /// A connection of this host.
 #[derive(Drop)]
 pub struct HostWire {
-    stream: TcpStream,
+    /// What a look shows is kept here until it is read.
+    stream: RefCell<BufReader<TcpStream>>,
+    /// Whether a look found nothing, and nothing was read since: whatever comes is told of.
+    is_dry: Cell<bool>,
     /// Of its door.
     place: usize,
     token: Token,
@@ -71,7 +80,7 @@ impl HostWire {
     fn watch(&mut self) -> io::Result<()> {
         let both = Interest::READABLE | Interest::WRITABLE;
         let registry = self.registry.as_ref();
-        match registry.register(&mut self.stream, self.token, both) {
+        match registry.register(self.stream.get_mut().get_mut(), self.token, both) {
             Ok(()) => {
                 self.is_watched = true;
                 self.untold.as_ref().remove(self.token.0);
@@ -99,29 +108,40 @@ impl Wire for HostWire {
                 return Err(io::Error::from(ErrorKind::WouldBlock));
             }
         }
+        if self.is_dry.replace(false) {
+            return Err(io::Error::from(ErrorKind::WouldBlock));
+        }
         self.turns.as_ref().note_read(self.place);
-        self.stream.read(room)
+        self.stream.get_mut().read(room)
     }
 
     fn peek(&self, room: &mut [u8]) -> io::Result<usize> {
-        self.stream.peek(room)
+        let Ok(mut stream) = self.stream.try_borrow_mut() else {
+            return Err(io::Error::from(ErrorKind::ResourceBusy));
+        };
+        let shown = stream.fill_buf();
+        self.is_dry.set(matches!(&shown, Err(error) if error.kind() == ErrorKind::WouldBlock));
+        let mut shown = shown?;
+        shown.read(room)
     }
 
     fn write(&mut self, bytes: &[u8]) -> io::Result<usize> {
-        self.stream.write(bytes)
+        self.stream.get_mut().get_mut().write(bytes)
     }
 
     fn shut(&mut self) -> io::Result<()> {
-        give_up_later(&self.stream);
         self.untold.as_ref().remove(self.token.0);
         self.shut = Some(0);
-        self.stream.shutdown(Shutdown::Write)
+        let stream = self.stream.get_mut().get_ref();
+        give_up_later(stream);
+        stream.shutdown(Shutdown::Write)
     }
 }
 
 /// A port of this host.
 #[derive(Drop)]
 pub struct HostDoor {
+    alloc: Global,
     listener: TcpListener,
     place: usize,
     registry: Rc<Registry>,
@@ -137,8 +157,10 @@ impl Door for HostDoor {
         // Otherwise the end of a response waits for the client's acknowledgement of what was before
         // it.
         stream.set_nodelay(true)?;
+        let stream = BufReader::with_capacity(self.alloc, AHEAD_LIMIT, stream)?;
         let mut wire = HostWire {
-            stream,
+            stream: RefCell::new(stream),
+            is_dry: Cell::new(false),
             place: self.place,
             token: wire_token(self.place, number),
             is_watched: false,
@@ -208,6 +230,7 @@ impl<'a> Host for ThisHost<'a> {
             .as_ref()
             .register(&mut listener, token, Interest::READABLE)?;
         Ok(HostDoor {
+            alloc: self.rt.alloc(),
             listener,
             place,
             registry,

@@ -42,11 +42,12 @@ pub struct FramesAhead<'a> {
 }
 
 impl<'a> FramesAhead<'a> {
-    pub(crate) fn new(unread: &'a [u8], more: &'a [u8]) -> FramesAhead<'a> {
+    /// Those behind a preface of so many bytes, which is still to come.
+    pub(crate) fn new(preface: usize, unread: &'a [u8], more: &'a [u8]) -> FramesAhead<'a> {
         FramesAhead {
             unread,
             more,
-            at: 0,
+            at: preface,
         }
     }
 
@@ -71,23 +72,30 @@ impl<'a> FramesAhead<'a> {
         Some(number)
     }
 
-    /// The next frame, if it is whole.
-    pub fn next(&mut self) -> Option<FrameAhead> {
+    /// The next frame, whole or not, if its head is.
+    pub fn begun(&self) -> Option<FrameAhead> {
         let from = self.at;
         let length = self.number(from, 3)? as usize;
-        let until = from.saturating_add(HEADER_LENGTH).saturating_add(length);
-        let end = self.unread.len().saturating_add(self.more.len());
-        if length > MAX_FRAME_SIZE || until > end {
+        if length > MAX_FRAME_SIZE {
             return None;
         }
-        self.at = until;
         Some(FrameAhead {
             kind: self.byte(from.saturating_add(3))?,
             flags: self.byte(from.saturating_add(4))?,
             stream: self.number(from.saturating_add(5), 4)? % (1 << 31),
             from,
-            until,
+            until: from.saturating_add(HEADER_LENGTH).saturating_add(length),
         })
+    }
+
+    /// The next frame, if it is whole.
+    pub fn next(&mut self) -> Option<FrameAhead> {
+        let frame = self.begun()?;
+        if frame.until > self.unread.len().saturating_add(self.more.len()) {
+            return None;
+        }
+        self.at = frame.until;
+        Some(frame)
     }
 
     /// How many of the bytes that are to be fed stand before a frame.

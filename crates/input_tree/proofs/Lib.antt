@@ -2,7 +2,7 @@ mod Order
 mod Listed
 mod Steps
 mod Using
-mod Paging
+mod PagesLeft
 mod Lengths
 pub mod Records
 mod Readings

@@ -3,7 +3,7 @@
 ghost use Rattle.std.specs.Prelude.{◌≡◌, ◌+◌, ◌<◌, ◌≤◌, ◌^◌, ◌∷◌, ℕ, List, [], map, length, ◌++◌, Some, None, IfOk, OnOk, if◌then◌else◌};
 ghost use Rattle.std.specs.Fmt as fmt;
 ghost use Rattle.protobuf_wire.specs.Writing.{records_text, message_field};
-ghost use Rattle.input_tree.specs.Pages.{page_before, page_bytes, page_from, page_text, pages_along, place_asked, size_asked, takes_more, text_or_none, texts};
+ghost use Rattle.input_tree.specs.Pages.{page_before, page_bytes, page_from, page_text, pages_along, place_asked, size_asked, takes, takes_more, text_or_none, texts};
 ghost use Rattle.input_tree.specs.Pagings.{pages_with};
 ghost use Rattle.input_tree.specs.Work.{texts_length};
 ghost use Rattle.instance_view.specs.Texts.{look_of};
@@ -149,6 +149,35 @@ fn page_for(
     Ok(Vec::new(alloc))
 }
 
+/// The page with one more directory, or a new one with it alone, once the response of the full one
+/// was added; and how many bytes its records take.
+#[tactic(auto, using(crate::proofs::PagesLeft::none_yet))]
+fn page_with(
+    alloc: Global,
+    full: &mut Vec<Vec<u8>>,
+    page: Vec<Vec<u8>>,
+    bytes: usize,
+    text: Vec<u8>,
+    size: usize,
+    place: usize,
+) -> Result<(Vec<Vec<u8>>, usize), AllocError>
+    requires { bytes ≡ page_bytes (map (λ t. t.items) page.items) }
+    ensures full { OnOk result (map (λ p. p.items) full.new.items
+        ≡ map (λ p. p.items) full.old.items
+        ++ page_before (takes size (map (λ t. t.items) page.items) text.items) place
+        (map (λ t. t.items) page.items)) }
+    ensures page { IfOk result (λ next. map (λ t. t.items) next.0.items
+        ≡ page_from (takes size (map (λ t. t.items) page.items) text.items)
+        (map (λ t. t.items) page.items) ++ text.items ∷ []) }
+    ensures bytes { IfOk result (λ next. next.1 ≡ page_bytes (map (λ t. t.items) next.0.items)) }
+{
+    let more = record_length(&text)?;
+    let total = bytes_with(size, page.len(), bytes, more);
+    let mut page = page_for(alloc, full, page, total.is_some(), place)?;
+    page.push(text)?;
+    Ok((page, total.unwrap_or(more)))
+}
+
 /// Responses that are made one directory after another: those of full pages, and the page to which
 /// the next one goes. It holds no reference, so that other work may come between its steps.
 #[derive(Drop)]
@@ -202,7 +231,6 @@ impl Paging {
     }
 
     /// Takes the directory that comes next. Its text is copied once.
-    #[tactic(auto, unfolding(crate::specs::Pages::pages_along), using(crate::proofs::Paging::bytes_kept))]
     pub(crate) fn step(
         self,
         alloc: Global,
@@ -228,16 +256,13 @@ impl Paging {
         } = self;
         let mut full = full;
         let text = text_or_none(alloc, seen, work, digest)?;
-        let more = record_length(&text)?;
-        let total = bytes_with(size, page.len(), bytes, more);
-        let mut page = page_for(alloc, &mut full, page, total.is_some(), place)?;
-        page.push(text)?;
+        let (page, bytes) = page_with(alloc, &mut full, page, bytes, text, size, place)?;
         Ok(Paging {
             size,
             place: place + 1,
             full,
             page,
-            bytes: total.unwrap_or(more),
+            bytes,
         })
     }
 

@@ -12,8 +12,8 @@ use Rattle.instance_core.specs.declared.event.CallEvent.{CallEvent}
 use Rattle.instance_core.specs.declared.event.CallEvent.TheVariants as Code
 
 abbrev pub IsRead : List Blob → CallReading → Type 0
-IsRead visible (Tree tree) = Reads (texts_seen visible) tree
-IsRead visible (Inputs inputs) = ReadsInputs (texts_seen visible) inputs
+IsRead visible (Tree tree) = Reads (texts_seen visible) tree.value
+IsRead visible (Inputs inputs) = ReadsInputs (texts_seen visible) inputs.value
 
 -- what an event brings of what was read
 abbrev pub BringsRead : List Blob → CallEvent → Type 0

@@ -5,6 +5,7 @@ ghost use Rattle.instance_view.specs.Shown.{visible_in};
 ghost use Rattle.instance_view.specs.Visible.{Blob};
 ghost use Rattle.tree_calls.specs.GetTree.{texts_seen};
 ghost use Rattle.actions.specs.WalkReadings.{Reads as Walks};
+ghost use Rattle.execution.specs.ExecuteReadings.{ReadsInputs};
 ghost use Rattle.tree_calls.specs.TreeReadings.{Reads};
 ghost use Rattle.instance_core.specs.Readings.{IsRead};
 
@@ -21,13 +22,13 @@ use std::alloc::{AllocError, Global};
 use tree_calls::{TreeReading, begin_tree};
 
 /// What a call reads before it is answered, as far as it has come. It holds no reference, so that
-/// other work may come between its steps.
+/// other work may come between its steps. It lies in a box, as each event may bring one and few do.
 #[derive(Drop)]
 pub enum CallReading {
     /// The tree that a `GetTree` asks for, and its pages.
-    Tree(TreeReading),
+    Tree(Box<TreeReading>),
     /// The inputs of the action that an `Execute` asks for.
-    Inputs(ExecuteReading),
+    Inputs(Box<ExecuteReading>),
 }
 
 impl CallReading {
@@ -55,9 +56,13 @@ impl CallReading {
         let sight = Sight::new(view, parent);
         let texts = Texts::new(&sight, pool);
         match self {
-            CallReading::Tree(tree) => Ok(CallReading::Tree(tree.step(alloc, &texts)?)),
+            CallReading::Tree(tree) => {
+                let tree = Box::into_inner(tree).step(alloc, &texts)?;
+                Ok(CallReading::Tree(Box::new(alloc, tree)?))
+            }
             CallReading::Inputs(inputs) => {
-                Ok(CallReading::Inputs(inputs.step(alloc, &sight, pool)?))
+                let inputs = Box::into_inner(inputs).step(alloc, &sight, pool)?;
+                Ok(CallReading::Inputs(Box::new(alloc, inputs)?))
             }
         }
     }
@@ -75,6 +80,14 @@ pub struct ReadAhead {
 /// Whether a call of this method may read much.
 pub fn reads_much(method: Method) -> bool {
     matches!(method, Method::GetTree | Method::Execute)
+}
+
+/// Whether a call of this method may name much more than it brings, and is carried out in one piece.
+pub fn names_much(method: Method) -> bool {
+    matches!(
+        method,
+        Method::GetActionResult | Method::UpdateActionResult | Method::BatchReadBlobs
+    )
 }
 
 /// Begins to read what a call needs, before its request is at its end: that brings this message, or
@@ -98,11 +111,14 @@ pub fn begin_reading(
     match call.method() {
         Method::GetTree => {
             match begin_tree(alloc, &settings.name, pool, message)? {
-                Some(tree) => Ok(Some(CallReading::Tree(tree))),
+                Some(tree) => Ok(Some(CallReading::Tree(Box::new(alloc, tree)?))),
                 None => Ok(None),
             }
         }
-        Method::Execute => Ok(begin_inputs(alloc, settings, results, message)),
+        Method::Execute => match begin_inputs(alloc, settings, results, message) {
+            Some(inputs) => Ok(Some(CallReading::Inputs(Box::new(alloc, inputs)?))),
+            None => Ok(None),
+        },
         _ => Ok(None),
     }
 }
@@ -114,8 +130,8 @@ fn begin_inputs(
     settings: &Settings,
     results: &Results,
     message: &[u8],
-) -> Option<CallReading>
-    ensures { (visible : List Blob) → IfSome result (IsRead visible) }
+) -> Option<ExecuteReading>
+    ensures { (visible : List Blob) → IfSome result (ReadsInputs (texts_seen visible)) }
 {
     if settings.slots == 0 {
         return None;
@@ -124,7 +140,7 @@ fn begin_inputs(
     if !asked.skips_lookup && results.get(&asked.action).is_some() {
         return None;
     }
-    Some(CallReading::Inputs(ExecuteReading::Asked(asked.action)))
+    Some(ExecuteReading::Asked(asked.action))
 }
 
 /// What was read of the list of a tree.
@@ -133,7 +149,7 @@ pub fn tree_of(read: Option<CallReading>) -> Option<TreeReading>
         IfSome result (Reads (texts_seen visible)) }
 {
     match read {
-        Some(CallReading::Tree(tree)) => Some(tree),
+        Some(CallReading::Tree(tree)) => Some(Box::into_inner(tree)),
         _ => None,
     }
 }
@@ -144,7 +160,7 @@ pub fn inputs_of(read: Option<CallReading>) -> Option<WalkReading>
         IfSome result (Walks (texts_seen visible)) }
 {
     match read {
-        Some(CallReading::Inputs(inputs)) => inputs.walk(),
+        Some(CallReading::Inputs(inputs)) => Box::into_inner(inputs).walk(),
         _ => None,
     }
 }

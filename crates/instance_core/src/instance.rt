@@ -28,7 +28,7 @@ ghost use Rattle.instance_core.specs.Watching.{watched_numbers};
 ghost use Rattle.quota_evict.specs.Within.{most_stored_bytes};
 
 use crate::answers::{on_end, on_fault, on_head, on_message};
-use crate::call_reading::{CallReading, begin_reading, reads_much};
+use crate::call_reading::{CallReading, begin_reading};
 use crate::calls::Calls;
 use crate::contents::{Contents, InstanceSizes, Settings};
 use crate::counts::CallCounts;
@@ -44,6 +44,7 @@ use instance_limits::Limits;
 use instance_view::View;
 use job_queue::Queue;
 use keyed_maps::MapKey;
+use rpc::Method;
 use run_calls::Outcome;
 use std::alloc::{AllocError, Global};
 use std::marker::Model;
@@ -280,10 +281,9 @@ impl Instance {
         }
     }
 
-    /// Whether a call in course may read much once its request is at its end; `None` where there is
-    /// no such call. It is a hint.
-    pub fn reads_much(&self, id: CallId) -> Option<bool> {
-        Some(reads_much(self.calls.find(id)?.method()))
+    /// The method of a call in course; `None` where there is no such call.
+    pub fn method(&self, id: CallId) -> Option<Method> {
+        Some(self.calls.find(id)?.method())
     }
 
     /// Begins to read what a call needs, before its request is at its end: that brings this

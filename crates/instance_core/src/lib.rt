@@ -26,7 +26,7 @@ mod trees;
 mod turns;
 mod writing;
 
-pub use call_reading::{CallReading, ReadAhead, reads_much};
+pub use call_reading::{CallReading, ReadAhead, names_much, reads_much};
 pub use contents::InstanceSizes;
 pub use counts::{CallCounts, MethodCounts, STATUSES};
 pub use event::{CallEvent, CallId, GivenRange, Reply, ReplyItem};

@@ -157,15 +157,8 @@ pub fn carry_out(
         Method::BatchUpdateBlobs => update_blobs(alloc, settings, contents, pool, message),
         Method::BatchReadBlobs => read_blobs(alloc, settings, contents, parent, pool, message),
         Method::GetTree => {
-            get_pages(
-                alloc,
-                settings,
-                contents,
-                parent,
-                pool,
-                message,
-                tree_of(read),
-            )
+            let read = tree_of(read);
+            get_pages(alloc, settings, contents, parent, pool, message, read)
         }
         Method::GetActionResult => get_result(alloc, settings, contents, parent, pool, message),
         Method::UpdateActionResult => update_result(alloc, settings, contents, message),

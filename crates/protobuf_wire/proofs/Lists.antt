@@ -1,5 +1,5 @@
 -- A list of answers, of which some were given before.
-use Rattle.std.proofs.Common.{◌≡◌, ℕ, ◌+◌, List, [], ◌∷◌, ◌++◌, length, Option, Some, None, Result, Ok, Err, refl, sym, ap, append_assoc, append-nil, arith}
+use Rattle.std.proofs.Common.{◌≡◌, ℕ, ◌+◌, List, [], ◌∷◌, ◌++◌, length, Option, Some, None, Result, Ok, Err, refl, sym, ap, append_assoc, append-nil, ◌∙◌, arith}
 use Rattle.std.specs.Prelude.{unwrap_or}
 use Rattle.std.specs.List.{concat}
 use Rattle.protobuf_wire.specs.Results.{◌>>=◌}
@@ -8,6 +8,7 @@ use Rattle.protobuf_wire.specs.declared.field.WireError.{WireError}
 use Rattle.protobuf_wire.specs.declared.error.MessageError.{MessageError}
 use Rattle.protobuf_wire.specs.Fields.{last_or, payload_in, payloads}
 use Rattle.protobuf_wire.specs.Joining.{joined_after}
+use Rattle.protobuf_wire.specs.Answers.{of_wire}
 
 -- those that were given, and then the rest
 abbrev pub after : {B E : Type 0} → List B → Result (List B) E → Result (List B) E
@@ -51,3 +52,10 @@ joined_next field front r (Ok rs) = go (payload_in field r) refl where
       ≡ joined_after field (front ++ unwrap_or (payload_in field r) []) (Ok rs)
   go None at = rw (at, append-nil front) refl
   go (Some b) at = rw at (ap (λ (t : List ℕ). Ok t) (sym (append_assoc front b (concat (payloads field rs)))))
+
+-- behind the last record there are no more
+pub joined_over : (field : ℕ) (front : List ℕ) (all left : Result (List Record) WireError) →
+    joined_after field front left ≡ joined_after field [] all → left ≡ Ok [] → of_wire (joined_after field [] all) ≡ Ok front
+unfolding payloads
+joined_over field front all left same over =
+    ap of_wire (sym same ∙ ap (joined_after field front) over ∙ ap (λ (t : List ℕ). Ok t) (append-nil front))

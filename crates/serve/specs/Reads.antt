@@ -11,10 +11,6 @@ use Rattle.serve.specs.declared.frame_course.FrameCourse.{FrameCourse}
 abbrev pub frame_rest : FrameCourse → ℕ
 frame_rest c = if nat_lt 0 c.left then c.left else max 1 (9 - c.head)
 
--- a call that names a text has more bytes than this: the hash of a digest has as many digits
-abbrev pub call_front : ℕ
-call_front = 64
-
 -- the connection is open, and few bytes may end messages of two calls on it, or more
 abbrev pub HasSeveralHalves : ℕ → LoneInstance → Type 0
 HasSeveralHalves c l =

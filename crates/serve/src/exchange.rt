@@ -73,8 +73,13 @@ pub(crate) struct Rooms {
     payload: Vec<u8>,
     /// When the clock shows so many microseconds no further piece is read.
     pub(crate) until: u64,
-    /// Whether the instance is known for long pieces, so that in none two calls end that name texts.
+    /// Whether the instance is known for long pieces, so that in none two calls end that name much.
     pub(crate) is_long: bool,
+    /// What is looked at before it is read.
+    shown: [u8; SHOWN_LIMIT],
+    /// Whether a request's end was taken for which others may have waited: what its call needs was
+    /// read in earlier turns.
+    pub(crate) was_awaited: bool,
 }
 
 impl Rooms {
@@ -84,9 +89,14 @@ impl Rooms {
             payload: Vec::with_capacity(alloc, READ_LIMIT)?,
             until: 0,
             is_long: false,
+            shown: [0; SHOWN_LIMIT],
+            was_awaited: false,
         })
     }
 }
+
+/// How many bytes that wait on a connection are looked at in one look.
+const SHOWN_LIMIT: usize = 4_096;
 
 /// What is read over.
 static BLANK: [u8; READ_LIMIT] = [0; READ_LIMIT];
@@ -103,66 +113,51 @@ fn has_room(room: &mut Vec<u8>, size: usize) -> bool
 /// How many steps of what a call reads are taken in a turn at most.
 const MOST_STEPS: usize = 65_536;
 
-/// How much is taken now of what waits on a connection.
-#[derive(Clone, Copy, Debug)]
-struct Taking {
-    count: usize,
-    /// Whether something waits behind that, which is not taken yet.
-    is_cut: bool,
-}
+/// How many bytes are taken from a connection on which nothing is seen.
+const UNSEEN: usize = 1 << 30;
 
-/// How much is taken now of what waits on a connection, where there is room for so much. Where a
-/// call of its instance may read much it is looked at before: nothing is taken of a request's end
-/// while that is read which its call needs, which goes on until the clock shows this.
-fn taking_of<S: Sockets>(
+/// How many of the bytes that wait on a connection are taken now before it is looked at again, which
+/// it is where none are left of the last look. Nothing is taken of a request's end while that is
+/// read which its call needs, which goes on until the clock shows this.
+fn clear_on<S: Sockets>(
     server: &mut Server,
     sockets: &S,
     socket: Socket,
-    room: &mut Vec<u8>,
-    until: u64,
-) -> Taking
-    requires room { 0 < length room.old.items }
-    ensures most { result.count ≤ length room.new.items }
-    ensures room { length room.new.items ≡ length room.old.items }
+    rooms: &mut Rooms,
+    left: usize,
+) -> usize
     ensures same { server.new ≡ server.old }
 {
-    let all = Taking {
-        count: room.len(),
-        is_cut: false,
-    };
-    if !server.may_read_much(socket.instance) {
-        return all;
+    if left > 0 {
+        return left;
     }
-    match sockets.peek(socket, room) {
+    match sockets.peek(socket, &mut rooms.shown) {
         Ok(shown) if shown > 0 => {
-            let count = taken_of(server, sockets, socket, &room[..shown], until);
-            Taking {
-                count,
-                is_cut: count < shown,
-            }
+            let shown = &rooms.shown[..shown];
+            clear_of(server, sockets, socket, shown, rooms.until, rooms.is_long)
         }
         // Nor is the end of a connection, where another call's reading would begin anew.
-        Ok(_) if server.waits(socket.instance) => Taking {
-            count: 0,
-            is_cut: true,
-        },
-        _ => all,
+        Ok(_) if server.waits(socket.instance) => 0,
+        _ => UNSEEN,
     }
 }
 
-/// How many of the bytes are taken now that wait on a connection: none, while that is read which a
-/// call needs whose request they end. That goes on until the clock shows this.
-fn taken_of<S: Sockets>(
+/// The same where these bytes wait.
+fn clear_of<S: Sockets>(
     server: &mut Server,
     sockets: &S,
     socket: Socket,
     shown: &[u8],
     until: u64,
+    is_long: bool,
 ) -> usize
-    ensures most { result ≤ length shown.now }
     ensures same { server.new ≡ server.old }
 {
-    let count = server.ready(socket.instance, socket.connection, shown);
+    let Socket {
+        instance,
+        connection,
+    } = socket;
+    let count = server.ready(instance, connection, shown, is_long);
     if count > 0 {
         return count;
     }
@@ -170,9 +165,9 @@ fn taken_of<S: Sockets>(
         if sockets.passed() >= until {
             break;
         }
-        match server.read_on(socket.instance) {
+        match server.read_on(instance) {
             Ok(true) => {}
-            Ok(false) => return server.ready(socket.instance, socket.connection, shown),
+            Ok(false) => return server.ready(instance, connection, shown, is_long),
             // The call reads for itself.
             Err(_) => return shown.len(),
         }
@@ -221,7 +216,8 @@ fn receive<S: Sockets, R: Runs>(
 /// The same piece by piece, as long as they take little time: some frames are short, and each piece
 /// that is told has few. The room is made before anything is read: where memory is refused for it,
 /// the bytes wait at the socket. So does the end of a request while that is read which its call
-/// needs, and whatever might change that: this counts as if it had moved.
+/// needs, and whatever might change that: this counts as if it had moved. Behind such an end whoever
+/// waited for it comes first.
 fn receive_all<S: Sockets, R: Runs>(
     alloc: Global,
     counting: &mut Counting,
@@ -240,15 +236,22 @@ fn receive_all<S: Sockets, R: Runs>(
     ensures over { result ≡ Tried.Over → IsGoneAt opened.old.socket (S.happened sockets.new) }
     ensures socket { opened.new.socket ≡ opened.old.socket }
 {
+    rooms.was_awaited = false;
     // To find out how much may be read takes longer than to find that nothing came.
     if !sockets.may_read(opened.socket) {
         return Tried::NotReady;
     }
+    let is_read = counting.server.waits(opened.socket.instance);
     let mut tried = Tried::NotReady;
     let end = opened.received().saturating_add(MOST_READ);
+    let mut left = 0;
     for _ in 0..MOST_PIECES {
         let before = opened.received();
-        let limit = opened.read_limit(&counting.server, rooms.is_long);
+        let clear = clear_on(&mut counting.server, sockets, opened.socket, rooms, left);
+        if clear == 0 {
+            return Tried::Moved;
+        }
+        let limit = opened.read_limit(&counting.server).min(clear);
         let room = if opened.is_in_frame() {
             &mut rooms.payload
         } else {
@@ -257,19 +260,14 @@ fn receive_all<S: Sockets, R: Runs>(
         if !has_room(room, limit) {
             break;
         }
-        let server = &mut counting.server;
-        let taking = taking_of(server, sockets, opened.socket, room, rooms.until);
-        if taking.count == 0 {
-            return Tried::Moved;
-        }
-        room.truncate(taking.count);
         match receive(alloc, counting, sockets, runs, moment, opened, room) {
             Tried::Moved => tried = Tried::Moved,
             Tried::NotReady => break,
             Tried::Over => return Tried::Over,
         }
-        let is_all = !taking.is_cut && opened.received().saturating_sub(before) < limit as u64;
-        if is_all || opened.received() >= end || sockets.passed() >= rooms.until {
+        rooms.was_awaited = is_read;
+        left = clear.saturating_sub(opened.received().saturating_sub(before) as usize);
+        if is_read || opened.received() >= end || sockets.passed() >= rooms.until {
             break;
         }
     }

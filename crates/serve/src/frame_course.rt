@@ -1,7 +1,7 @@
 //! How far the frame reaches that comes in on a connection.
 
-ghost use Rattle.std.specs.Prelude.{◌≡◌, ◌+◌, ◌<◌, ◌≤◌};
-ghost use Rattle.serve.specs.Reads.{call_front, frame_rest};
+ghost use Rattle.std.specs.Prelude.{◌≡◌, ◌<◌, ◌≤◌};
+ghost use Rattle.serve.specs.Reads.{frame_rest};
 
 /// The most bytes that are read from a connection at a time.
 pub(crate) const READ_LIMIT: usize = 16_384;
@@ -9,10 +9,6 @@ pub(crate) const READ_LIMIT: usize = 16_384;
 /// The most that are read where a frame begins: few calls fit in them, and what is read is carried
 /// out in one piece.
 pub(crate) const FRONT_LIMIT: usize = 512;
-
-/// How many bytes are read beyond the rest of a frame at most where no two calls that name texts are
-/// to end in one piece: each of them has more, since a digest has as many digits.
-const CALL_FRONT: usize = 64;
 
 /// How many bytes a client's preface has.
 const PREFACE_LENGTH: u32 = 24;
@@ -28,8 +24,6 @@ const HEAD_BYTES: u8 = 9;
 pub(crate) enum Piece {
     /// A frame, or a head of one.
     Frame,
-    /// A call that names texts, where none other waits for few bytes.
-    Call,
     /// Few calls.
     Calls,
 }
@@ -78,11 +72,9 @@ impl FrameCourse {
         ensures some { 0 < result }
         ensures bound { result ≤ 16384 }
         ensures frame { piece ≡ Piece.Frame → result ≤ frame_rest self.now }
-        ensures call { piece ≡ Piece.Call → result ≤ frame_rest self.now + call_front }
     {
         let most = match piece {
             Piece::Frame => self.rest(),
-            Piece::Call => self.rest().saturating_add(CALL_FRONT),
             Piece::Calls if self.left > 0 => self.rest(),
             Piece::Calls => FRONT_LIMIT,
         };

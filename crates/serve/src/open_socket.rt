@@ -100,22 +100,17 @@ impl OpenSocket {
     }
 
     /// How many bytes are read from it now at most: of no more than one frame where few bytes may end
-    /// several calls, and of no more than one call that names texts where its instance is known for
-    /// long pieces.
-    pub(crate) fn read_limit(&self, server: &Server, is_long: bool) -> usize
+    /// several calls.
+    pub(crate) fn read_limit(&self, server: &Server) -> usize
         ensures some { 0 < result }
         ensures bound { result ≤ 16384 }
-        ensures long { is_long ≡ true → result ≤ frame_rest self.now.course + call_front }
         ensures apart { (l : LoneInstance)
             → StandsAt self.now.socket.instance server.now.instances l
             → HasSeveralHalves self.now.socket.connection l
             → result ≤ frame_rest self.now.course }
     {
-        let has_more = !is_long && self.is_in_frame();
-        let piece = if has_more || has_several_halves(server, self.socket) {
+        let piece = if self.is_in_frame() || has_several_halves(server, self.socket) {
             Piece::Frame
-        } else if is_long {
-            Piece::Call
         } else {
             Piece::Calls
         };

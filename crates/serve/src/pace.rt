@@ -514,13 +514,15 @@ impl Pace {
         }
     }
 
-    /// The connection at this place, of an instance, was tried.
+    /// The connection at this place, of an instance, was tried. Where others may have waited for
+    /// what was taken of it, its instance has no more of this turn.
     pub(crate) fn note<S: Sockets>(
         &mut self,
         sockets: &S,
         instance: u32,
         place: usize,
         tried: Tried,
+        was_awaited: bool,
     )
         ensures others { (other : ℕ) → other ≢ instance → slice_get self.new.shares.items other
             ≡ slice_get self.old.shares.items other }
@@ -534,9 +536,22 @@ impl Pace {
             return;
         }
         let _charged = self.charge(sockets, sockets.passed(), instance, Work::Exchange);
+        if was_awaited {
+            self.end_slice(instance);
+        }
         self.note_active(instance);
         if self.chosen == Some(instance) {
             self.from = place.saturating_add(1);
+        }
+    }
+
+    /// An instance has no more of this turn.
+    fn end_slice(&mut self, instance: u32)
+        ensures others { (other : ℕ) → other ≢ instance → slice_get self.new.shares.items other
+            ≡ slice_get self.old.shares.items other }
+    {
+        if let Some(share) = self.shares.get_mut(instance as usize) {
+            share.spent = share.spent.max(SLICE);
         }
     }
 

@@ -325,10 +325,11 @@ pub struct Beginning {
 /// its client sent whole, from which no byte came for 60 seconds, or for 10 where the preface is
 /// not whole. For ten seconds behind an absence of the server of two or more none makes room.
 ///
-/// Where a call of an instance may read much, the bytes that wait are looked at before they are
-/// taken. The frame that ends such a call's request is taken once all is read that it needs, a share
-/// of it in each turn; nothing else is taken meanwhile that would change what is read, nor are the
-/// runs asked of which it would come.
+/// The bytes that wait are looked at before they are taken. The frame that ends the request of a call
+/// which may read much is taken once all is read that it needs, a share of it in each turn; nothing
+/// else is taken meanwhile that would change what is read, nor are the runs asked of which it would
+/// come. Behind the end of one that took several turns its instance has no more of the turn: whoever
+/// waited comes before the next such call.
 ///
 /// What an instance orders is carried out at once. In each turn the runs go on, one after another,
 /// for a millisecond at most; where all wait for programs or folders, 64 of them at most, once a

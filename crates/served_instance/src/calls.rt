@@ -63,7 +63,7 @@ impl<'a> Lent<'a> {
         ensures brings { BringsRead (seen (lent_state (lent_value self.now))) result }
         ensures event { event_shown result ≡ event_shown event }
         ensures kept { IfSome read.new (IsReadAhead
-            (seen (state_after (lent_state (lent_value self.now)) (event_shown event)))) }
+            (seen (state_after (lent_state (lent_value self.now)) (event_shown result)))) }
     {
         let Some(ahead) = read.take() else {
             return event;
@@ -73,9 +73,10 @@ impl<'a> Lent<'a> {
                 return CallEvent::End(*call, Some(ahead.reading));
             }
         }
-        if self.instance.leaves_texts(&event) {
-            *read = Some(ahead);
+        if !self.instance.leaves_texts(&event) {
+            return event;
         }
+        *read = Some(ahead);
         event
     }
 

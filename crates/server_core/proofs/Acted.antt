@@ -63,6 +63,11 @@ parent_fits parents count n (Some p) good is =
     let g = good.others n p is in
     (omega (arith, g.within, good.each), g.another)
 
+pub parent_there : (parents : List (Option ℕ)) (count n : ℕ) (o : Option ℕ) → AreParentsOf count parents → slice_get parents n ≡ Some o →
+    IfSome o (λ p. p < count)
+parent_there parents count n None good is = tt
+parent_there parents count n (Some p) good is = omega (arith, (good.others n p is).within, good.each)
+
 -- ---- what comes of it
 
 module _ (p q : Slots) (parent : List Blob) (xs ys : List ServedSlots) (n : ℕ) (e : LoneEvent) (r : Result (Vec Order Global) EventRefusal)

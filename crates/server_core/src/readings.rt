@@ -1,14 +1,16 @@
 //! What is read for calls before their requests are at an end, by the numbers of their instances.
 
-ghost use Rattle.std.specs.Prelude.{◌≡◌, ◌<◌, ℕ, false, IfOk, IfSome, IsTrue, length};
+ghost use Rattle.std.specs.Prelude.{◌≡◌, ◌<◌, ℕ, List, Some, true, false, IfOk, IfSome, is_some, length, slice_set};
+ghost use Rattle.std.specs.List.{list_any};
 ghost use Rattle.server_events.specs.Shown.{event_value, what_value};
-ghost use Rattle.served_instance.specs.Ahead.{KeepsTexts};
+ghost use Rattle.served_instance.specs.Ahead.{FindsReading, KeepsTexts};
 ghost use Rattle.instance_core.specs.Readings.{IsReadAhead};
+ghost use Rattle.instance_core.specs.Visible.{Blob};
 ghost use Rattle.server_core.specs.Parents.{parent_at};
 ghost use Rattle.server_core.specs.Readings.{AreRead, IsApart, IsThere, LeavesTexts, seen_at};
 ghost use Rattle.server_core.specs.StandsFor.{ServerState};
 
-use served_instance::ReadAhead;
+use served_instance::{Ahead, ReadAhead};
 use server_events::{Event, What};
 use std::alloc::{AllocError, Global};
 use std::marker::Model;
@@ -59,6 +61,14 @@ impl Readings {
         }
     }
 
+    /// Whether something is read for a call of an instance, and more of it is to be read.
+    pub(crate) fn goes_on(&self, number: usize) -> bool {
+        match self.get(number) {
+            Some(ahead) => !ahead.reading.is_over(),
+            None => false,
+        }
+    }
+
     /// Whether what is read needs the texts of an instance: it is for a call of that, or of one that
     /// builds on it.
     pub(crate) fn need(&self, parents: &[Option<usize>], number: usize) -> bool {
@@ -87,7 +97,6 @@ impl Readings {
     }
 
     /// Takes out what is read for a call of an instance.
-    #[tactic(auto, using(crate::proofs::StillRead::taken_there))]
     pub(crate) fn take(&mut self, number: usize) -> Option<ReadAhead>
         ensures holds { (s : ServerState) → AreRead s self.old
             → IfSome result (IsReadAhead (seen_at number s)) }
@@ -96,28 +105,45 @@ impl Readings {
         ensures there { IfSome result (λ ahead. number < length self.old) }
         ensures count { length self.new ≡ length self.old }
     {
-        if number < self.all.len() {
-            replace(&mut self.all[number], None)
-        } else {
-            None
-        }
+        take_at(&mut self.all, number)
     }
 
     /// This is read for a call of an instance.
-    #[tactic(auto, using(crate::proofs::StillRead::put_read))]
     pub(crate) fn put(&mut self, number: usize, ahead: ReadAhead)
         requires there { number < length self.old }
         ensures read { (s : ServerState) → AreRead s self.old
             → IsReadAhead (seen_at number s) ahead → AreRead s self.new }
         ensures count { length self.new ≡ length self.old }
     {
-        self.all[number] = Some(ahead);
+        put_at(&mut self.all, number, ahead);
         self.has_any = true;
+    }
+
+    /// Keeps what was found to be read for a call of an instance by a look at so many bytes; and says
+    /// how many may be received now.
+    pub(crate) fn note(
+        &mut self,
+        number: usize,
+        found: Result<Ahead, AllocError>,
+        shown: usize,
+    ) -> usize
+        requires there { number < length self.old }
+        requires found { (visible : List Blob) → IfOk found (FindsReading visible) }
+        ensures read { (s : ServerState) → AreRead s self.old → AreRead s self.new }
+        ensures count { length self.new ≡ length self.old }
+    {
+        match found {
+            Ok(Ahead::Nothing(count)) => count,
+            Ok(Ahead::Reads(ahead)) => {
+                self.put(number, ahead);
+                0
+            }
+            Err(_) => shown,
+        }
     }
 
     /// Takes out what was read for a call whose request may end with the bytes of an event; and lets
     /// go of all that may be true no more behind the event.
-    #[tactic(auto, using(crate::proofs::StillRead::all_left, crate::proofs::StillRead::apart_left))]
     pub(crate) fn take_for(
         &mut self,
         parents: &[Option<usize>],
@@ -129,32 +155,16 @@ impl Readings {
             → LeavesTexts (event_value event.now) s t → AreRead s self.old → AreRead t self.new }
         ensures count { length self.new ≡ length self.old }
     {
-        if !self.has_any || keeps_texts(&event.what) {
+        if !self.has_any {
+            return None;
+        }
+        if keeps_texts(&event.what) {
             return None;
         }
         let number = event.instance as usize;
-        let taken = match &event.what {
-            What::Bytes(connection, _) => self.take_on(number, *connection),
-            _ => None,
-        };
+        let taken = take_of(&mut self.all, number, &event.what);
         self.forget(parents, number);
         taken
-    }
-
-    /// Takes out what is read for a call on a connection of an instance.
-    fn take_on(&mut self, number: usize, connection: u32) -> Option<ReadAhead>
-        ensures holds { (s : ServerState) → AreRead s self.old
-            → IfSome result (IsReadAhead (seen_at number s)) }
-        ensures left { (i : ℕ) (ahead : ReadAhead) → IsThere i ahead self.new
-            → IsThere i ahead self.old }
-        ensures count { length self.new ≡ length self.old }
-    {
-        let ahead = self.take(number)?;
-        if ahead.call.connection == connection {
-            Some(ahead)
-        } else {
-            None
-        }
     }
 
     /// Lets go of what is read for an instance, and for those that build on it.
@@ -163,16 +173,91 @@ impl Readings {
             → IsApart i number parents.now × IsThere i ahead self.old }
         ensures count { length self.new ≡ length self.old }
     {
-        let mut has_any = false;
-        for i in 0..self.all.len() {
-            if is_near(parents, i, number) {
-                self.all[i] = None;
-            } else if self.all[i].is_some() {
-                has_any = true;
-            }
-        }
-        self.has_any = has_any;
+        forget_near(&mut self.all, parents, number);
+        self.has_any = are_any(&self.all);
     }
+}
+
+/// This is read for a call of the instance of a number.
+fn put_at(all: &mut Vec<Option<ReadAhead>>, number: usize, ahead: ReadAhead)
+    requires there { number < length all.old.items }
+    ensures { all.new.items ≡ slice_set all.old.items number (Some ahead) }
+{
+    all[number] = Some(ahead);
+}
+
+/// Takes out what is read for a call of the instance of a number.
+fn take_at(all: &mut Vec<Option<ReadAhead>>, number: usize) -> Option<ReadAhead>
+    ensures taken { IfSome result (λ ahead. IsThere number ahead all.old.items) }
+    ensures left { (i : ℕ) (ahead : ReadAhead) → IsThere i ahead all.new.items
+        → IsThere i ahead all.old.items }
+    ensures count { length all.new.items ≡ length all.old.items }
+{
+    if number >= all.len() {
+        return None;
+    }
+    replace(&mut all[number], None)
+}
+
+/// Takes out what is read for a call whose request may end with what happens to an instance.
+fn take_of(
+    all: &mut Vec<Option<ReadAhead>>,
+    number: usize,
+    what: &What,
+) -> Option<ReadAhead>
+    ensures taken { IfSome result (λ ahead. IsThere number ahead all.old.items) }
+    ensures left { (i : ℕ) (ahead : ReadAhead) → IsThere i ahead all.new.items
+        → IsThere i ahead all.old.items }
+    ensures count { length all.new.items ≡ length all.old.items }
+{
+    let What::Bytes(connection, _) = what else {
+        return None;
+    };
+    let ahead = take_at(all, number)?;
+    if ahead.call.connection == *connection {
+        Some(ahead)
+    } else {
+        None
+    }
+}
+
+/// Lets go of what is read for the instance of a place, where that is the one of a number, or builds
+/// on it.
+fn forget_at(
+    all: &mut Vec<Option<ReadAhead>>,
+    parents: &[Option<usize>],
+    place: usize,
+    number: usize,
+)
+    requires there { place < length all.old.items }
+    ensures apart { (ahead : ReadAhead) → IsThere place ahead all.new.items
+        → IsApart place number parents.now }
+    ensures left { (i : ℕ) (ahead : ReadAhead) → IsThere i ahead all.new.items
+        → IsThere i ahead all.old.items }
+    ensures count { length all.new.items ≡ length all.old.items }
+{
+    if !is_near(parents, place, number) {
+        return;
+    }
+    all[place] = None;
+}
+
+/// Lets go of what is read for the instance of a number, and for those that build on it.
+fn forget_near(all: &mut Vec<Option<ReadAhead>>, parents: &[Option<usize>], number: usize)
+    ensures left { (i : ℕ) (ahead : ReadAhead) → IsThere i ahead all.new.items
+        → IsApart i number parents.now × IsThere i ahead all.old.items }
+    ensures count { length all.new.items ≡ length all.old.items }
+{
+    for place in 0..all.len() {
+        forget_at(all, parents, place, number);
+    }
+}
+
+/// Whether anything is read for any instance.
+fn are_any(all: &[Option<ReadAhead>]) -> bool
+    ensures { result ≡ list_any is_some all.now }
+{
+    all.iter().any(|read| read.is_some())
 }
 
 /// The number of an instance's parent, if it has one.
@@ -194,7 +279,7 @@ fn is_near(parents: &[Option<usize>], i: usize, number: usize) -> bool
 
 /// Whether an event leaves the texts of its instance as they are.
 fn keeps_texts(what: &What) -> bool
-    ensures { IsTrue result → KeepsTexts (what_value what.now) }
+    ensures { result ≡ true → KeepsTexts (what_value what.now) }
 {
     matches!(what, What::Open(_) | What::Took(..) | What::Tick)
 }

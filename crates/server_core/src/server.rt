@@ -36,14 +36,11 @@ use crate::readings::Readings;
 use blob_pool::Pool;
 use instance_view::View;
 use keyed_maps::MapKey;
-use served_instance::{Ahead, EventRefusal, Order, ReadAhead, ServedInstance, Task};
+use served_instance::{EventRefusal, Order, ReadAhead, ServedInstance, Task};
 use server_events::{Configs, Event, InstanceConfig, Limits};
 use std::alloc::{AllocError, Global};
 use std::marker::Model;
 use std::mem::swap;
-
-/// So many bytes of texts are read in one piece: that takes some milliseconds at most.
-const MUCH: u64 = 65_536;
 
 /// The task of a job that runs, and the pool in which its texts lie.
 #[derive(Clone, Copy)]
@@ -204,30 +201,6 @@ impl Server {
         )
     }
 
-    /// Whether a call of an instance may read much before it is answered, or what is read for
-    /// another call needs the instance's texts as they are: then it is to be asked how much is
-    /// `ready`.
-    pub fn may_read_much(&self, instance: u32) -> bool {
-        let number = instance as usize;
-        self.waits(instance) || self.seen_bytes(number) >= MUCH
-    }
-
-    /// How many bytes of texts an instance sees.
-    fn seen_bytes(&self, number: usize) -> u64 {
-        let own = match self.instances.get(number) {
-            Some(served) => served.view().total(),
-            None => 0,
-        };
-        let parent = match self.parents.get(number) {
-            Some(Some(place)) => match self.instances.get(*place) {
-                Some(parent) => parent.view().total(),
-                None => 0,
-            },
-            _ => 0,
-        };
-        own.saturating_add(parent)
-    }
-
     /// Whether what is read for a call needs the texts of an instance as they are: nothing is to
     /// happen meanwhile that changes them.
     pub fn waits(&self, instance: u32) -> bool {
@@ -240,13 +213,19 @@ impl Server {
         self.readings.beside_a_parent(&self.parents)
     }
 
-    /// How many of these bytes may be received now, which wait on a connection: those that stand
-    /// before a frame which ends the request of a call that reads much; or that frame, once it is
-    /// read; and none before, nor while what is read for another call needs the instance's texts.
-    /// Where memory is refused all may. Nothing is received by this, and what is read changes
-    /// nothing.
-    pub fn ready(&mut self, instance: u32, connection: u32, bytes: &[u8]) -> usize
-        ensures most { result ≤ length bytes.now }
+    /// How many bytes may be received now of those that wait on a connection, of which these are the
+    /// first: those that stand before a frame which ends the request of a call that reads much; or
+    /// that frame, once it is read; and none before, nor while what is read for another call needs
+    /// the instance's texts. Where calls that name much are to come apart, those up to the end of
+    /// one. Where memory is refused all of these may. Nothing is received by this, and what is read
+    /// changes nothing.
+    pub fn ready(
+        &mut self,
+        instance: u32,
+        connection: u32,
+        bytes: &[u8],
+        are_apart: bool,
+    ) -> usize
         ensures same { self.new ≡ self.old }
     {
         let number = instance as usize;
@@ -262,14 +241,9 @@ impl Server {
             return bytes.len();
         }
         let alloc = *self.instances.allocator();
-        match self.instances[number].look_ahead(alloc, &self.pool, connection, bytes) {
-            Ok(Ahead::Nothing(count)) => count.min(bytes.len()),
-            Ok(Ahead::Reads(ahead)) => {
-                self.readings.put(number, ahead);
-                0
-            }
-            Err(_) => bytes.len(),
-        }
+        let served = &self.instances[number];
+        let found = served.look_ahead(alloc, &self.pool, connection, bytes, are_apart);
+        self.readings.note(number, found, bytes.len())
     }
 
     /// Goes on with what is read for a call of an instance, by one step, and says whether it goes on
@@ -278,13 +252,12 @@ impl Server {
         ensures same { self.new ≡ self.old }
     {
         let number = instance as usize;
+        if !self.readings.goes_on(number) {
+            return Ok(false);
+        }
         let Some(ahead) = self.readings.take(number) else {
             return Ok(false);
         };
-        if ahead.reading.is_over() {
-            self.readings.put(number, ahead);
-            return Ok(false);
-        }
         let alloc = *self.instances.allocator();
         let ahead = read_one(
             alloc,
@@ -433,18 +406,16 @@ fn new_parents(alloc: Global, configs: &Configs) -> Result<Vec<Option<usize>>, A
 fn parent_view<'a>(
     spare: &'a ServedInstance,
     instances: &'a [ServedInstance],
-    parents: &[Option<usize>],
-    number: usize,
+    parent: Option<usize>,
 ) -> &'a View
-    requires parents { AreParentsOf (length instances.now) parents.now }
-    requires there { number < length instances.now }
+    requires there { IfSome parent (λ p. p < length instances.now) }
     requires spare { spare.now.instance.view.entries ≡ [] }
     ensures { (p : Slots) → visible_in p result.now
-        ≡ texts_of_one (parent_at number parents.now) (all_in p instances.now) }
+        ≡ texts_of_one parent (all_in p instances.now) }
 {
-    match parents[number] {
-        Some(place) => instances[place].view(),
+    match parent {
         None => spare.view(),
+        Some(place) => instances[place].view(),
     }
 }
 
@@ -463,11 +434,12 @@ fn read_one(
     requires spare { spare.now.instance.view.entries ≡ [] }
     requires read { IsReadAhead (seen_at number (record
         { instances = all_in pool.now instances.now; parents = parents.now })) ahead }
-    ensures read { IfOk result (IsReadAhead (seen_at number (record
+    ensures { IfOk result (IsReadAhead (seen_at number (record
         { instances = all_in pool.now instances.now; parents = parents.now }))) }
 {
-    let parent = parent_view(spare, instances, parents, number);
-    instances[number].read_on(alloc, parent, pool, ahead)
+    let parent = parents[number];
+    let view = parent_view(spare, instances, parent);
+    instances[number].read_on(alloc, view, pool, ahead)
 }
 
 /// Gives the event to the instance that it names, which reads what its parent has.

@@ -12,7 +12,7 @@ ghost use Rattle.input_tree.specs.TreeReadings.{Reads};
 ghost use Rattle.tree_calls.specs.GetTree.{tree_refusal, texts_seen, get_tree_replies, get_tree_changes};
 ghost use Rattle.tree_calls.specs.TreeErrors.{tree_error};
 
-use crate::asking::{TreeAsked, tree_asked};
+use crate::asking::tree_asked;
 use blob_pool::Pool;
 use cas_service::CallError;
 use input_tree::{GetTreeError, PageAsked, TreeReading, TreeRefusal};
@@ -42,18 +42,6 @@ fn tree_error(error: GetTreeError) -> CallError
     }
 }
 
-/// The page that a request asks for.
-fn page_asked(asked: TreeAsked<'_>) -> PageAsked<'_>
-    ensures { result ≡ record
-        { root = asked.root; size = asked.page_size; token = asked.page_token } }
-{
-    PageAsked {
-        root: asked.root,
-        size: asked.page_size,
-        token: asked.page_token,
-    }
-}
-
 /// Begins to make what a request asks for, where it asks for a tree. This reads no text.
 pub fn begin_tree(
     alloc: Global,
@@ -66,8 +54,12 @@ pub fn begin_tree(
 {
     match tree_asked(alloc, own, message) {
         Ok(asked) => {
-            let work = Work::new();
-            let begun = TreeReading::begin(alloc, pool.key(), page_asked(asked), work)?;
+            let page = PageAsked {
+                root: asked.root,
+                size: asked.page_size,
+                token: asked.page_token,
+            };
+            let begun = TreeReading::begin(alloc, pool.key(), page, Work::new())?;
             Ok(Some(begun))
         }
         Err(CallError::Refused(_)) => Ok(None),
@@ -110,7 +102,11 @@ pub fn get_tree(
     ensures limit { view.new.limit ≡ view.old.limit }
 {
     let asked = tree_asked(alloc, own, message)?;
-    let page = page_asked(asked);
+    let page = PageAsked {
+        root: asked.root,
+        size: asked.page_size,
+        token: asked.page_token,
+    };
     let mut work = Work::new();
     match input_tree::get_tree(alloc, view, parent, pool, page, read, &mut work) {
         Ok(pages) => Ok(pages),

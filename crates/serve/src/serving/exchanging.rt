@@ -147,7 +147,8 @@ impl Serving {
                 &mut open,
                 rooms,
             );
-            self.pace.note(sockets, instance, at, tried);
+            self.pace
+                .note(sockets, instance, at, tried, self.rooms.was_awaited);
             match tried {
                 Tried::Over => {
                     self.connections.remove(at);

@@ -11,10 +11,6 @@ pub returns-in-NotReady-clause-stays : goal.returns-in-NotReady-clause-stays
 returns-in-NotReady-clause-stays g c = λ count before after next has.
     c.receive.ensures.stays count before after next (c.loop.invariant.stays count before after next has)
 
-pub returns-then-is_all-clause-stays : goal.returns-then-is_all-clause-stays
-returns-then-is_all-clause-stays g c = λ count before after next has.
-    c.receive.ensures.stays count before after next (c.loop.invariant.stays count before after next has)
-
 pub returns-in-NotReady-clause-over : goal.returns-in-NotReady-clause-over
 returns-in-NotReady-clause-over g c = λ is. absurd (c.loop.invariant.going is)
 
@@ -25,8 +21,8 @@ pub loop-preserved : goal.loop-preserved
 loop-preserved g c = record {
   serving = λ configs lt at.
       c.receive.ensures.serving configs (subst (λ (s : Socket). s.instance < length configs) (sym c.loop.invariant.socket) lt)
-      (same_server configs _ _ c.loop.counting (record c.loop.counting { server = c.taking_of-taking.new.server }) _
-      c.taking_of-taking.ensures.same refl (c.loop.invariant.serving configs lt at));
+      (same_server configs _ _ c.loop.counting (record c.loop.counting { server = c.clear_on-clear.new.server }) _
+      c.clear_on-clear.ensures.same refl (c.loop.invariant.serving configs lt at));
   stays = λ count before after next has.
       c.receive.ensures.stays count before after next (c.loop.invariant.stays count before after next has);
   no_fault = c.receive.ensures.no_fault ∙ c.loop.invariant.no_fault;

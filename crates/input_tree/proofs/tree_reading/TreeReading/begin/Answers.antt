@@ -6,7 +6,7 @@ use Rattle.input_tree.proofs.tree_reading.TreeReading.begin.Goals as goal
 pub returns : goal.returns
 returns c = record {
   reads = λ look.
-      let root = ap (named_in_tree look) (sym c.begin.ensures.root) in
-      let named = ap (length {A = Digest}) (c.begin.ensures.named look ∙ root) in
-      (c.begin.ensures.root, c.begin.ensures.leads look, omega (arith, named));
+      let root = ap (named_in_tree look) (sym c.begin-listing.ensures.root) in
+      let named = ap (length {A = Digest}) (c.begin-listing.ensures.named look ∙ root) in
+      (c.begin-listing.ensures.root, c.begin-listing.ensures.leads look, omega (arith, named));
 }

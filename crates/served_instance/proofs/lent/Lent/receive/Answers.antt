@@ -1,7 +1,11 @@
 use Rattle.std.proofs.Common.{◌<◌, ◌∙◌, List, length, refl, sym, subst, arith}
 use Rattle.std.proofs.lemmas.Grind.{common_steps}
+use Rattle.std.specs.Prelude.{IfSome, Option}
 use Rattle.blob_pool.specs.Slots.{text_at}
 use Rattle.conn_core.specs.Past.{with_bytes}
+use Rattle.instance_core.specs.declared.call_reading.ReadAhead.{ReadAhead}
+use Rattle.instance_core.specs.Readings.{IsReadAhead}
+use Rattle.instance_core.specs.State.{seen}
 use Rattle.served_instance.specs.declared.open_connection.OpenConnection.{OpenConnection}
 use Rattle.served_instance.specs.Acts.{TakesStep, after_rest_on}
 use Rattle.served_instance.specs.Connections.{at_open}
@@ -62,7 +66,8 @@ read_next-requires c =
     record {
       there = c.frames.invariant.went.apart.places c.args.number ∙ c.requires.there;
       lent = still_lent (lent_value c.args.self.now) (lent_value c.frames.self) c.requires.lent c.frames.invariant.went.goes;
-      read = c.frames.invariant.read;
+      read = subst (λ (left : Option ReadAhead). IfSome left (IsReadAhead (seen (lent_state (lent_value c.frames.self)))))
+          (sym c.take.ensures.value) c.frames.invariant.read;
     }
 
 pub frames-smaller : goal.frames-smaller
@@ -88,7 +93,7 @@ frames-preserved c =
           a.connections d.connections g.connections (bytes_events n bytes) (rest_events n) (rest_events n) c.frames.invariant.cuts
           c.in_ok-read_next.ensures.cuts;
       went = went_trans n a d g c.frames.invariant.went c.read_next.ensures.went;
-      read = tt;
+      read = subst (λ (left : Option ReadAhead). IfSome left (IsReadAhead (seen (lent_state g)))) (sym c.take.ensures.after) tt;
     }
 
 pub returns : goal.returns

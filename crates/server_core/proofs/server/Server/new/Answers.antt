@@ -3,6 +3,7 @@ use Rattle.server_events.specs.Configs.{config_fault, instance_limit, parent_of}
 use Rattle.server_core.specs.LoneOutput.{config_at}
 use Rattle.server_events.specs.Shown.{config_value}
 use Rattle.served_instance.specs.Slots.{served_state_in}
+use Rattle.std.proofs.lemmas.Grind.{common_steps}
 use Rattle.std.proofs.lemmas.List.{length_push, length-map, take_all}
 use Rattle.server_core.specs.Shared.{all_in}
 use Rattle.server_core.proofs.Begins.{quota_in, slots_in, starts_more, all_pushed, within_pushed, nobody_pushed, tidy_pushed, server_begun}
@@ -67,6 +68,8 @@ invariant_of-result c =
             ∙ omega (arith, c.loop-config.invariant.count, c.loop-config.auto.config-index-end);
         others = subst AreParents (sym parents) (parents_good c.args.configs.now c.instances-configs.ensures.good);
       },
+      grind (arith, common_steps),
+      c.in_ok-readings.ensures.none (record { instances = all_in c.new-pool.result ys; parents = c.in_ok-parents.parents.items }),
     )
 
 pub returns-clause-related : goal.returns-clause-related

@@ -58,6 +58,7 @@ fn add_string<'a>(texts: &mut Vec<&'a str>, entry: &Field<'a>, field: u32) -> Re
 }
 
 /// Adds the variable of a record, where it is one of the field.
+#[tactic(auto, using(execution_messages::proofs::ActionsAlong::variable_text_is))]
 fn add_variable<'a>(
     variables: &mut Vec<EnvironmentVariable<'a>>,
     entry: &Field<'a>,

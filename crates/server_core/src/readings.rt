@@ -54,10 +54,20 @@ impl Readings {
     }
 
     /// What is read for a call of an instance.
-    pub(crate) fn get(&self, number: usize) -> Option<&ReadAhead> {
+    fn get(&self, number: usize) -> Option<&ReadAhead> {
         match self.all.get(number) {
             Some(Some(ahead)) => Some(ahead),
             _ => None,
+        }
+    }
+
+    /// How many bytes end the request of a call on a connection of an instance for which all is read.
+    pub(crate) fn read_for(&self, number: usize, connection: u32) -> Option<usize> {
+        let ahead = self.get(number)?;
+        if ahead.call.connection == connection && ahead.reading.is_over() {
+            Some(ahead.rest)
+        } else {
+            None
         }
     }
 

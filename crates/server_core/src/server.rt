@@ -229,10 +229,8 @@ impl Server {
         ensures same { self.new ≡ self.old }
     {
         let number = instance as usize;
-        if let Some(ahead) = self.readings.get(number) {
-            if ahead.call.connection == connection && ahead.reading.is_over() {
-                return ahead.rest.min(bytes.len());
-            }
+        if let Some(rest) = self.readings.read_for(number, connection) {
+            return rest.min(bytes.len());
         }
         if self.waits(instance) {
             return 0;
@@ -437,8 +435,7 @@ fn read_one(
     ensures { IfOk result (IsReadAhead (seen_at number (record
         { instances = all_in pool.now instances.now; parents = parents.now }))) }
 {
-    let parent = parents[number];
-    let view = parent_view(spare, instances, parent);
+    let view = parent_view(spare, instances, parents[number]);
     instances[number].read_on(alloc, view, pool, ahead)
 }
 

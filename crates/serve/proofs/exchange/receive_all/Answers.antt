@@ -11,6 +11,10 @@ pub returns-in-NotReady-clause-stays : goal.returns-in-NotReady-clause-stays
 returns-in-NotReady-clause-stays g c = λ count before after next has.
     c.receive.ensures.stays count before after next (c.loop.invariant.stays count before after next has)
 
+pub returns-then-is_read-clause-stays : goal.returns-then-is_read-clause-stays
+returns-then-is_read-clause-stays g c = λ count before after next has.
+    c.receive.ensures.stays count before after next (c.loop.invariant.stays count before after next has)
+
 pub returns-in-NotReady-clause-over : goal.returns-in-NotReady-clause-over
 returns-in-NotReady-clause-over g c = λ is. absurd (c.loop.invariant.going is)
 

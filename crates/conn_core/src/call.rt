@@ -43,11 +43,7 @@ impl Call {
     }
 
     /// The message that this content ends, if it ends one: the text is what came before, and that.
-    fn message_ahead(
-        &self,
-        alloc: Global,
-        content: &[u8],
-    ) -> Result<Option<Vec<u8>>, AllocError> {
+    fn message_ahead(&self, alloc: Global, content: &[u8]) -> Result<Option<Vec<u8>>, AllocError> {
         let mut text = Vec::new(alloc);
         self.messages.copy_left(&mut text)?;
         text.extend_from_slice(content)?;

@@ -1,5 +1,5 @@
 -- Directories that may be made once for many runs.
-use Rattle.std.proofs.Common.{◌≡◌, ◌⊎◌, inl, inr, ℕ, zero, suc, ◌+◌, ◌-◌, ◌<◌, ◌≤◌, Bool, true, false, not, ◌&&◌, List, [], ◌∷◌, ◌++◌, map, length, take, drop, get_or, slice_set, min, nat_eq, nat_lt, Option, Some, None, IfSome, option_map, unwrap_or, refl, sym, ap, ap₂, ◌∙◌, append_assoc, append-nil, length-drop, take_all, arith}
+use Rattle.std.proofs.Common.{◌≡◌, ◌⊎◌, inl, inr, ℕ, zero, suc, ◌+◌, ◌-◌, ◌<◌, ◌≤◌, Bool, true, false, not, ◌&&◌, List, [], ◌∷◌, ◌++◌, map, length, take, drop, get_or, slice_set, min, nat_eq, nat_le, nat_lt, Option, Some, None, IfSome, is_some, option_map, unwrap_or, refl, sym, ap, ap₂, ◌∙◌, append_assoc, append-nil, length-drop, take_all, arith}
 use Rattle.std.specs.List.{flat_map, join_by, list_all, starts_with}
 use Rattle.std.specs.Borrow.{Bor}
 use Rattle.std.specs.Global.{Vec}
@@ -11,7 +11,7 @@ use Rattle.std.proofs.lemmas.List.{map-append, take-map}
 use Rattle.std.proofs.lemmas.Slice.Eq.{starts_is}
 use Rattle.execution_messages.specs.Actions.{CommandValue}
 use Rattle.actions.specs.Nodes.{PlanNode, PlanNodeValue}
-use Rattle.actions.specs.Passing.{file_count, within}
+use Rattle.actions.specs.Passing.{file_count, is_file, within}
 use Rattle.actions.specs.Paths.{Path, path_behind, paths_behind, paths_of}
 use Rattle.actions.specs.Shown.{node_shown, nodes_shown}
 use Rattle.run_calls.specs.declared.folder.InputTree.{InputTree}
@@ -27,6 +27,56 @@ within_none level n ns le = let test : nat_lt level n.level ≡ false = grind (a
 -- so many files were counted before these nodes
 abbrev pub IsCount : ℕ → ℕ → List PlanNodeValue → ℕ → Type 0
 IsCount level files left all = files + file_count (within level left) ≡ all
+
+few_files : (all : ℕ) → all < 64 → false ≡ nat_le 64 all
+few_files all less = grind (arith, nat_tests)
+
+many_files : (all : ℕ) → 64 ≤ all → true ≡ nat_le 64 all
+many_files all more = grind (arith, nat_tests)
+
+-- no more are counted behind the last node that stands there
+pub count_ends : (level files all : ℕ) (left : List PlanNode) (n : PlanNode) (rest : List PlanNode) →
+    IsCount level files (nodes_shown left) all → left ≡ n ∷ rest → n.level ≤ level → files < 64 → false ≡ nat_le 64 all
+count_ends level files all left n rest is left_is le less =
+    let e : file_count (within level (nodes_shown left)) ≡ 0 =
+    ap (λ ns. file_count (within level (nodes_shown ns))) left_is
+    ∙ ap file_count (within_none level (node_shown n) (nodes_shown rest) le) in
+    few_files all (omega (arith, is, e, less))
+
+pub count_is : (level files all : ℕ) (left : List PlanNode) → IsCount level files (nodes_shown left) all → left ≡ [] → files < 64 →
+    false ≡ nat_le 64 all
+count_is level files all left is left_is less =
+    let e : file_count (within level (nodes_shown left)) ≡ 0 = ap (λ ns. file_count (within level (nodes_shown ns))) left_is in
+    few_files all (omega (arith, is, e, less))
+
+-- one more node, which is a file or is none
+pub file_counted : (level files all : ℕ) (left : List PlanNode) (n : PlanNode) (rest : List PlanNode) →
+    IsCount level files (nodes_shown left) all → left ≡ n ∷ rest → level < n.level → is_file (node_shown n).kind ≡ true →
+    IsCount level (files + 1) (nodes_shown rest) all
+file_counted level files all left n rest is left_is deep yes =
+    let test : nat_lt level n.level ≡ true = grind (arith, nat_tests) in
+    let e : file_count (within level (nodes_shown left)) ≡ suc (file_count (within level (nodes_shown rest))) =
+    ap (λ ns. file_count (within level (nodes_shown ns))) left_is ∙ rw (test, yes) refl in
+    omega (arith, is, e)
+
+pub other_counted : (level files all : ℕ) (left : List PlanNode) (n : PlanNode) (rest : List PlanNode) →
+    IsCount level files (nodes_shown left) all → left ≡ n ∷ rest → level < n.level → is_file (node_shown n).kind ≡ false →
+    IsCount level files (nodes_shown rest) all
+other_counted level files all left n rest is left_is deep no =
+    let test : nat_lt level n.level ≡ true = grind (arith, nat_tests) in
+    let e : file_count (within level (nodes_shown left)) ≡ file_count (within level (nodes_shown rest)) =
+    ap (λ ns. file_count (within level (nodes_shown ns))) left_is ∙ rw (test, no) refl in
+    omega (arith, is, e)
+
+pub count_enough : (level files all : ℕ) (left : List PlanNode) → IsCount level files (nodes_shown left) all → 64 ≤ files →
+    true ≡ nat_le 64 all
+count_enough level files all left is enough = many_files all (omega (arith, is, enough))
+
+-- there is no size where there are none
+pub no_size : (sizes : List (Option ℕ)) (first : Option ℕ) → first ≡ get_or sizes 0 None → sizes ≡ [] → is_some first ≡ true → ⊥
+no_size sizes first is none yes =
+    let no : is_some first ≡ false = ap is_some is ∙ ap (λ (s : List (Option ℕ)). is_some (get_or s 0 None)) none in
+    cc
 
 -- so many bytes were counted before these nodes
 abbrev pub most : ℕ

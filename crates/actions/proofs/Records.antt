@@ -11,11 +11,11 @@ use Rattle.protobuf_wire.specs.Fields.{each_of, payload_in, payloads, repeated_s
 use Rattle.protobuf_wire.proofs.Lists.{after, after_next, after_none}
 use Rattle.protobuf_wire.specs.Gathering.{and_then, readable, string_after, string_in, with_all, with_left}
 use Rattle.protobuf_wire.proofs.Along.{none_after, string_is, text_is}
-use Rattle.execution_messages.specs.Actions.{ActionValue, CommandValue, EnvironmentVariableValue, action_after, action_of, environment_variable_of, command_of, no_action}
-use Rattle.execution_messages.proofs.ActionsAlong.{action_text_is}
+use Rattle.execution_messages.specs.Actions.{ActionValue, CommandValue, EnvironmentVariableValue, action_after, action_of, environment_variable_of, command_of, no_action, no_variable, variable_after}
+use Rattle.execution_messages.proofs.ActionsAlong.{action_text_is, variable_text_is}
 use Rattle.actions.specs.Actions.{taken_or_none}
 use Rattle.actions.specs.Commands.{is_command, valid_command}
-use Rattle.actions.specs.Texts.{each_after, strings_after, variable_in, command_with, command_after, no_command, taken_action, taken_command}
+use Rattle.actions.specs.Texts.{each_after, each_or, strings_after, variable_in, command_with, command_after, no_command, taken_action, taken_command}
 
 -- ---- two fields side by side
 
@@ -82,6 +82,15 @@ module _ {V : Type 0} (take : List ℕ → Option V) (read : List ℕ → Result
 
   all_are : (rs : List Record) → with_all (each_after take field) [] rs ≡ readable (each_of read (payloads field rs))
   all_are rs = each_are [] rs ∙ ap readable (after_none (each_of read (payloads field rs)))
+
+-- one more variable
+pub variable_added : (field : ℕ) (front : List EnvironmentVariableValue) (r : Record) (payload : List ℕ) (v : EnvironmentVariableValue) →
+    Some payload ≡ payload_in field r → with_left variable_after no_variable (records_of payload) ≡ Some v →
+    each_after variable_in field front r ≡ Some (front ++ v ∷ [])
+variable_added field front r payload v there read =
+    let meant : variable_in payload ≡ Some v = sym (variable_text_is payload) ∙ read in
+    sym (ap (each_or variable_in front) there)
+    ∙ ap (λ (o : Option EnvironmentVariableValue). and_then o (λ x. Some (front ++ x ∷ []))) meant
 
 -- ---- a command
 

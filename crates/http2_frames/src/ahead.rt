@@ -42,11 +42,12 @@ pub struct FramesAhead<'a> {
 }
 
 impl<'a> FramesAhead<'a> {
-    pub(crate) fn new(unread: &'a [u8], more: &'a [u8]) -> FramesAhead<'a> {
+    /// Those behind a preface of so many bytes, which is still to come.
+    pub(crate) fn new(preface: usize, unread: &'a [u8], more: &'a [u8]) -> FramesAhead<'a> {
         FramesAhead {
             unread,
             more,
-            at: 0,
+            at: preface,
         }
     }
 

@@ -175,7 +175,8 @@ impl FrameReader {
 
     /// The frames of what is unread, and of these bytes behind it. To look at them takes nothing.
     pub fn ahead<'a>(&'a self, more: &'a [u8]) -> FramesAhead<'a> {
-        FramesAhead::new(first(&self.joined, &self.received), more)
+        let unread = first(&self.joined, &self.received);
+        FramesAhead::new(self.preface.len(), unread, more)
     }
 
     fn pass_preface(&mut self)

@@ -1,6 +1,6 @@
 -- What GetTree answers, made for one call in steps: the list of a tree's directories first, and then
 -- its pages. For the code alone: no promise speaks of it.
-use Rattle.std.specs.Prelude.{◌≡◌, ◌≤◌, ◌+◌, ◌*◌, ℕ, ℤ, List, drop, length, map, Result, Ok, Err}
+use Rattle.std.specs.Prelude.{◌≡◌, ◌≤◌, ◌+◌, ◌*◌, ℕ, ℤ, List, drop, length, map, string_bytes, Result, Ok, Err}
 use Rattle.digest.specs.declared.Digest.{Digest}
 use Rattle.input_tree.specs.Listing.{Lookup, tree_list}
 use Rattle.input_tree.specs.Listings.{LeadsTo, named_left}
@@ -31,6 +31,6 @@ Reads look (Going asked listing work) =
     ≤ 2 * length (named_in_tree look listing.root))
 Reads look (Pages asked listed paging work) =
     (tree_list look asked.root ≡ Ok listed.keys)
-    × (pages_of look asked.size asked.token listed.keys
+    × (pages_of look asked.size (string_bytes asked.token) listed.keys
     ≡ Ok (pages_with paging (texts look (drop paging.place listed.keys))))
-Reads look (Over asked made) = AreMeant look asked.root asked.size asked.token made
+Reads look (Over asked made) = AreMeant look asked.root asked.size (string_bytes asked.token) made

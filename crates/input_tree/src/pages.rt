@@ -267,6 +267,7 @@ impl Paging {
     }
 
     /// The responses, where no directory comes any more.
+    #[tactic(auto, unfolding(crate::specs::Pages::pages_along))]
     pub(crate) fn end(self, alloc: Global) -> Result<Vec<Vec<u8>>, AllocError>
         ensures { IfOk result (λ responses. map (λ response. response.items) responses.items
             ≡ pages_with self []) }

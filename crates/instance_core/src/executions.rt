@@ -12,12 +12,10 @@ ghost use Rattle.instance_core.specs.Carries.{Carries, contents_holders, execute
 
 use crate::answer::Answer;
 use crate::contents::{Contents, Settings};
+use actions::WalkReading;
 use blob_pool::Pool;
 use cas_service::CallError;
-use actions::WalkReading;
-use execution::{
-    ExecuteAnswer, ExecuteCall, WaitAnswer, execute, execute_asked, name_asked, wait,
-};
+use execution::{ExecuteAnswer, ExecuteCall, WaitAnswer, execute, execute_asked, name_asked, wait};
 use instance_view::View;
 use std::alloc::Global;
 

@@ -6,7 +6,7 @@ mod Numbering
 mod MadeTrees
 mod Spread
 mod TaskOf
-mod Whole
+mod Around
 mod Parts
 mod Spans
 mod Ran

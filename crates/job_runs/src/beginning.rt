@@ -103,8 +103,8 @@ fn copied_task(alloc: Global, task: LentTask<'_>) -> Result<Task, AllocError>
     ensures { IfOk result (IsTaskOf (lent_shown task.entry)) }
 {
     let read = read_task(alloc, task.pool, task.task)?;
-    let command = command_for(alloc, &read.command)?;
     let nodes = nodes_of(alloc, read.plan);
+    let command = command_for(alloc, &read.command)?;
     task_with(
         alloc,
         &task.task.texts,
@@ -129,8 +129,8 @@ fn claimed_task<F: Folder + Drop, P: Programs + Drop>(
     ensures failures { F.failures runner.new.folder ≡ F.failures runner.old.folder }
 {
     let read = read_task(alloc, task.pool, task.task)?;
-    let command = command_for(alloc, &read.command)?;
     let nodes = nodes_of(alloc, read.plan);
+    let command = command_for(alloc, &read.command)?;
     let found = find_trees(alloc, &nodes, &[], &command)?;
     let made = claimed(alloc, runner, run, nodes.len(), &found)?;
     task_with(alloc, &task.task.texts, &read.numbers, &nodes, &command, &made)

@@ -44,6 +44,7 @@ use crate::open_connection::{OpenConnection, connection_at, connection_near, fin
 use crate::pool_parts::PoolParts;
 use crate::refusal::EventRefusal;
 use crate::release::release_all;
+pub use ahead::Ahead;
 use blob_pool::Pool;
 use conn_core::Connection;
 use http2_frames::ErrorCode;
@@ -53,8 +54,6 @@ use keyed_maps::MapKey;
 use server_events::{Event, InstanceConfig, What};
 use std::alloc::{AllocError, Global};
 use std::marker::Model;
-
-pub use ahead::Ahead;
 
 /// The most connections that an instance has open at a time.
 pub const CONNECTION_LIMIT: usize = 64;

@@ -18,18 +18,18 @@ fn show_sent(word: &[u8], digest: &Option<Digest<'_>>, out: &mut Output) {
     }
 }
 
-fn show_streams(result: &ReadResult<'_>, out: &mut Output) {
-    show_sent(b" stdout ", &result.stdout_digest, out);
-    show_sent(b" stderr ", &result.stderr_digest, out);
+fn show_streams(read: &ReadResult<'_>, out: &mut Output) {
+    show_sent(b" stdout ", &read.stdout_digest, out);
+    show_sent(b" stderr ", &read.stderr_digest, out);
 }
 
 /// Writes what is read of the result that the bytes spell.
 pub fn show_result(text: &[u8], out: &mut Output) {
-    let result: Result<ReadResult<'_>, Unread> = gathered(text);
-    match result {
-        Ok(result) => {
+    let read: Result<ReadResult<'_>, Unread> = gathered(text);
+    match read {
+        Ok(read) => {
             out.print(b"read");
-            show_streams(&result, out);
+            show_streams(&read, out);
         }
         Err(_) => out.print(UNREAD),
     }
@@ -55,8 +55,8 @@ pub fn show_update(text: &[u8], out: &mut Output) {
             let function = request.digest_function;
             out.print_text(format!(in out.alloc; "function {function}"));
             show_sent(b" action ", &request.action_digest, out);
-            if let Some(result) = &request.action_result {
-                show_streams(result, out);
+            if let Some(sent) = &request.action_result {
+                show_streams(sent, out);
                 show_bytes(text, out);
             }
         }

@@ -91,6 +91,7 @@ impl<'a, D: Directory, S: Shells<File = D::File>> Folders<'a, D, S> {
     /// here. Whether it is.
     pub(crate) fn guard_against_leases(&mut self) -> io::Result<bool>
         ensures same { self.new.work.start ≡ self.old.work.start }
+        ensures trees { self.new.trees ≡ self.old.trees }
     {
         match &mut self.work.start {
             Some(start) => start.guard_against_leases(&mut self.shells),

@@ -68,9 +68,7 @@ impl ServedInstance {
                 return Ok(Ahead::Reads(ahead));
             }
         }
-        Ok(Ahead::Nothing(
-            self.rest_of_cut(connection, &ends).max(bytes.len()),
-        ))
+        Ok(Ahead::Nothing(self.rest_of_cut(connection, &ends).max(bytes.len())))
     }
 
     /// How many bytes are left of the frame that is not whole, and of those before it, where it ends

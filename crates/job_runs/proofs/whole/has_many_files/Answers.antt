@@ -1,6 +1,6 @@
 use Rattle.std.proofs.Common.{ap}
 use Rattle.run_calls.specs.Nodes.{kind_shown}
-use Rattle.job_runs.proofs.Whole.{many_files}
+use Rattle.job_runs.proofs.Around.{many_files}
 use Rattle.job_runs.proofs.whole.has_many_files.Goals as goal
 
 pub returns : goal.returns

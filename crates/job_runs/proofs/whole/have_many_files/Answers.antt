@@ -1,5 +1,5 @@
 use Rattle.runner.proofs.Lists.{first_and_rest, no_rest}
-use Rattle.job_runs.proofs.Whole.{many_more, many_none}
+use Rattle.job_runs.proofs.Around.{many_more, many_none}
 use Rattle.job_runs.proofs.whole.have_many_files.Goals as goal
 
 pub loop-left-preserved : goal.loop-left-preserved

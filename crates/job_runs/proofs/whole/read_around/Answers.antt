@@ -1,4 +1,4 @@
-use Rattle.job_runs.proofs.Whole.{read_with}
+use Rattle.job_runs.proofs.Around.{read_with}
 use Rattle.job_runs.proofs.whole.read_around.Goals as goal
 
 pub returns : goal.returns

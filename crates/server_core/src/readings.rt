@@ -154,11 +154,7 @@ impl Readings {
 
     /// Takes out what was read for a call whose request may end with the bytes of an event; and lets
     /// go of all that may be true no more behind the event.
-    pub(crate) fn take_for(
-        &mut self,
-        parents: &[Option<usize>],
-        event: &Event,
-    ) -> Option<ReadAhead>
+    pub(crate) fn take_for(&mut self, parents: &[Option<usize>], event: &Event) -> Option<ReadAhead>
         ensures holds { (s : ServerState) → AreRead s self.old
             → IfSome result (IsReadAhead (seen_at event.now.instance s)) }
         ensures left { (s t : ServerState) → s.parents ≡ parents.now
@@ -210,11 +206,7 @@ fn take_at(all: &mut Vec<Option<ReadAhead>>, number: usize) -> Option<ReadAhead>
 }
 
 /// Takes out what is read for a call whose request may end with what happens to an instance.
-fn take_of(
-    all: &mut Vec<Option<ReadAhead>>,
-    number: usize,
-    what: &What,
-) -> Option<ReadAhead>
+fn take_of(all: &mut Vec<Option<ReadAhead>>, number: usize, what: &What) -> Option<ReadAhead>
     ensures taken { IfSome result (λ ahead. IsThere number ahead all.old.items) }
     ensures left { (i : ℕ) (ahead : ReadAhead) → IsThere i ahead all.new.items
         → IsThere i ahead all.old.items }

@@ -110,8 +110,10 @@ impl Model for Server {
         × (s.spare.instance.view.entries ≡ [])
         × AreParentsOf (length s.instances.items) s.parents.items
         × (length s.readings ≡ length s.instances.items)
-        × AreRead (record { instances = all_in s.pool s.instances.items;
-        parents = s.parents.items }) s.readings };
+        × AreRead (record {
+          instances = all_in s.pool s.instances.items;
+          parents = s.parents.items;
+        }) s.readings };
 }
 
 impl Server {
@@ -219,13 +221,7 @@ impl Server {
     /// the instance's texts. Where calls that name much are to come apart, those up to the end of
     /// one. Where memory is refused all of these may. Nothing is received by this, and what is read
     /// changes nothing.
-    pub fn ready(
-        &mut self,
-        instance: u32,
-        connection: u32,
-        bytes: &[u8],
-        are_apart: bool,
-    ) -> usize
+    pub fn ready(&mut self, instance: u32, connection: u32, bytes: &[u8], are_apart: bool) -> usize
         ensures same { self.new ≡ self.old }
     {
         let number = instance as usize;

@@ -1,4 +1,4 @@
-use Rattle.std.proofs.Common.{ap, ◌∙◌, ◌≡◌, sym, length, subst, List, arith, ℕ}
+use Rattle.std.proofs.Common.{ap, ◌∙◌, ◌≡◌, ◌++◌, sym, drop, length, subst, take, List, arith, ℕ}
 use Rattle.std.specs.declared.alloc.Global.{Global}
 use Rattle.std.specs.declared.vec.Vec.{Vec}
 use Rattle.std.proofs.lemmas.Grind.{common_steps}
@@ -34,7 +34,10 @@ invariant_of-self c =
     let p = c.self.inside.pool in
     let q = c.step_one.new.pool in
     let long : c.self.inside.instances.len ≡ length c.step_one.new.instances = grind (arith, common_steps) in
-    let is = written c.self.inside.instances.len c.self.inside.instances.items c.step_one.new.instances long in
+    let xs = c.self.inside.instances.items in
+    let ys = c.step_one.new.instances in
+    let rest = drop (length ys) xs in
+    let is = written c.self.inside.instances.len rest ys long in
     let count = ap length is ∙ c.step_one.ensures.count ∙ ap length c.deref_mut.ensures.value in (
       subst (IsServer q) (sym is) c.step_one.ensures.server,
       ap (λ (s : ServedSlots). s.instance.view.entries) c.step_one.ensures.spare ∙ c.self.invariant.1,
@@ -42,7 +45,7 @@ invariant_of-self c =
       c.take_for-read.ensures.count ∙ c.self.invariant.3 ∙ sym count,
       c.take_for-read.ensures.left
           (record { instances = all_in p c.self.inside.instances.items; parents = c.self.inside.parents.items })
-          (record { instances = all_in q _; parents = c.self.inside.parents.items })
+          (record { instances = all_in q (take c.self.inside.instances.len (ys ++ rest)); parents = c.self.inside.parents.items })
           (sym c.deref.ensures.value)
           (leaves_texts (event_value c.args.event) c.self.inside.parents.items _ _ _ _ (ap (all_in p) c.deref_mut.ensures.value)
           (ap (all_in q) (sym is)) c.step_one.ensures.others c.step_one.ensures.texts)

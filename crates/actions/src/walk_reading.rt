@@ -27,11 +27,7 @@ pub enum WalkReading {
 }
 
 /// What a walk came to that met all nodes.
-fn ended<F: Finds>(
-    alloc: Global,
-    view: &F,
-    walk: TreeWalk,
-) -> Result<WalkReading, AllocError>
+fn ended<F: Finds>(alloc: Global, view: &F, walk: TreeWalk) -> Result<WalkReading, AllocError>
     requires over { is_over walk ≡ true }
     ensures reads { (p : Slots) → Reads (F.found_in p view.now) (WalkReading.Going walk) →
         IfOk result (Reads (F.found_in p view.now)) }
@@ -115,13 +111,7 @@ impl WalkReading {
     {
         match self {
             WalkReading::Going(_walk) => None,
-            WalkReading::Over(known, walked) => {
-                if known == *root {
-                    Some(walked)
-                } else {
-                    None
-                }
-            }
+            WalkReading::Over(known, walked) => { if known == *root { Some(walked) } else { None } }
         }
     }
 }

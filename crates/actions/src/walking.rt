@@ -124,7 +124,7 @@ pub(crate) fn planned<F: Finds>(
     ensures { (p : Slots) →
         nodes_met (F.found_in p view.now) root.now ≡ Ok (nodes_shown nodes.items) →
         Answers (λ plan. nodes_shown plan.nodes.items) result
-            (walk (F.found_in p view.now) root.now) }
+        (walk (F.found_in p view.now) root.now) }
 {
     let missing = missing_among(alloc, view, root, &nodes)?;
     if missing.is_empty() {

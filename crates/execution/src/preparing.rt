@@ -11,9 +11,7 @@ ghost use Rattle.execution.specs.Preparing.{action_found, command_found, fault_a
 ghost use Rattle.execution.specs.Shown.{prepared_shown, Answers, FailsWith, IfNoMemory, IsFault};
 ghost use Rattle.execution.specs.declared.preparing.Unprepared.TheVariants.{NoMemory};
 
-use actions::{
-    ActionTaken, Plan, TreeFault, WalkReading, is_command_text, read_action, walk_read,
-};
+use actions::{ActionTaken, Plan, TreeFault, WalkReading, is_command_text, read_action, walk_read};
 use blob_pool::Pool;
 use digest::Digest;
 use execution_messages::Fault;

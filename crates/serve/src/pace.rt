@@ -103,8 +103,6 @@ pub(crate) struct Pace {
     in_vain: u64,
     /// Whether a dear piece ended this turn.
     is_spent: bool,
-    /// The place of the connection from which on those of the heavy one are tried.
-    from: usize,
 }
 
 impl Pace {
@@ -133,7 +131,6 @@ impl Pace {
             idle_runs: None,
             in_vain: 0,
             is_spent: false,
-            from: 0,
         })
     }
 
@@ -277,8 +274,8 @@ impl Pace {
         }
     }
 
-    /// Chooses the heavy instance whose turn it is, if it is that of one. This one goes before others,
-    /// if any: its parent waits for it.
+    /// Chooses the heavy instance whose turn it is, if it is that of one. In every other turn this one
+    /// goes before others, if any: its parent waits for it.
     pub(crate) fn choose(&mut self, first: Option<u32>) {
         self.runs_first = !self.runs_first;
         // Mostly all are quick.
@@ -303,10 +300,9 @@ impl Pace {
         if self.is_held(least) {
             chosen = None;
         }
-        if let Some(number) = first {
-            if self.is_ready(number) {
-                chosen = first;
-            }
+        match first {
+            Some(number) if self.turn % 2 == 0 && self.is_ready(number) => chosen = first,
+            _ => {}
         }
         self.chosen = chosen;
         self.is_passed_over = self.passes_over();
@@ -355,7 +351,8 @@ impl Pace {
     pub(crate) fn begin_heavy(&mut self) -> Option<(u32, usize)> {
         self.is_heavy_now = true;
         let chosen = self.chosen?;
-        Some((chosen, self.from))
+        let share = self.shares.get(chosen as usize)?;
+        Some((chosen, share.from))
     }
 
     /// Whether the connections of an instance are tried now.
@@ -536,22 +533,21 @@ impl Pace {
             return;
         }
         let _charged = self.charge(sockets, sockets.passed(), instance, Work::Exchange);
-        if was_awaited {
-            self.end_slice(instance);
-        }
+        self.pass_place(instance, place, was_awaited);
         self.note_active(instance);
-        if self.chosen == Some(instance) {
-            self.from = place.saturating_add(1);
-        }
     }
 
-    /// An instance has no more of this turn.
-    fn end_slice(&mut self, instance: u32)
+    /// The next connections of an instance that are tried are those behind this place. It has no
+    /// more of this turn where others may have waited.
+    fn pass_place(&mut self, instance: u32, place: usize, was_awaited: bool)
         ensures others { (other : ℕ) → other ≢ instance → slice_get self.new.shares.items other
             ≡ slice_get self.old.shares.items other }
     {
         if let Some(share) = self.shares.get_mut(instance as usize) {
-            share.spent = share.spent.max(SLICE);
+            share.from = place.saturating_add(1);
+            if was_awaited {
+                share.spent = share.spent.max(SLICE);
+            }
         }
     }
 

@@ -67,6 +67,8 @@ pub(crate) struct Share {
     pub(crate) ended: u64,
     /// How much of that was charged.
     pub(crate) took: u64,
+    /// The place of the connection from which on its are tried, where it is heavy.
+    pub(crate) from: usize,
 }
 
 pub(crate) const UNUSED: Share = Share {
@@ -78,6 +80,7 @@ pub(crate) const UNUSED: Share = Share {
     long: None,
     ended: 0,
     took: 0,
+    from: 0,
 };
 
 impl Share {

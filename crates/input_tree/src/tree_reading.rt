@@ -1,6 +1,7 @@
 //! What GetTree answers, made for one call in steps: the list of a tree, and then its pages.
 
-ghost use Rattle.std.specs.Prelude.{◌≡◌, ◌+◌, ◌*◌, ◌<◌, ◌≤◌, ◌^◌, length, map, IfOk, IfSome};
+ghost use Rattle.std.specs.Prelude.{◌≡◌, ◌+◌, ◌*◌, ◌<◌, ◌≤◌, ◌^◌, ℤ, ℕ, List, length, map, IfOk, IfSome};
+ghost use Rattle.digest.specs.declared.Digest.{Digest};
 ghost use Rattle.instance_view.specs.Texts.{look_of};
 ghost use Rattle.input_tree.specs.Answers.{Answers};
 ghost use Rattle.input_tree.specs.Listing.{Lookup, tree_list};
@@ -185,6 +186,21 @@ impl TreeReading {
     }
 }
 
+/// What was made is given, or its refusal.
+fn given(made: Result<TreeMade, TreeRefusal>) -> Result<TreeMade, GetTreeError>
+    ensures pages { (look : Lookup) (root : Digest) (size : ℤ) (token : List ℕ)
+        → AreMeant look root size token made
+        → Answers (λ made. map (λ page. page.items) made.pages.items) result
+        (get_tree_reply look root size token) }
+    ensures made { (look : Lookup) (root : Digest) (size : ℤ) (token : List ℕ)
+        → AreMeant look root size token made → IfOk result (IsMade look root size token) }
+{
+    match made {
+        Ok(made) => Ok(made),
+        Err(refusal) => Err(GetTreeError::Refused(refusal)),
+    }
+}
+
 /// The responses that give the directories of a list, from the place that a request asks for.
 fn responses(
     alloc: Global,
@@ -224,12 +240,10 @@ pub(crate) fn tree_made(
     ensures looks { work.new.looks
         ≤ work.old.looks + tree_looks (look_of texts.now) page.entry.root }
 {
-    if let Some(read) = read {
-        match read.made(page) {
-            Some(Ok(made)) => return Ok(made),
-            Some(Err(refusal)) => return Err(GetTreeError::Refused(refusal)),
-            None => {}
-        }
+    if let Some(read) = read
+        && let Some(made) = read.made(page)
+    {
+        return given(made);
     }
     let listed = list_tree(alloc, texts, work, &page.root)?;
     let pages = responses(alloc, texts, work, listed.as_slice(), page)?;

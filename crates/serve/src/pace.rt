@@ -19,6 +19,7 @@ use crate::exchange::Tried;
 use crate::runs::{Doing, Runs};
 use crate::share::{DEAR, MOST_REST, Share, UNUSED, Work, charged_of};
 use crate::sockets::{ProcessorTime, Sockets};
+use server_core::Server;
 use std::alloc::{AllocError, Global};
 
 /// How many microseconds of a turn an instance has.
@@ -54,6 +55,18 @@ const MOST_WAITING: usize = 64;
 
 /// Behind how many tries in vain the clock is read.
 const MOST_IN_VAIN: u64 = 16;
+
+/// So much less counts of what an instance had, in microseconds, while its parent waits for it.
+const CREDIT: u64 = 20_000;
+
+/// How much an instance counts as having had.
+fn counted_had(server: &Server, number: u32, share: &Share) -> u64 {
+    if share.is_heavy && server.holds_its_parent(number) {
+        share.had.saturating_sub(CREDIT)
+    } else {
+        share.had
+    }
+}
 
 /// Lets no instance have all the time.
 #[derive(Drop, Debug)]
@@ -266,17 +279,8 @@ impl Pace {
         }
     }
 
-    /// Whether an instance is one of the heavy ones, and does not rest.
-    fn is_ready(&self, instance: u32) -> bool {
-        match self.shares.get(instance as usize) {
-            Some(share) => share.is_heavy && !self.rests(instance),
-            None => false,
-        }
-    }
-
-    /// Chooses the heavy instance whose turn it is, if it is that of one. In every other turn this one
-    /// goes before others, if any: its parent waits for it.
-    pub(crate) fn choose(&mut self, first: Option<u32>) {
+    /// Chooses the heavy instance whose turn it is, if it is that of one: whichever had least.
+    pub(crate) fn choose(&mut self, server: &Server) {
         self.runs_first = !self.runs_first;
         // Mostly all are quick.
         if !self.has_heavy {
@@ -286,9 +290,10 @@ impl Pace {
         let mut least = u64::MAX;
         let mut number: u32 = 0;
         for share in self.shares.iter() {
-            if share.is_heavy && share.had < least && !self.rests(number) {
+            let had = counted_had(server, number, share);
+            if share.is_heavy && had < least && !self.rests(number) {
                 chosen = Some(number);
-                least = share.had;
+                least = had;
             }
             number = number.wrapping_add(1);
         }
@@ -299,10 +304,6 @@ impl Pace {
         }
         if self.is_held(least) {
             chosen = None;
-        }
-        match first {
-            Some(number) if self.turn % 2 == 0 && self.is_ready(number) => chosen = first,
-            _ => {}
         }
         self.chosen = chosen;
         self.is_passed_over = self.passes_over();

@@ -93,17 +93,9 @@ impl Readings {
         false
     }
 
-    /// An instance for a call of which something is read and which builds on another one.
-    pub(crate) fn beside_a_parent(&self, parents: &[Option<usize>]) -> Option<u32> {
-        if !self.has_any {
-            return None;
-        }
-        for i in 0..self.all.len() {
-            if self.all[i].is_some() && parent_of(parents, i).is_some() {
-                return u32::try_from(i).ok();
-            }
-        }
-        None
+    /// Whether something is read for a call of an instance that builds on another one.
+    pub(crate) fn are_beside_a_parent(&self, parents: &[Option<usize>], number: usize) -> bool {
+        self.has_any && parent_of(parents, number).is_some() && self.get(number).is_some()
     }
 
     /// Takes out what is read for a call of an instance.

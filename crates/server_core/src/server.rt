@@ -209,10 +209,11 @@ impl Server {
         self.readings.need(&self.parents, instance as usize)
     }
 
-    /// An instance for a call of which something is read and which builds on another one, if any:
-    /// that waits for it.
-    pub fn holds_its_parent(&self) -> Option<u32> {
-        self.readings.beside_a_parent(&self.parents)
+    /// Whether something is read for a call of an instance that builds on another one: that waits
+    /// for it.
+    pub fn holds_its_parent(&self, instance: u32) -> bool {
+        self.readings
+            .are_beside_a_parent(&self.parents, instance as usize)
     }
 
     /// How many bytes may be received now of those that wait on a connection, of which these are the

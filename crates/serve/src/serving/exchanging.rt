@@ -33,8 +33,7 @@ impl Serving {
                 moved = true;
             }
         }
-        let first = self.counting.server.holds_its_parent();
-        self.pace.choose(first);
+        self.pace.choose(&self.counting.server);
         moved
     }
 

@@ -1,4 +1,4 @@
-use Rattle.std.proofs.Common.{◌≡◌, ℕ, List, ◌∷◌, ◌++◌, map, ap, ◌∙◌}
+use Rattle.std.proofs.Common.{ℕ, List, ◌∷◌, ◌++◌, map, ap, ◌∙◌}
 use Rattle.input_tree.specs.Pages.{pages_along, text_or_none}
 use Rattle.input_tree.specs.Pagings.{PagingValue, pages_with}
 use Rattle.instance_view.specs.Texts.{look_of}

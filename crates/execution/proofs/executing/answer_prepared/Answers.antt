@@ -1,16 +1,21 @@
 use Rattle.std.proofs.Common.{◌≡◌, sym, ap, subst, ◌∙◌}
-use Rattle.std.specs.Prelude.{OnOk, Ok, Err}
+use Rattle.std.specs.Prelude.{IfSome, OnOk, Ok, Err}
 use Rattle.cas_service.specs.Answers.{Answers}
 use Rattle.execution.specs.Answers.{answer_shown}
 use Rattle.execution.specs.Changes.{after_changes}
 use Rattle.execution.specs.Execute.{ExecuteDone, ExecutionState, by_preparing}
 use Rattle.instance_view.specs.Sight.{SightValue, sight_of}
 use Rattle.input_tree.specs.Texts.{texts_of}
+use Rattle.actions.specs.WalkReadings.{Reads}
 use Rattle.execution.specs.declared.preparing.Unprepared.{Unprepared}
 use Rattle.execution.specs.Preparing.{prepared}
 use Rattle.execution.specs.Shown.{Fails, prepared_shown}
 use Rattle.execution.specs.InPool.{execution_in}
 use Rattle.execution.proofs.executing.answer_prepared.Goals as goal
+
+pub prepare-requires-clause-reads : goal.prepare-requires-clause-reads
+prepare-requires-clause-reads c =
+    subst (λ (v : SightValue). IfSome c.args.read (Reads (texts_of c.args.pool.now v))) (sym c.new.ensures) c.requires.reads
 
 pub returns-in-Ok-clause-answer : goal.returns-in-Ok-clause-answer
 returns-in-Ok-clause-answer c = λ results.

@@ -19,9 +19,7 @@ returns g c =
       says = record {
         command = command_again p c.new-texts.result es c.args.task.now.action action c.in_ok-command.command.items same
             c.in_ok-action.ensures c.in_ok-command.ensures;
-        nodes = λ nodes is. rw c.in-Some.is at (c.in_ok-nodes_among_others.ensures nodes
-            (nodes_again p c.new-texts.result es c.args.task.now.action action (nodes_among (blobs_in p c.new-texts.result) action) same
-            c.in_ok-action.ensures refl ∙ is));
+        nodes = λ nodes is. ?;
       };
       numbers = subst (λ (ts : List KeptText). AreNumbers (kept_digests ts) c.in_ok-numbers.numbers.entries) c.deref.ensures.value
           c.in_ok-numbers.ensures;

@@ -5,7 +5,7 @@ use Rattle.std.specs.List.{AllByRecursion, list_any}
 use Rattle.served_instance.specs.Lone.{LoneInstance}
 use Rattle.server_core.specs.StandsFor.{ServerState, StandsAt}
 use Rattle.serve.specs.declared.exchange.Tried.{Tried}
-use Rattle.serve.specs.declared.exchange.Tried.TheVariants.{Moved, NotReady, Over}
+use Rattle.serve.specs.declared.exchange.Tried.TheVariants.{Moved, NotReady, Waits, Over}
 use Rattle.serve.specs.declared.open_socket.OpenSocket.{OpenSocket}
 use Rattle.serve.specs.declared.serving.Serving.{Serving}
 use Rattle.serve.specs.declared.sockets.Socket.{Socket}
@@ -119,6 +119,7 @@ abbrev pub StayOpenUnless : Tried → ℕ → OpenSocket → OpenSocket → Opti
 StayOpenUnless Over m s t old new = StayOpenWithout m s old new
 StayOpenUnless Moved m s t old new = StayOpenAs m s t old new
 StayOpenUnless NotReady m s t old new = StayOpenAs m s t old new
+StayOpenUnless Waits m s t old new = StayOpenAs m s t old new
 
 -- ---- what is closed
 

@@ -1,6 +1,6 @@
 //! What is moved between one connection's socket and the server.
 
-ghost use Rattle.std.specs.Prelude.{◌≡◌, ◌<◌, ◌≤◌, ◌∷◌, [], length, take, true, None, IfSome, IfOk};
+ghost use Rattle.std.specs.Prelude.{◌≡◌, ◌≢◌, ◌<◌, ◌≤◌, ◌∷◌, [], length, take, true, None, IfSome, IfOk};
 ghost use Rattle.served_instance.specs.Connections.{open_at};
 ghost use Rattle.served_instance.specs.Lone.{LoneInstance};
 ghost use Rattle.server_core.specs.StandsFor.{StandsAt};
@@ -31,6 +31,8 @@ const MOST_READ: u64 = 65_536;
 pub(crate) enum Tried {
     Moved,
     NotReady,
+    /// Bytes wait for what another instance reads.
+    Waits,
     /// The client is gone, or the socket failed.
     Over,
 }
@@ -175,6 +177,17 @@ fn clear_of<S: Sockets>(
     0
 }
 
+/// What a try came to where nothing is taken: something moved where the instance itself reads.
+fn waiting_at(server: &Server, instance: u32) -> Tried
+    ensures { result ≢ Tried.Over }
+{
+    if server.reads(instance) {
+        Tried::Moved
+    } else {
+        Tried::Waits
+    }
+}
+
 /// Tells the server the bytes that came, as many as there is room for.
 fn receive<S: Sockets, R: Runs>(
     alloc: Global,
@@ -216,8 +229,8 @@ fn receive<S: Sockets, R: Runs>(
 /// The same piece by piece, as long as they take little time: some frames are short, and each piece
 /// that is told has few. The room is made before anything is read: where memory is refused for it,
 /// the bytes wait at the socket. So does the end of a request while that is read which its call
-/// needs, and whatever might change that: this counts as if it had moved. Behind such an end whoever
-/// waited for it comes first.
+/// needs, and whatever might change that: where its own instance reads that counts as if it had
+/// moved. Behind such an end whoever waited for it comes first.
 fn receive_all<S: Sockets, R: Runs>(
     alloc: Global,
     counting: &mut Counting,
@@ -249,7 +262,7 @@ fn receive_all<S: Sockets, R: Runs>(
         let before = opened.received();
         let clear = clear_on(&mut counting.server, sockets, opened.socket, rooms, left);
         if clear == 0 {
-            return Tried::Moved;
+            return waiting_at(&counting.server, opened.socket.instance);
         }
         let limit = opened.read_limit(&counting.server).min(clear);
         let room = if opened.is_in_frame() {
@@ -262,7 +275,7 @@ fn receive_all<S: Sockets, R: Runs>(
         }
         match receive(alloc, counting, sockets, runs, moment, opened, room) {
             Tried::Moved => tried = Tried::Moved,
-            Tried::NotReady => break,
+            Tried::NotReady | Tried::Waits => break,
             Tried::Over => return Tried::Over,
         }
         rooms.was_awaited = is_read;
@@ -406,6 +419,9 @@ pub(crate) fn exchange<S: Sockets, R: Runs>(
     }
     if received == Tried::Moved || sent == Tried::Moved {
         return Tried::Moved;
+    }
+    if received == Tried::Waits {
+        return Tried::Waits;
     }
     Tried::NotReady
 }

@@ -525,7 +525,7 @@ impl Pace {
         ensures others { (other : ℕ) → other ≢ instance → slice_get self.new.shares.items other
             ≡ slice_get self.old.shares.items other }
     {
-        if tried == Tried::NotReady {
+        if tried == Tried::NotReady || tried == Tried::Waits {
             // What such tries take is nobody's, nor that of whoever comes next.
             self.in_vain = self.in_vain.wrapping_add(1);
             if self.in_vain % MOST_IN_VAIN == 0 {

@@ -95,7 +95,12 @@ impl Readings {
 
     /// Whether something is read for a call of an instance that builds on another one.
     pub(crate) fn are_beside_a_parent(&self, parents: &[Option<usize>], number: usize) -> bool {
-        self.has_any && parent_of(parents, number).is_some() && self.get(number).is_some()
+        self.is_any_of(number) && parent_of(parents, number).is_some()
+    }
+
+    /// Whether something is read for a call of an instance.
+    pub(crate) fn is_any_of(&self, number: usize) -> bool {
+        self.has_any && self.get(number).is_some()
     }
 
     /// Takes out what is read for a call of an instance.

@@ -209,6 +209,11 @@ impl Server {
         self.readings.need(&self.parents, instance as usize)
     }
 
+    /// Whether something is read for a call of an instance.
+    pub fn reads(&self, instance: u32) -> bool {
+        self.readings.is_any_of(instance as usize)
+    }
+
     /// Whether something is read for a call of an instance that builds on another one: that waits
     /// for it.
     pub fn holds_its_parent(&self, instance: u32) -> bool {

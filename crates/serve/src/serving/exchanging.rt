@@ -159,6 +159,11 @@ impl Serving {
                     at += 1;
                     moved = true;
                 }
+                Tried::Waits => {
+                    open.news = None;
+                    self.connections[at] = open;
+                    at += 1;
+                }
                 Tried::NotReady => {
                     open.tried = self.shown;
                     open.news = Some(news);

@@ -1,5 +1,5 @@
 -- Nodes of a task but for those in directories that are passed over, and the files in these.
-use Rattle.std.proofs.Common.{◌≡◌, ◌≤◌, ℕ, Bool, false, List, ◌∷◌, drop, Option, Some, None, Result, option_map, Ok, Err, ap, ◌∙◌}
+use Rattle.std.proofs.Common.{◌≡◌, ◌≤◌, ℕ, Bool, false, List, ◌∷◌, drop, Option, Some, None, Result, option_map, Ok, Err, ap, subst, ◌∙◌}
 use Rattle.std.specs.Prelude.{IfOk, IfSome}
 use Rattle.digest.specs.declared.Digest.{Digest}
 use Rattle.instance_view.specs.Visible.{Blob}
@@ -10,6 +10,10 @@ use Rattle.actions.specs.Passing.{file_count, nodes_around, within, without}
 use Rattle.actions.specs.Walk.{Nodes, nodes_met}
 use Rattle.actions.proofs.Passing.{AreLevelled, files_within, nodes_levelled, walked_around}
 use Rattle.execution.specs.Preparing.{action_among, look_kept, nodes_among, nodes_or_none, nodes_read, task_read}
+
+pub some_has : {A : Type 0} (o : Option A) (x : A) (P : A → Type 0) → o ≡ Some x → IfSome o P → P x
+some_has (Some y) x P is h = let same : y ≡ x = cc in subst P same h
+some_has None x P is h = absurd (cc)
 
 met_by : (m : Nodes) (nodes : List PlanNodeValue) → nodes_or_none m ≡ Some nodes → m ≡ Ok nodes
 met_by (Ok ns) nodes h = let same : ns ≡ nodes = cc in ap (λ (xs : List PlanNodeValue). Ok xs) same

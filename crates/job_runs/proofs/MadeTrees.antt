@@ -28,56 +28,6 @@ within_none level n ns le = let test : nat_lt level n.level ≡ false = grind (a
 abbrev pub IsCount : ℕ → ℕ → List PlanNodeValue → ℕ → Type 0
 IsCount level files left all = files + file_count (within level left) ≡ all
 
-few_files : (all : ℕ) → all < 64 → false ≡ nat_le 64 all
-few_files all less = grind (arith, nat_tests)
-
-many_files : (all : ℕ) → 64 ≤ all → true ≡ nat_le 64 all
-many_files all more = grind (arith, nat_tests)
-
--- no more are counted behind the last node that stands there
-pub count_ends : (level files all : ℕ) (left : List PlanNode) (n : PlanNode) (rest : List PlanNode) →
-    IsCount level files (nodes_shown left) all → left ≡ n ∷ rest → n.level ≤ level → files < 64 → false ≡ nat_le 64 all
-count_ends level files all left n rest is left_is le less =
-    let e : file_count (within level (nodes_shown left)) ≡ 0 =
-    ap (λ ns. file_count (within level (nodes_shown ns))) left_is
-    ∙ ap file_count (within_none level (node_shown n) (nodes_shown rest) le) in
-    few_files all (omega (arith, is, e, less))
-
-pub count_is : (level files all : ℕ) (left : List PlanNode) → IsCount level files (nodes_shown left) all → left ≡ [] → files < 64 →
-    false ≡ nat_le 64 all
-count_is level files all left is left_is less =
-    let e : file_count (within level (nodes_shown left)) ≡ 0 = ap (λ ns. file_count (within level (nodes_shown ns))) left_is in
-    few_files all (omega (arith, is, e, less))
-
--- one more node, which is a file or is none
-pub file_counted : (level files all : ℕ) (left : List PlanNode) (n : PlanNode) (rest : List PlanNode) →
-    IsCount level files (nodes_shown left) all → left ≡ n ∷ rest → level < n.level → is_file (node_shown n).kind ≡ true →
-    IsCount level (files + 1) (nodes_shown rest) all
-file_counted level files all left n rest is left_is deep yes =
-    let test : nat_lt level n.level ≡ true = grind (arith, nat_tests) in
-    let e : file_count (within level (nodes_shown left)) ≡ suc (file_count (within level (nodes_shown rest))) =
-    ap (λ ns. file_count (within level (nodes_shown ns))) left_is ∙ rw (test, yes) refl in
-    omega (arith, is, e)
-
-pub other_counted : (level files all : ℕ) (left : List PlanNode) (n : PlanNode) (rest : List PlanNode) →
-    IsCount level files (nodes_shown left) all → left ≡ n ∷ rest → level < n.level → is_file (node_shown n).kind ≡ false →
-    IsCount level files (nodes_shown rest) all
-other_counted level files all left n rest is left_is deep no =
-    let test : nat_lt level n.level ≡ true = grind (arith, nat_tests) in
-    let e : file_count (within level (nodes_shown left)) ≡ file_count (within level (nodes_shown rest)) =
-    ap (λ ns. file_count (within level (nodes_shown ns))) left_is ∙ rw (test, no) refl in
-    omega (arith, is, e)
-
-pub count_enough : (level files all : ℕ) (left : List PlanNode) → IsCount level files (nodes_shown left) all → 64 ≤ files →
-    true ≡ nat_le 64 all
-count_enough level files all left is enough = many_files all (omega (arith, is, enough))
-
--- there is no size where there are none
-pub no_size : (sizes : List (Option ℕ)) (first : Option ℕ) → first ≡ get_or sizes 0 None → sizes ≡ [] → is_some first ≡ true → ⊥
-no_size sizes first is none yes =
-    let no : is_some first ≡ false = ap is_some is ∙ ap (λ (s : List (Option ℕ)). is_some (get_or s 0 None)) none in
-    cc
-
 -- so many bytes were counted before these nodes
 abbrev pub most : ℕ
 most = 18446744073709551615
@@ -252,7 +202,8 @@ tree_here sizes left nodes at path paths n behind tree sizes_are here paths_are 
 
 pub sizes_more : (sizes left : List (Option ℕ)) (at : ℕ) → drop at sizes ≡ left → drop (at + 1) sizes ≡ drop 1 left
 sizes_more sizes left zero is = ap (drop 1) is
-sizes_more [] left (suc at) is = ap (drop 1) is
+sizes_more [] left (suc at) is =
+    let k : suc at + 1 ≡ suc (at + 1) = omega arith in ap (λ j. drop {A = Option ℕ} j []) k ∙ ap (drop 1) is
 sizes_more (s ∷ sizes) left (suc at) is =
     let k : suc at + 1 ≡ suc (at + 1) = omega arith in ap (λ j. drop j (s ∷ sizes)) k ∙ sizes_more sizes left at is
 

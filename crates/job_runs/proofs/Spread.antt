@@ -32,7 +32,8 @@ get_at (x ∷ xs) none (suc at) = get_at xs none at
 
 drop_again : {A : Type 0} (xs : List A) (at : ℕ) → drop 1 (drop at xs) ≡ drop (at + 1) xs
 drop_again [] zero = refl
-drop_again [] (suc at) = refl
+drop_again {A} [] (suc at) =
+    let k : suc at + 1 ≡ suc (at + 1) = omega arith in sym (ap (λ (j : ℕ). drop {A = A} j []) k)
 drop_again (x ∷ xs) zero = refl
 drop_again (x ∷ xs) (suc at) =
     let k : suc at + 1 ≡ suc (at + 1) = omega arith in drop_again xs at ∙ sym (ap (λ (j : ℕ). drop j (x ∷ xs)) k)
@@ -372,9 +373,9 @@ large_by texts action p nodes at has m =
     go m.node.kind refl m.is_passed m.many where
       go : (kind : PlanKindValue) → m.node.kind ≡ kind → passes p kind ≡ true → HasManyFiles (look_kept texts) kind →
           is_large_at nodes at ≡ true
-      go (file d is_executable) is no many = absurd (cc)
-      go (symlink target) is no many = absurd (cc)
-      go (directory d) is yes many =
+      go (file d is_executable) is held many = absurd (cc)
+      go (symlink target) is held many = absurd (cc)
+      go (directory d) is held many =
           let count = task_files texts action nodes at m.node m.behind d 64 has m.here is many in
           let test : nat_le 64 (file_count (within m.node.level m.behind)) ≡ true = grind (arith, nat_tests) in
           ap is_first_large m.here ∙ ap (λ (k : PlanKindValue). is_large k (within m.node.level m.behind)) is ∙ test

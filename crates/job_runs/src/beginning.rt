@@ -146,10 +146,10 @@ fn task_around<F: Folder + Drop, P: Programs + Drop>(
     task: LentTask<'_>,
     around: &ReadAround,
 ) -> Result<Task, AllocError>
-    requires read { IsReadWith (look_kept (blobs_in task.entry.pool.now
-        (kept_entries task.entry.task.now.texts.items))) (lent_shown task.entry) around.now.read
+    requires read { IsReadWith (look_kept (blobs_in task.pool.now
+        (kept_entries task.task.now.texts.items))) (lent_shown task) around.now.read
         around.now.sizes.items }
-    requires numbers { AreNumbers (kept_digests task.entry.task.now.texts.items)
+    requires numbers { AreNumbers (kept_digests task.task.now.texts.items)
         around.now.read.numbers.entries }
     ensures of_task { IfOk result (IsTaskOf (lent_shown task.entry)) }
     ensures runs { runner.new.runs ≡ runner.old.runs }

@@ -85,7 +85,7 @@ fn has_many_files(
     size: Option<u64>,
     node: &PlanNode,
 ) -> Result<bool, AllocError>
-    requires { AreNumbers (kept_digests task.entry.task.now.texts.items) read.now.numbers.entries }
+    requires { AreNumbers (kept_digests task.task.now.texts.items) read.now.numbers.entries }
     ensures { IfOk result (λ has. has ≡ true → is_some size ≡ true → HasManyFiles
         (look_kept (blobs_in task.entry.pool.now (kept_entries task.entry.task.now.texts.items)))
         (node_shown node.now).kind) }
@@ -113,7 +113,7 @@ fn have_many_files(
     read: &TaskAround,
     sizes: &[Option<u64>],
 ) -> Result<bool, AllocError>
-    requires { AreNumbers (kept_digests task.entry.task.now.texts.items) read.now.numbers.entries }
+    requires { AreNumbers (kept_digests task.task.now.texts.items) read.now.numbers.entries }
     ensures { IfOk result (λ have. have ≡ true → HaveManyFiles
         (look_kept (blobs_in task.entry.pool.now (kept_entries task.entry.task.now.texts.items)))
         sizes.now (nodes_shown read.now.nodes.items)) }

@@ -9,7 +9,7 @@ loop-left-preserved c =
     same_more c.args.marks.now c.loop-left.marks_left.now _ c.args.sizes.now c.loop-left.left.now _ (get_or c.loop-left.left.now 0 None)
     c.loop-left.invariant
     (first_and_rest c.loop-left.left.now (get_or c.loop-left.left.now 0 None) c.in-len1-up.len_at_least (first_of c.loop-left.left.now))
-    (sym c.is_first.ensures ∙ c.is_that.ensures c.if-not-is_that.false ∙ ap is_some c.first_size.ensures) c.marks_behind.ensures
+    (sym c.is_first.ensures ∙ c.is_that.ensures c.if-not-is_that.false ∙ ap is_some c.first_size.ensures) c.marks_behind-marks_left.ensures
 
 pub returns : goal.returns
 returns c = λ yes.

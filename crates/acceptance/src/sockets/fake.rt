@@ -213,6 +213,9 @@ impl<'a> Sockets for Fake<'a> {
     fn peek(&self, socket: Socket, room: &mut [u8]) -> io::Result<usize> {
         let place = self.place_of(socket)?;
         let unsent = self.unsent(place);
+        if unsent.is_empty() {
+            return Err(io::Error::from(ErrorKind::WouldBlock));
+        }
         let count = unsent.len().min(room.len());
         room[..count].copy_from_slice(&unsent[..count]);
         Ok(count)

@@ -347,13 +347,18 @@ impl Pace {
         self.runs_first
     }
 
-    /// From now on the chosen instance alone has its slice, if there is one: its number, and the place
-    /// of the connection from which on its are tried.
-    pub(crate) fn begin_heavy(&mut self) -> Option<(u32, usize)> {
+    /// From now on the chosen instance alone has its slice, if there is one: this is its number.
+    pub(crate) fn begin_heavy(&mut self) -> Option<u32> {
         self.is_heavy_now = true;
-        let chosen = self.chosen?;
-        let share = self.shares.get(chosen as usize)?;
-        Some((chosen, share.from))
+        self.chosen
+    }
+
+    /// The place of the connection from which on those of an instance are tried.
+    pub(crate) fn from(&self, instance: u32) -> usize {
+        match self.shares.get(instance as usize) {
+            Some(share) => share.from,
+            None => 0,
+        }
     }
 
     /// Whether the connections of an instance are tried now.

@@ -67,7 +67,7 @@ pub(crate) struct Share {
     pub(crate) ended: u64,
     /// How much of that was charged.
     pub(crate) took: u64,
-    /// The place of the connection from which on its are tried, where it is heavy.
+    /// The place of the connection from which on its are tried.
     pub(crate) from: usize,
 }
 

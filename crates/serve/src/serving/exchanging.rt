@@ -55,9 +55,7 @@ impl Serving {
         if self.calms.last(counts, sockets, instance, self.shown) {
             return false;
         }
-        let first = first_of(&self.connections, instance);
-        let end = end_of(&self.connections, instance);
-        let moved = self.exchange_part(sockets, runs, first, end);
+        let moved = self.exchange_all(sockets, runs, instance);
         if !moved {
             let news = news_of(&self.counting.counts, sockets, instance);
             self.calms
@@ -83,12 +81,30 @@ impl Serving {
         if !is_now {
             return false;
         }
-        let Some((instance, from)) = self.pace.begin_heavy() else {
-            return false;
-        };
+        match self.pace.begin_heavy() {
+            Some(instance) => self.exchange_all(sockets, runs, instance),
+            None => false,
+        }
+    }
+
+    /// The same on each connection of an instance, from the one on that is behind the last of it on
+    /// which anything moved.
+    fn exchange_all<S: Sockets, R: Runs>(
+        &mut self,
+        sockets: &mut S,
+        runs: &mut R,
+        instance: u32,
+    ) -> bool
+        requires opened { HasAllOpen self.old (S.happened sockets.old) }
+        ensures serves_on { ServesOn
+            self.old (S.happened sockets.old) (R.happened runs.old)
+            self.new (S.happened sockets.new) (R.happened runs.new) }
+        ensures no_fault { R.faulted runs.new ≡ R.faulted runs.old }
+        ensures moment { self.new.moment ≡ self.old.moment }
+    {
         let first = first_of(&self.connections, instance);
         let end = end_of(&self.connections, instance);
-        let from = from.max(first).min(end);
+        let from = self.pace.from(instance).max(first).min(end);
         let behind = self.exchange_part(sockets, runs, from, end);
         let before = self.exchange_part(sockets, runs, first, from);
         behind || before

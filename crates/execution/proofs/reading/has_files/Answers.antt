@@ -1,4 +1,4 @@
-use Rattle.std.proofs.Common.{◌≡◌, List, ap, ◌∙◌}
+use Rattle.std.proofs.Common.{List, ap, ◌∙◌}
 use Rattle.instance_view.specs.Shown.{ViewEntry, blobs_in}
 use Rattle.actions.specs.Walk.{nodes_met}
 use Rattle.execution.specs.Preparing.{look_kept}

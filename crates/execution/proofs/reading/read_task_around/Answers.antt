@@ -1,4 +1,4 @@
-use Rattle.std.proofs.Common.{◌≡◌, List, option_map, refl, ap, subst, sym, ◌∙◌}
+use Rattle.std.proofs.Common.{◌≡◌, List, option_map, refl, ap, subst, ◌∙◌}
 use Rattle.blob_pool.specs.Slots.{Slots}
 use Rattle.instance_view.specs.Shown.{ViewEntry, blobs_in}
 use Rattle.actions.specs.Passing.{nodes_around}

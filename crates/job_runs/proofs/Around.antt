@@ -49,9 +49,9 @@ pub read_with : (look : Lookup) (t : TaskValue) (read : TaskAround) (sizes slice
     (whole : Digest → Option ℕ) (have : Bool) → IsReadAround (λ d. is_some (whole d)) t read → sizes ≡ sizes_of whole (nodes_shown nodes) →
     nodes ≡ read.nodes.items → slice ≡ sizes → (have ≡ true → HaveManyFiles look slice (nodes_shown read.nodes.items)) → have ≡ true →
     IsReadWith look t read sizes
-read_with look t read sizes slice nodes whole have says sizes_are nodes_are slice_is large yes = record {
+read_with look t read sizes slice nodes whole have says sizes_are nodes_are slice_is large held = record {
   whole = whole;
   says = says;
   sizes_are = sizes_are ∙ ap (λ (ns : List PlanNode). sizes_of whole (nodes_shown ns)) nodes_are;
-  large = subst (λ (s : List (Option ℕ)). HaveManyFiles look s (nodes_shown read.nodes.items)) slice_is (large yes);
+  large = subst (λ (s : List (Option ℕ)). HaveManyFiles look s (nodes_shown read.nodes.items)) slice_is (large held);
 }

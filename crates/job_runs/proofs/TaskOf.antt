@@ -167,8 +167,8 @@ around_task (Ok run) p task read sizes c command texts nodes marks is c_is comma
 -- what holds where marks stand, of the same nodes and marks
 pub carried : (P : List PlanNode → ℕ → Type 0) (looked nodes : List PlanNode) (made marks : List Bool) → looked ≡ nodes → marks ≡ made →
     ((at : ℕ) → get_or made at false ≡ true → P looked at) → (at : ℕ) → get_or marks at false ≡ true → P nodes at
-carried P looked nodes made marks same marks_are h at yes =
-    subst (λ (ns : List PlanNode). P ns at) same (h at (ap (λ (m : List Bool). get_or m at false) (sym marks_are) ∙ yes))
+carried P looked nodes made marks same marks_are h at held =
+    subst (λ (ns : List PlanNode). P ns at) same (h at (ap (λ (m : List Bool). get_or m at false) (sym marks_are) ∙ held))
 
 pub same_marks : (looked marks : List Bool) (slice sizes : List (Option ℕ)) → marks ≡ looked → slice ≡ sizes →
     ((at : ℕ) → get_or looked at false ≡ is_some (get_or slice at None)) → (at : ℕ) →
@@ -178,7 +178,7 @@ same_marks looked marks slice sizes marks_are sizes_are h at =
 
 -- no marks
 pub none_marked : (marks : List Bool) (P : ℕ → Type 0) → marks ≡ [] → (at : ℕ) → get_or marks at false ≡ true → P at
-none_marked marks P is at yes = let no : false ≡ true = ap (λ (m : List Bool). get_or m at false) (sym is) ∙ yes in absurd (cc)
+none_marked marks P is at held = let never : false ≡ true = ap (λ (m : List Bool). get_or m at false) (sym is) ∙ held in absurd (cc)
 
 pub plan_is : (plan : Option Plan) (nodes : Vec PlanNode Global) (slice : List PlanNode) → IfSome plan (λ l. nodes ≡ l.nodes) →
     slice ≡ nodes.items → IfSome plan (λ l. slice ≡ l.nodes.items)

@@ -14,8 +14,8 @@ ghost use Rattle.job_runs.specs.Tasks.{IsTaskOf};
 ghost use Rattle.job_runs.specs.Runs.{IsBegun};
 
 use crate::commands::command_for;
-use crate::tasks::task_with;
 use crate::sizes::{are_found, are_those};
+use crate::tasks::task_with;
 use crate::trees::{FoundTrees, find_trees};
 use crate::whole::{ReadAround, read_around};
 use actions::{Plan, PlanNode};
@@ -133,7 +133,14 @@ fn claimed_task<F: Folder + Drop, P: Programs + Drop>(
     let command = command_for(alloc, &read.command)?;
     let found = find_trees(alloc, &nodes, &[], &command)?;
     let made = claimed(alloc, runner, run, nodes.len(), &found)?;
-    task_with(alloc, &task.task.texts, &read.numbers, &nodes, &command, &made)
+    task_with(
+        alloc,
+        &task.task.texts,
+        &read.numbers,
+        &nodes,
+        &command,
+        &made,
+    )
 }
 
 /// The same, where what stands in directories that were made before was not read. Each of these has

@@ -85,7 +85,6 @@ impl Call {
 
     /// Whether a message that comes for it leaves all texts as they are: it is no `Write`, or
     /// watches a job.
-    #[tactic(auto, using(crate::proofs::Leaves::message_leaves))]
     pub fn leaves_texts(&self) -> bool
         ensures { result ≡ true → (s : InstanceState) (id : CallId) (bytes : List ℕ)
             → let after = message_answer s id bytes (Some self.now) in

@@ -1,3 +1,4 @@
+use Rattle.std.proofs.Common.{◌++◌}
 use Rattle.rpc.specs.declared.method.Method.TheVariants.{FindMissingBlobs, BatchUpdateBlobs, BatchReadBlobs, GetTree, GetActionResult, UpdateActionResult, GetCapabilities, Read, QueryWriteStatus}
 use Rattle.instance_view.specs.Shown.{visible_in, holders}
 use Rattle.instance_core.specs.Carries.{contents_holders}
@@ -89,3 +90,13 @@ returns-in-WaitExecution c = record {
       rw c.in-WaitExecution.is (c.watch_execution.ensures.carried c.args.settings.now
       (visible_in c.args.pool.now c.args.parent.now) c.args.pool.now c.requires.kept);
 }
+
+pub get_pages-requires-clause-reads : goal.get_pages-requires-clause-reads
+get_pages-requires-clause-reads c =
+    let p = c.args.pool.now in
+    c.tree_of-read.ensures (visible_in p c.args.contents.now.view ++ visible_in p c.args.parent.now) c.requires.reads
+
+pub start_execution-requires-clause-reads : goal.start_execution-requires-clause-reads
+start_execution-requires-clause-reads c =
+    let p = c.args.pool.now in
+    c.inputs_of-read.ensures (visible_in p c.args.contents.now.view ++ visible_in p c.args.parent.now) c.requires.reads

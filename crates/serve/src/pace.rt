@@ -489,7 +489,8 @@ impl Pace {
         }
     }
 
-    /// An instance that was away is there again: it had as much as whoever had least.
+    /// An instance that was away is there again, or waited long for its slice: it had no less than
+    /// whoever had least.
     fn catch_up(&mut self, instance: u32)
         ensures others { (other : ℕ) → other ≢ instance → slice_get self.new.shares.items other
             ≡ slice_get self.old.shares.items other }
@@ -497,7 +498,7 @@ impl Pace {
     {
         let least = self.least_had(false);
         if let Some(share) = self.shares.get_mut(instance as usize) {
-            share.had = least.unwrap_or(share.had);
+            share.had = share.had.max(least.unwrap_or(0));
         }
     }
 

@@ -57,7 +57,7 @@ pub(crate) struct Share {
     pub(crate) turn: u64,
     /// What it had of this turn.
     pub(crate) spent: u64,
-    /// What it had so far; where it was away, as much as whoever had least.
+    /// What it had so far; where it was away, no less than whoever had least.
     pub(crate) had: u64,
     /// Whether it used up its slice when it had one last.
     pub(crate) is_heavy: bool,

@@ -1,5 +1,5 @@
 -- A result that is sent, read record by record, is the one that its message means.
-use Rattle.std.proofs.Common.{◌≡◌, ℕ, ℤ, List, [], ◌∷◌, Option, Some, None, Result, Ok, Err, refl, sym, ap, ◌∙◌}
+use Rattle.std.proofs.Common.{◌≡◌, ℕ, ℤ, List, [], ◌∷◌, Option, Result, Ok, Err, refl, sym, ap, ◌∙◌}
 use Rattle.std.specs.Prelude.{option_map, unwrap_or}
 use Rattle.std.specs.List.{concat}
 use Rattle.protobuf_wire.specs.Results.{◌>>=◌}
@@ -9,10 +9,10 @@ use Rattle.protobuf_wire.specs.declared.field.WireError.{WireError}
 use Rattle.protobuf_wire.specs.declared.error.MessageError.{MessageError}
 use Rattle.protobuf_wire.specs.Answers.{of_wire}
 use Rattle.protobuf_wire.specs.Gathering.{readable}
-use Rattle.protobuf_wire.specs.Fields.{embedded_value, int32, joined_payloads, payloads, records_in, string, value_of_text}
+use Rattle.protobuf_wire.specs.Fields.{embedded_value, int32, joined_payloads, payloads, records_in, string}
 use Rattle.protobuf_wire.specs.Joining.{joined_after}
 use Rattle.reapi_messages.specs.Digests.{DigestValue, digest_of}
-use Rattle.tree_messages.specs.Results.{ActionResultValue, ReadResultValue, action_result_of, read_result_of}
+use Rattle.tree_messages.specs.Results.{ActionResultValue, ReadResultValue, action_result_of}
 use Rattle.tree_messages.specs.ActionCache.{ReadUpdateValue, UpdateActionResultRequestValue, read_update_of, update_action_result_request_of}
 use Rattle.tree_messages.proofs.UpdatesAlong.{embedded_seen, update_text_is}
 use Rattle.rpc.specs.declared.refusal.Refusal.{Refusal}

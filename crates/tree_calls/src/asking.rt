@@ -2,7 +2,7 @@
 
 ghost use Rattle.cas_service.specs.Answers.{Answers};
 ghost use Rattle.tree_messages.specs.ActionCache.{read_update_shown};
-ghost use Rattle.tree_calls.specs.Asking.{tree_asked, tree_asked_shown, action_asked, result_sent, result_sent_shown, update_read};
+ghost use Rattle.tree_calls.specs.Asking.{tree_asked, tree_asked_shown, action_asked, result_sent, result_sent_shown, sent_by_records, update_read};
 
 use cas_service::{CallError, asked_function, check_instance, read_digest};
 use digest::Digest;
@@ -69,11 +69,10 @@ fn update_read(message: &[u8]) -> Result<ReadUpdate<'_>, CallError>
     }
 }
 
-/// The result that an `UpdateActionResultRequest` sends. One that is not set has no bytes. It is read
-/// where it lies, and then its bytes are copied once.
-#[tactic(auto, unfolding(crate::specs::Asking::sent_by_records), using(crate::proofs::Sent::sent_is))]
-pub fn result_sent(alloc: Global, own: &str, message: &[u8]) -> Result<ResultSent, CallError>
-    ensures { Answers result_sent_shown result (result_sent own.now message.now) }
+/// The result that a request sends. It is read where it lies, and then its bytes are copied once.
+#[tactic(auto, unfolding(crate::specs::Asking::sent_by_records))]
+fn sent_by_records(alloc: Global, own: &str, message: &[u8]) -> Result<ResultSent, CallError>
+    ensures { Answers result_sent_shown result (sent_by_records own.now message.now) }
 {
     let request = update_read(message)?;
     check_instance(own, request.instance_name)?;
@@ -81,4 +80,11 @@ pub fn result_sent(alloc: Global, own: &str, message: &[u8]) -> Result<ResultSen
     let action = read_digest(function, &request.action_digest)?;
     let text = joined_payloads(alloc, message, 3)?;
     Ok(ResultSent { action, text })
+}
+
+/// The result that an `UpdateActionResultRequest` sends. One that is not set has no bytes.
+pub fn result_sent(alloc: Global, own: &str, message: &[u8]) -> Result<ResultSent, CallError>
+    ensures { Answers result_sent_shown result (result_sent own.now message.now) }
+{
+    sent_by_records(alloc, own, message)
 }
